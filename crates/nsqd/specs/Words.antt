@@ -1,0 +1,8 @@
+-- What the words of the command line ask for.
+use Rattle.std.specs.Prelude.{◌≡◌, ℕ, List, length, codes, String, string_bytes}
+use Rattle.std.specs.List.{HoldsAt}
+use Rattle.std.specs.declared.alloc.Global.{Global}
+
+-- there is one word behind the program's name, and it is `--version`
+abbrev pub AskForVersion : List (String Global) → Type 0
+AskForVersion words = (length words ≡ 2) × HoldsAt (λ word. string_bytes word ≡ codes "--version") words 1

@@ -1,0 +1,65 @@
+-- What follows from the definitions, each the contract of a function that does nothing.
+use Rattle.std.specs.Prelude.{◌≡◌, ℕ, ◌+◌, ◌≤◌, Bool, List, [], ◌∷◌, ◌++◌}
+use Rattle.nsq_outside.specs.declared.journal.End.{End}
+use Rattle.v2_frame.specs.declared.command.Command.{Command}
+use Rattle.v2_frame.specs.declared.fault.Limits.{Limits}
+use Rattle.v2_frame.specs.declared.fault.Rest.{Rest}
+use Rattle.v2_frame.specs.declared.fault.Rest.TheVariants.{Unfinished}
+use Rattle.v2_frame.specs.Script.{magic, Row, IsScript}
+use Rattle.history.specs.declared.entry.Ended.{Ended}
+use Rattle.history.specs.declared.entry.Ended.TheVariants.{EndOfInput}
+use Rattle.history.specs.declared.entry.Entry.{Entry}
+use Rattle.history.specs.State.{State}
+use Rattle.history.specs.Legal.{History, Legal, stops_of, faults_of, faults_apart}
+use Rattle.history.specs.Talk.{IsOpen, IsTalk, bytes_of, commands_of}
+use Rattle.history.specs.Follow.{IsFront, Follows}
+use Rattle.history.specs.Data.{Kept, IsNames, CanKeep, names_text}
+
+-- two legal histories, the second from where the first leads, are one
+abbrev pub HistoriesJoin : Type 0
+HistoriesJoin = (s t u : State) (h k : History) → Legal s h t → Legal t k u → Legal s (h ++ k) u
+
+-- each front of a legal history is legal
+abbrev pub FrontsAreLegal : Type 0
+FrontsAreLegal = (s u : State) (h k : History) → Legal s (h ++ k) u → (t : State) × Legal s h t
+
+-- the daemon stops once at most
+abbrev pub StopsAreOnce : Type 0
+StopsAreOnce = (s u : State) (h : History) → Legal s h u → stops_of h ≤ 1
+
+-- of the disk faults of a legal history at most one stands just before a Stop
+abbrev pub FaultsAreApartButOne : Type 0
+FaultsAreApartButOne = (s u : State) (h : History) → Legal s h u → (faults_apart h ≤ faults_of h) × (faults_of h ≤ faults_apart h + 1)
+
+-- moments never fall: that of an entry lies between those of the states at the ends
+abbrev pub MomentsNeverFall : Type 0
+MomentsNeverFall = (s u : State) (h k : History) (e : Entry × End) → Legal s ((h ++ e ∷ []) ++ k) u → (s.moment ≤ e.0.at) × (e.0.at ≤ u.moment)
+
+-- no commands, or commands that stand in a row behind the magic at the front of the bytes
+pub data StandAtFront (limits : Limits) (bytes : List ℕ) (commands : List Command) : Type 0 where
+  no_commands : commands ≡ [] → StandAtFront limits bytes commands
+  in_row : (after left : List ℕ) → bytes ≡ magic ++ after → Row limits after commands left → StandAtFront limits bytes commands
+
+-- the commands of a conversation are the first ones of its bytes, in order
+abbrev pub TalksTakeCommandsInOrder : Type 0
+TalksTakeCommandsInOrder = (limits : Limits) (stopped : Bool) (pieces : List (List ℕ)) (own : History) (out : List ℕ) (ended : Ended)
+    → IsTalk limits stopped pieces own out ended → StandAtFront limits (bytes_of pieces) (commands_of own)
+
+-- a conversation that came to the end of the input took all commands of its bytes, and no fault stands in them
+abbrev pub FinishedTalksTakeAll : Type 0
+FinishedTalksTakeAll = (limits : Limits) (stopped : Bool) (pieces : List (List ℕ)) (own : History) (out : List ℕ)
+    → IsTalk limits stopped pieces own out EndOfInput → IsScript limits (bytes_of pieces) (commands_of own) Unfinished
+
+-- a conversation goes on where its entries took the first commands of the script of its bytes, each before the next piece was read
+abbrev pub TalksFollowScripts : Type 0
+TalksFollowScripts = (limits : Limits) (pieces : List (List ℕ)) (h : History) (cs commands : List Command) (rest : Rest)
+    → Follows limits pieces h cs → IsScript limits (bytes_of pieces) commands rest → IsFront cs commands → IsOpen limits pieces h
+
+-- and only there
+abbrev pub OnlyTalksFollowScripts : Type 0
+OnlyTalksFollowScripts = (limits : Limits) (pieces : List (List ℕ)) (h : History) (commands : List Command) (rest : Rest)
+    → IsOpen limits pieces h → IsScript limits (bytes_of pieces) commands rest → Follows limits pieces h (commands_of h) × IsFront (commands_of h) commands
+
+-- the text that is written for what can be kept keeps it
+abbrev pub NamesReadBack : Type 0
+NamesReadBack = (kept : Kept) → CanKeep kept → IsNames (names_text kept) kept

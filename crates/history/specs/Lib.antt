@@ -1,0 +1,12 @@
+pub mod State
+pub mod Reply
+pub mod Step
+pub mod Legal
+pub mod Talk
+pub mod Data
+pub mod Reads
+pub mod Once
+pub mod Found
+pub mod Laws
+pub mod PlainTalk
+pub mod Follow

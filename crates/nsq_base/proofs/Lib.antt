@@ -1,0 +1,6 @@
+pub mod Addresses
+pub mod AsciiTexts
+pub mod Defaults
+pub mod IdDigits
+pub mod PutBy
+pub mod TopicsOf

@@ -1,0 +1,11 @@
+pub mod Address
+pub mod Decimal
+pub mod MsgId
+pub mod Name
+pub mod NameBuffers
+pub mod Names
+pub mod Options
+pub mod Places
+pub mod Text
+pub mod Time
+pub mod Within

@@ -1,0 +1,66 @@
+ghost use Rattle.std.specs.Prelude.{◌≡◌, ◌↔◌, IsTrue, SomeIff};
+ghost use Rattle.nsq_base.specs.Name.{IsEphemeral, IsName};
+
+use crate::name::Name;
+use std::marker::Model;
+
+/// A channel's name: 1 or more bytes of `.a-zA-Z0-9_-`, then perhaps `#ephemeral`, together at most 64 bytes (nsq.io, TCP
+/// Protocol Spec). Names are compared as byte strings.
+#[derive(Clone, Copy, Debug, PartialEq, Eq, PartialOrd, Ord, Hash)]
+pub struct Chan {
+    name: Name,
+}
+
+impl Model for Chan {
+    ghost use Rattle.std.specs.Prelude.{ℕ, List};
+    ghost use Rattle.nsq_base.specs.Name.{IsName};
+
+    ghost Value = { List ℕ };
+
+    ghost view = { λ a. a.name };
+
+    ghost invariant = { λ a. IsName a.name };
+
+    ghost inverse = { λ bytes. record { name = bytes } };
+}
+
+impl Chan {
+    /// The name that the bytes are, or None exactly where they are none.
+    pub fn read(bytes: &[u8]) -> Option<Chan>
+        ensures { SomeIff result (IsName bytes.now) bytes.now }
+    {
+        let name = Name::read(bytes)?;
+        Some(Chan { name })
+    }
+
+    /// The name's bytes.
+    pub fn bytes(&self) -> &[u8]
+        ensures value { result.now ≡ self.now }
+        ensures is_name { IsName result.now }
+    {
+        self.name.bytes()
+    }
+
+    /// The name as text: its bytes are all ASCII.
+    pub fn as_str(&self) -> &str
+        ensures { result.now ≡ self.now }
+    {
+        self.name.as_str()
+    }
+
+    /// Whether the name ends with `#ephemeral`. A channel is never written to disk where this holds of its name or of its
+    /// topic's.
+    pub fn ephemeral(&self) -> bool
+        ensures { IsTrue result ↔ IsEphemeral self.now }
+    {
+        self.name.ephemeral()
+    }
+
+    // The name, without its being a channel's.
+    pub(crate) fn name(&self) -> Name
+        ensures value { result ≡ self.now }
+        ensures is_name { IsName result }
+    {
+        self.name
+    }
+}

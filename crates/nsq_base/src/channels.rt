@@ -1,0 +1,100 @@
+ghost use Rattle.std.specs.Prelude.{◌≡◌, [], ◌∷◌, IfOk, OnOk, OnErr, nat_eq};
+ghost use Rattle.std.specs.Cmp.{partial_equiv_from_equiv};
+ghost use Rattle.std.specs.Cmp.Lexicographic.{pointwise, lists_equiv, nat_list_eq_equiv};
+ghost use Rattle.nsq_base.specs.Name.{IsName};
+ghost use Rattle.nsq_base.specs.Names.{insert_name, AreChannels};
+ghost use Rattle.nsq_base.specs.Places.{IsPlaceOf};
+
+use crate::{Chan, Memory};
+use std::alloc::Global;
+use std::marker::Model;
+
+/// The channels of one topic, each once, in byte order.
+#[derive(Debug, Drop)]
+pub struct Channels {
+    items: Vec<Chan>,
+}
+
+impl Model for Channels {
+    ghost use Rattle.std.specs.Prelude.{ℕ, List};
+    ghost use Rattle.nsq_base.specs.Names.{AreChannels};
+
+    ghost Value = { List (List ℕ) };
+
+    ghost view = { λ c. c.items.items };
+
+    ghost invariant = { λ c. AreChannels c.items.items };
+}
+
+impl Channels {
+    /// No channels. Takes no memory.
+    pub fn new(alloc: Global) -> Channels
+        ensures value { result ≡ [] }
+        ensures in_order { AreChannels result }
+    {
+        Channels {
+            items: Vec::new(alloc),
+        }
+    }
+
+    /// One channel.
+    pub fn of(alloc: Global, channel: Chan) -> Result<Channels, Memory>
+        ensures value { IfOk result (λ channels. channels ≡ channel ∷ []) }
+        ensures in_order { IfOk result AreChannels }
+    {
+        let mut channels = Channels::new(alloc);
+        channels.insert(channel)?;
+        Ok(channels)
+    }
+
+    /// The channels, in byte order.
+    pub fn as_slice(&self) -> &[Chan]
+        ensures value { result.now ≡ self.now }
+        ensures in_order { AreChannels self.now }
+    {
+        self.items.as_slice()
+    }
+
+    /// Puts a channel in, if it isn't there yet. After Memory the channels are as before.
+    pub fn insert(&mut self, channel: Chan) -> Result<(), Memory>
+        ensures ok { OnOk result (self.new ≡ insert_name self.old channel) }
+        ensures err { OnErr result (self.new ≡ self.old) }
+        ensures in_order { AreChannels self.new }
+    {
+        if let Err(i) = self.place_of(&channel) {
+            self.items.insert(i, channel)?;
+        }
+        Ok(())
+    }
+
+    /// A copy.
+    pub fn copy(&self, alloc: Global) -> Result<Channels, Memory>
+        ensures { IfOk result (λ channels. channels ≡ self.now) }
+    {
+        let items = Vec::from_slice(alloc, &self.items)?;
+        Ok(Channels { items })
+    }
+
+    // Where a channel stands, or else where it belongs.
+    fn place_of(&self, channel: &Chan) -> Result<usize, usize>
+        ensures place { IsPlaceOf (λ n. n) self.now channel.now result }
+        ensures named { IsName channel.now }
+    {
+        self.items
+            .binary_search_by_key(&channel.name(), |kept| kept.name())
+    }
+}
+
+impl PartialEq for Channels {
+    ghost eq = { pointwise (pointwise nat_eq) };
+
+    ghost laws = { partial_equiv_from_equiv (lists_equiv nat_list_eq_equiv) };
+
+    fn eq(&self, other: &Channels) -> bool {
+        self.items == other.items
+    }
+}
+
+impl Eq for Channels {
+    ghost laws = { lists_equiv nat_list_eq_equiv };
+}

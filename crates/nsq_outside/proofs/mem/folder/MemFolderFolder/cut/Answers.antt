@@ -1,0 +1,8 @@
+use Rattle.nsq_outside.specs.MemFiles.{files_of}
+use Rattle.nsq_outside.proofs.Outcomes.{cut_outcome}
+use Rattle.nsq_outside.proofs.mem.folder.MemFolderFolder.cut.Goals as goal
+
+pub returns-clause-bytes : goal.returns-clause-bytes
+returns-clause-bytes c = λ _.
+    rw (c.answer.ensures.files, ← c.refuses.ensures.files)
+    (cut_outcome (files_of c.refuses.new.self.files) (files_of c.cut-outcome.new.files) c.args.name.now c.args.to c.cut-outcome.result c.answer.result c.answer.ensures.done c.answer.ensures.failed c.cut-outcome.ensures.ok c.cut-outcome.ensures.err)

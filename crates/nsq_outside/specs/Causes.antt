@@ -1,0 +1,13 @@
+-- What a count of faults shows: it never falls, and a call that answers a fault has raised it.
+use Rattle.std.specs.Prelude.{ℕ, ◌+◌, ◌-◌, ◌^◌, ◌≤◌, min}
+use Rattle.nsq_outside.specs.declared.did.Did.{Did}
+use Rattle.nsq_outside.specs.declared.did.Did.TheVariants.{Done, Failed}
+
+-- the count rose, or stands at the end of its type
+abbrev pub Rose : ℕ → ℕ → Type 0
+Rose before now = min (before + 1) (2 ^ 64 - 1) ≤ now
+
+-- Failed comes only with a rise
+abbrev pub DidFails : ℕ → ℕ → Did → Type 0
+DidFails before now Failed = Rose before now
+DidFails before now Done = Unit {0}

@@ -1,0 +1,24 @@
+-- Which calls of a folder in memory fail.
+use Rattle.std.specs.Prelude.{ℕ, ◌≡◌, ◌≤◌, ◌<◌, ◌⊎◌}
+use Rattle.nsq_outside.specs.declared.mem.folder_calls.FolderCall.{FolderCall}
+use Rattle.nsq_outside.specs.declared.mem.folder_calls.FolderCall.TheVariants.{List as ListCalls, Len, ReadAt, WriteAt, Cut, Sync, SyncNames, Rename, Remove, Any}
+use Rattle.nsq_outside.specs.declared.mem.folder_calls.Failing.{Failing}
+use Rattle.nsq_outside.specs.declared.mem.folder_calls.Counts.{Counts}
+
+-- how many calls of a method were made
+abbrev pub count_of : Counts → FolderCall → ℕ
+count_of counts ListCalls = counts.list
+count_of counts Len = counts.len
+count_of counts ReadAt = counts.read_at
+count_of counts WriteAt = counts.write_at
+count_of counts Cut = counts.cut
+count_of counts Sync = counts.sync
+count_of counts SyncNames = counts.sync_names
+count_of counts Rename = counts.rename
+count_of counts Remove = counts.remove
+count_of counts Any = counts.any
+
+-- the next call of a method is among these calls that fail
+abbrev pub Hits : Counts → FolderCall → Failing → Type 0
+Hits counts call failing =
+    ((failing.call ≡ call) ⊎ (failing.call ≡ Any)) × (failing.from ≤ count_of counts failing.call) × (count_of counts failing.call < failing.to)

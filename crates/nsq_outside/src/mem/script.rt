@@ -1,0 +1,75 @@
+ghost use Rattle.std.specs.Prelude.{◌≡◌, ◌+◌, ◌-◌, ◌<◌, ◌≤◌, ◌++◌, [], length, take, drop, IfSome, IfNone};
+ghost use Rattle.nsq_outside.specs.Pieces.{bytes_to_come, front_bytes};
+
+use nsq_base::Body;
+use std::collections::VecDeque;
+
+/// What a read of a connection in memory finds.
+#[derive(Drop, Debug)]
+pub enum Piece {
+    /// These bytes. No byte comes after a piece of 0 bytes.
+    Bytes(Body),
+    /// Nothing has come yet.
+    Nothing,
+}
+
+/// The pieces to come, and how many bytes of the first one were taken.
+#[derive(Drop)]
+pub struct Script {
+    pieces: VecDeque<Piece>,
+    offset: usize,
+    ghost inside: { offset ≤ length (front_bytes pieces.items) - 1 },
+}
+
+impl Script {
+    ghost use Rattle.nsq_outside.specs.Scripts.{to_come, IsMark};
+
+    pub fn new(pieces: Vec<Piece>) -> Script
+        ensures { to_come result ≡ bytes_to_come pieces.items }
+    {
+        Script {
+            pieces: VecDeque::from(pieces),
+            offset: 0,
+        }
+    }
+
+    /// The rest of the first piece, none of 0 bytes at the end; or `None` at a mark.
+    pub fn front(&self) -> Option<&[u8]>
+        ensures mark { IfNone result (IsMark self.now) }
+        ensures rest { IfSome result (λ rest. rest.now ≡ drop self.now.offset (front_bytes self.now.pieces.items)) }
+        ensures end { IfSome result (λ rest. length rest.now ≡ 0 → to_come self.now ≡ []) }
+    {
+        match self.pieces.front() {
+            None => Some(&[]),
+            Some(Piece::Nothing) => None,
+            Some(Piece::Bytes(body)) => Some(&body.bytes()[self.offset..]),
+        }
+    }
+
+    /// Passes the mark that stands first.
+    pub fn pass_mark(&mut self)
+        requires { IsMark self.old }
+        ensures passed { self.new.pieces.items ≡ drop 1 self.old.pieces.items }
+        ensures bytes { to_come self.new ≡ to_come self.old }
+    {
+        let _ = self.pieces.pop_front();
+    }
+
+    /// Passes bytes of the first piece.
+    pub fn pass(&mut self, count: usize)
+        requires some { 0 < count }
+        requires there { self.old.offset + count ≤ length (front_bytes self.old.pieces.items) }
+        ensures { to_come self.old ≡ take count (drop self.old.offset (front_bytes self.old.pieces.items)) ++ to_come self.new }
+    {
+        let left = match self.pieces.front() {
+            Some(Piece::Bytes(body)) => body.bytes().len() - self.offset,
+            _ => 0,
+        };
+        if count < left {
+            self.offset += count;
+        } else {
+            let _ = self.pieces.pop_front();
+            self.offset = 0;
+        }
+    }
+}

@@ -1,0 +1,79 @@
+use crate::{Clock, Did, DirFolder, Folder, Length, Listing, ReadAt, SysClock};
+use std::fs;
+use std::test::Fail;
+
+const FILES: &str = "nsq_outside_files";
+
+const NAMES: &str = "nsq_outside_names";
+
+const ERRORS: &str = "nsq_outside_errors";
+
+#[test]
+fn files_of_a_folder(rt: HostRuntime) -> Result<(), Fail> {
+    let alloc = rt.alloc();
+    let _ = fs::remove_dir_all(&rt, FILES);
+    fs::create_dir(&rt, FILES)?;
+    let mut folder = DirFolder::new(rt.clone()?, alloc, FILES)?;
+    assert_eq!(rt; folder.len("a"), Length::Absent);
+    assert_eq!(rt; folder.write_at("a", 2, b"one"), Did::Done);
+    assert_eq!(rt; folder.len("a"), Length::Is(5));
+    let mut into = [b'-'; 6];
+    assert_eq!(rt; folder.read_at("a", 1, &mut into), ReadAt::Got(4));
+    assert_eq!(rt; into, *b"\0one--");
+    assert_eq!(rt; folder.cut("a", 3), Did::Done);
+    assert_eq!(rt; folder.sync("a"), Did::Done);
+    assert_eq!(rt; folder.rename("a", "b"), Did::Done);
+    assert_eq!(rt; folder.read_at("a", 0, &mut into), ReadAt::Got(0));
+    assert_eq!(rt; folder.len("b"), Length::Is(3));
+    fs::remove_dir_all(&rt, FILES)?;
+    Ok(())
+}
+
+#[test]
+fn names_of_a_folder(rt: HostRuntime) -> Result<(), Fail> {
+    let alloc = rt.alloc();
+    let _ = fs::remove_dir_all(&rt, NAMES);
+    fs::create_dir(&rt, NAMES)?;
+    fs::create_dir(&rt, "nsq_outside_names/sub")?;
+    let mut folder = DirFolder::new(rt.clone()?, alloc, NAMES)?;
+    assert_eq!(rt; folder.cut("a", 0), Did::Done);
+    let mut names = Vec::new(alloc);
+    assert_eq!(rt; folder.list(alloc, &mut names), Listing::Done);
+    assert_eq!(rt; names.len(), 1);
+    assert_eq!(rt; names[0].as_str(), "a");
+    assert_eq!(rt; folder.sync_names(), Did::Done);
+    assert_eq!(rt; folder.remove("a"), Did::Done);
+    assert_eq!(rt; folder.remove("a"), Did::Done);
+    assert_eq!(rt; folder.len("a"), Length::Absent);
+    fs::remove_dir_all(&rt, NAMES)?;
+    Ok(())
+}
+
+#[test]
+fn errors_of_a_folder(rt: HostRuntime) -> Result<(), Fail> {
+    let alloc = rt.alloc();
+    let _ = fs::remove_dir_all(&rt, ERRORS);
+    fs::create_dir(&rt, ERRORS)?;
+    fs::create_dir(&rt, "nsq_outside_errors/sub")?;
+    let mut folder = DirFolder::new(rt.clone()?, alloc, ERRORS)?;
+    assert_eq!(rt; folder.len("sub"), Length::Failed);
+    assert_eq!(rt; folder.write_at("sub/a", 0, b"one"), Did::Failed);
+    fs::remove_dir_all(&rt, ERRORS)?;
+    assert_eq!(rt; folder.len("a"), Length::Absent);
+    assert_eq!(rt; folder.write_at("a", 0, b"one"), Did::Failed);
+    let mut names = Vec::new(alloc);
+    assert_eq!(rt; folder.list(alloc, &mut names), Listing::Failed);
+    assert_eq!(rt; folder.sync_names(), Did::Failed);
+    Ok(())
+}
+
+#[test]
+fn readings(rt: HostRuntime) -> Result<(), Fail> {
+    let mut clock = SysClock::new(rt.clone()?);
+    let first = clock.now();
+    // The start of 2020.
+    assert!(rt; first > 1_577_836_800_000_000_000);
+    let second = clock.now();
+    assert!(rt; second > 1_577_836_800_000_000_000);
+    Ok(())
+}

@@ -1,0 +1,11 @@
+pub mod RowLemmas
+pub mod Reading
+pub mod Naming
+pub mod Lists
+pub mod MetaLemmas
+pub mod Walking
+pub mod Digits
+pub mod MetaParts
+pub mod Listed
+pub mod Mending
+pub mod Keeping

@@ -1,0 +1,9 @@
+pub mod FileNames
+pub mod Records
+pub mod Places
+pub mod Metas
+pub mod Between
+pub mod Finds
+pub mod Laws
+pub mod Folders
+pub mod Answered

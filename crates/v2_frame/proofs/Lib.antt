@@ -1,0 +1,16 @@
+pub mod LineLemmas
+pub mod HeadingLemmas
+pub mod SizeLemmas
+pub mod BehindLemmas
+pub mod VerdictLemmas
+pub mod ScriptLemmas
+pub mod PlainLemmas
+pub mod FieldLemmas
+pub mod FoundLemmas
+pub mod CanonicalLemmas
+pub mod ReaderLemmas
+pub mod ReadLemmas
+pub mod WritingLemmas
+pub mod MessageLemmas
+pub mod FrameLemmas
+pub mod FrameRowLemmas

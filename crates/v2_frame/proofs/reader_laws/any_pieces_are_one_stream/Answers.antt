@@ -1,0 +1,12 @@
+use Rattle.std.proofs.Common.{refl}
+use Rattle.v2_frame.proofs.ReadLemmas.{fed_limits, fed_read, given_limits, given_read, read_script}
+use Rattle.v2_frame.proofs.reader_laws.any_pieces_are_one_stream.Goals as goal
+
+pub returns : goal.returns
+returns c = record {
+  fresh = λ limits. (refl, refl);
+  fed = fed_read;
+  given = λ old new got bytes commands g h. given_read old new got bytes commands g h;
+  script = read_script;
+  limits = record { fed = fed_limits; given = given_limits };
+}

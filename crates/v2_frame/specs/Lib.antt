@@ -1,0 +1,14 @@
+pub mod Line
+pub mod Heading
+pub mod Command
+pub mod Judging
+pub mod Script
+pub mod Written
+pub mod Laws
+pub mod Plain
+pub mod Reading
+pub mod ReaderLaws
+pub mod Writing
+pub mod Messages
+pub mod Frames
+pub mod FrameReads

@@ -1,0 +1,40 @@
+//! The V2 stream of NSQ (nsq.io, TCP Protocol Spec): its commands, frames and messages.
+//!
+//! Contracts speak of whole byte lists: `Spells` says which bytes spell a command, `IsScript` which commands stand in a row
+//! in a stream and whether what follows is a fault or not yet finished. No cut of the stream into pieces changes its script.
+#![tactic(auto)]
+
+mod append;
+mod batch;
+mod command;
+mod fault;
+mod frame;
+pub mod frame_laws;
+mod frame_reader;
+mod got;
+mod heading;
+pub mod laws;
+mod line;
+mod message;
+mod number;
+mod plain;
+mod reader;
+pub mod reader_laws;
+mod size;
+mod start;
+mod write;
+
+pub use command::Command;
+pub use fault::{Fault, FaultKind, Limits, Rest};
+pub use frame::{Frame, FrameKind};
+pub use frame_reader::{FrameReader, GotFrame};
+pub use got::Got;
+pub use message::{Message, Taken};
+pub use plain::script_of;
+pub use reader::Reader;
+pub use write::{write_command, write_frame, write_frame_of};
+
+#[cfg(test)]
+mod tests;
+#[cfg(test)]
+mod written_tests;

@@ -1,0 +1,78 @@
+ghost use Rattle.std.specs.Prelude.{◌≡◌, MatchResult, Some};
+ghost use Rattle.v2_frame.specs.Judging.{sizing_of};
+ghost use Rattle.v2_frame.specs.Plain.{seen_heading, sized_heading, IsStart, HasBadName};
+
+use crate::heading::Heading;
+use crate::{Command, FaultKind, Limits};
+use nsq_base::{Chan, Topic};
+
+/// A command whose line has come.
+#[derive(Drop)]
+pub(crate) enum Start {
+    /// The whole command: nothing stands behind its line.
+    Alone(Command),
+    /// A size and so many bytes stand behind the line.
+    Sized(Sized),
+}
+
+/// A command that has a size and so many bytes behind its line.
+#[derive(Drop)]
+pub(crate) enum Sized {
+    /// `IDENTIFY`
+    Identify,
+    /// `PUB` with its topic
+    Pub(Topic),
+    /// `MPUB` with its topic
+    Mpub(Topic),
+    /// `DPUB` with its topic and its delay
+    Dpub(Topic, i64),
+}
+
+/// Judges the names of a heading: BadTopic where its topic is no name, BadChannel where its topic is one and its channel
+/// isn't.
+pub(crate) fn start_of(heading: Heading<'_>) -> Result<Start, FaultKind>
+    ensures { MatchResult result (λ start. IsStart (seen_heading heading.entry) start) (λ kind. HasBadName (seen_heading heading.entry) kind) }
+{
+    Ok(match heading {
+        Heading::Identify => Start::Sized(Sized::Identify),
+        Heading::Sub(topic, channel) => {
+            let Some(topic) = Topic::read(topic) else {
+                return Err(FaultKind::BadTopic);
+            };
+            let Some(channel) = Chan::read(channel) else {
+                return Err(FaultKind::BadChannel);
+            };
+            Start::Alone(Command::Sub(topic, channel))
+        }
+        Heading::Pub(topic) => match Topic::read(topic) {
+            Some(topic) => Start::Sized(Sized::Pub(topic)),
+            None => return Err(FaultKind::BadTopic),
+        },
+        Heading::Mpub(topic) => match Topic::read(topic) {
+            Some(topic) => Start::Sized(Sized::Mpub(topic)),
+            None => return Err(FaultKind::BadTopic),
+        },
+        Heading::Dpub(topic, delay) => match Topic::read(topic) {
+            Some(topic) => Start::Sized(Sized::Dpub(topic, delay)),
+            None => return Err(FaultKind::BadTopic),
+        },
+        Heading::Rdy(count) => Start::Alone(Command::Rdy(count)),
+        Heading::Fin(id) => Start::Alone(Command::Fin(id)),
+        Heading::Req(id, delay) => Start::Alone(Command::Req(id, delay)),
+        Heading::Touch(id) => Start::Alone(Command::Touch(id)),
+        Heading::Cls => Start::Alone(Command::Cls),
+        Heading::Nop => Start::Alone(Command::Nop),
+    })
+}
+
+impl Sized {
+    /// The greatest size of what stands behind the line, and the fault that another size is.
+    pub(crate) fn sizing(&self, limits: Limits) -> (u32, FaultKind)
+        ensures { sizing_of limits (sized_heading self.now) ≡ Some (record { most = result.0; wrong = result.1 }) }
+    {
+        match self {
+            Sized::Identify | Sized::Mpub(_) => (limits.body, FaultKind::BadBody),
+            Sized::Pub(_) | Sized::Dpub(_, _) => (limits.msg, FaultKind::BadSize),
+        }
+    }
+}

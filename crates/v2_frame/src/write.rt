@@ -1,0 +1,143 @@
+ghost use Rattle.std.specs.Prelude.{◌≡◌, ◌^◌, ◌<◌, ◌++◌, length, OnOk, OnErr};
+ghost use Rattle.nsq_base.specs.Name.{IsName};
+ghost use Rattle.v2_frame.specs.Command.{size4, canonical, content_of, IsSpelled};
+ghost use Rattle.v2_frame.specs.Written.{type_of, frame_bytes};
+ghost use Rattle.v2_frame.specs.Writing.{CanWrite, batch_bytes};
+
+use crate::append::append_all;
+use crate::{Command, Frame, FrameKind};
+use itoa::Buffer;
+use nsq_base::{Bodies, Memory, Topic};
+use std::alloc::Global;
+
+/// Appends the canonical spelling of the command: the words parted by single spaces, numbers without leading zeros, `RDY`
+/// always with its number, and a line feed; behind it the body's size in 4 bytes, most significant first, and the body. The
+/// size of an `MPUB` is that of all that follows it: the count of its bodies, and each body behind its size.
+///
+/// It requires that no body is empty, that an `MPUB` has at least one, that the size behind the line is below 2^31, that
+/// numbers have at most 18 digits, and that an id has no space and no byte of a line end. Want of memory is the only error:
+/// then `out` is as before. Nothing is allocated but the growth of `out`.
+pub fn write_command(_alloc: Global, command: &Command, out: &mut Vec<u8>) -> Result<(), Memory>
+    requires { CanWrite command.now }
+    ensures ok { OnOk result (out.new.items ≡ out.old.items ++ canonical command.now) }
+    ensures spelled { IsSpelled (canonical command.now) command.now }
+    ensures err { OnErr result (out.new.items ≡ out.old.items) }
+{
+    let mut number = Buffer::new();
+    match command {
+        Command::Identify(body) => {
+            let body = body.bytes();
+            append_all(out, &[b"IDENTIFY\n", &size_bytes(body.len()), body])
+        }
+        Command::Sub(topic, channel) => {
+            append_all(out, &[b"SUB ", topic.bytes(), b" ", channel.bytes(), b"\n"])
+        }
+        Command::Pub(topic, body) => {
+            let body = body.bytes();
+            append_all(
+                out,
+                &[b"PUB ", topic.bytes(), b"\n", &size_bytes(body.len()), body],
+            )
+        }
+        Command::Mpub(topic, bodies) => write_batch(topic, bodies, out),
+        Command::Dpub(topic, delay, body) => {
+            let delay = number.format(*delay).as_bytes();
+            let body = body.bytes();
+            let size = size_bytes(body.len());
+            append_all(
+                out,
+                &[b"DPUB ", topic.bytes(), b" ", delay, b"\n", &size, body],
+            )
+        }
+        Command::Rdy(count) => {
+            append_all(out, &[b"RDY ", number.format(*count).as_bytes(), b"\n"])
+        }
+        Command::Fin(id) => append_all(out, &[b"FIN ", id.bytes(), b"\n"]),
+        Command::Req(id, delay) => {
+            let delay = number.format(*delay).as_bytes();
+            append_all(out, &[b"REQ ", id.bytes(), b" ", delay, b"\n"])
+        }
+        Command::Touch(id) => append_all(out, &[b"TOUCH ", id.bytes(), b"\n"]),
+        Command::Cls => append_all(out, &[b"CLS\n"]),
+        Command::Nop => append_all(out, &[b"NOP\n"]),
+    }
+}
+
+/// Appends the frame: the size of its type and its data, its type, both in 4 bytes with the most significant first, and its
+/// data (nsq.io, TCP Protocol Spec). It requires that the data has fewer than 2^31 bytes. Want of memory is the only error:
+/// then `out` is as before. Nothing is allocated but the growth of `out`.
+pub fn write_frame(_alloc: Global, frame: &Frame, out: &mut Vec<u8>) -> Result<(), Memory>
+    requires { length frame.now.body < 2 ^ 31 }
+    ensures ok { OnOk result (out.new.items ≡ out.old.items ++ frame_bytes frame.now.kind frame.now.body) }
+    ensures err { OnErr result (out.new.items ≡ out.old.items) }
+{
+    write_frame_of(frame.kind, frame.body.bytes(), out)
+}
+
+/// Appends the frame of this type and this text, as `write_frame` does, without a `Frame`.
+pub fn write_frame_of(kind: FrameKind, text: &[u8], out: &mut Vec<u8>) -> Result<(), Memory>
+    requires { length text.now < 2 ^ 31 }
+    ensures ok { OnOk result (out.new.items ≡ out.old.items ++ frame_bytes kind text.now) }
+    ensures err { OnErr result (out.new.items ≡ out.old.items) }
+{
+    let size = size_bytes(4 + text.len());
+    let kind = type_number(kind).to_be_bytes();
+    append_all(out, &[&size, &kind, text])
+}
+
+/// The number of a frame's type.
+fn type_number(kind: FrameKind) -> u32
+    ensures { result ≡ type_of kind }
+{
+    match kind {
+        FrameKind::Response => 0,
+        FrameKind::Error => 1,
+        FrameKind::Message => 2,
+    }
+}
+
+/// A size or a count in 4 bytes, most significant first.
+fn size_bytes(size: usize) -> [u8; 4]
+    requires { size < 2 ^ 32 }
+    ensures { result ≡ size4 size }
+{
+    (size as u32).to_be_bytes()
+}
+
+/// Appends an `MPUB`. After Memory `out` is as before.
+fn write_batch(topic: &Topic, bodies: &Bodies, out: &mut Vec<u8>) -> Result<(), Memory>
+    requires { length (content_of bodies.now) < 2 ^ 31 }
+    ensures named { IsName topic.now }
+    ensures ok { OnOk result (out.new.items ≡ out.old.items ++ batch_bytes topic.now bodies.now) }
+    ensures err { OnErr result (out.new.items ≡ out.old.items) }
+{
+    let before = out.len();
+    let size = content_size(bodies);
+    let count = bodies.count();
+    let name = topic.bytes();
+    out.reserve(10 + name.len() + size)?;
+    append_all(
+        out,
+        &[b"MPUB ", name, b"\n", &size_bytes(size), &size_bytes(count)],
+    )?;
+    'bodies: for i in 0..count {
+        let body = bodies.get(i).bytes();
+        if append_all(out, &[&size_bytes(body.len()), body]).is_err() {
+            out.truncate(before);
+            return Err(Memory);
+        }
+    }
+    Ok(())
+}
+
+/// The size of what stands behind the size of an `MPUB`: a count, and each body behind its size.
+fn content_size(bodies: &Bodies) -> usize
+    requires { length (content_of bodies.now) < 2 ^ 31 }
+    ensures { result ≡ length (content_of bodies.now) }
+{
+    let mut size = 4;
+    'bodies: for i in 0..bodies.count() {
+        size += 4 + bodies.get(i).bytes().len();
+    }
+    size
+}

@@ -52,7 +52,8 @@ impl FrameReader {
     /// A reader at the start of a stream, for frames whose size (that of the type and the data) is at most the limit. It
     /// takes no memory yet, and never fails.
     pub fn new(alloc: Global, limit: u32) -> Result<FrameReader, Memory>
-        ensures { IfOk result (λ reader. reader ≡ record { limit = limit; place = 0; bytes = [] }) }
+        ensures start { IfOk result (λ reader. reader ≡ record { limit = limit; place = 0; bytes = [] }) }
+        ensures given { IfOk result (λ reader. HasGiven reader [] []) }
     {
         Ok(FrameReader {
             alloc,

@@ -2,6 +2,8 @@
 //!
 //! Contracts speak of whole byte lists: `Spells` says which bytes spell a command, `IsScript` which commands stand in a row
 //! in a stream and whether what follows is a fault or not yet finished. No cut of the stream into pieces changes its script.
+//! `frame_bytes` and `message_bytes` say what a frame and a message are, `AreFrames` which frames stand in a row, and
+//! `HasGiven` that a reader of frames gave out those of all that was fed, whatever the pieces were.
 #![tactic(auto)]
 
 mod append;

@@ -31,6 +31,8 @@ fn any_pieces(rt: HostRuntime) -> Result<(), Fail> {
         b"  V2MPUB t\n\0\0\0\x13\0\0\0\x03\0\0\0\x01a\0\0\0\x01\n\0\0\0\x01cDPUB a:b x\n".as_slice(),
         b"  V2MPUB t\n\0\0\0\x09\0\0\0\x01\0\0\0\x02a".as_slice(),
         b"  V2MPUB t\n\0\0\0\x0a\0\0\0\x01\0\0\0\x01ab".as_slice(),
+        b"  V2MPUB t\n\0\0\0\x13\0\0\0\x03\0\0\0\x01a\0\0\0\x01b\0\0\0\x02c".as_slice(),
+        b"  V2PUB t\n\0\0\0\x05ab".as_slice(),
         b"  V2NOP\nMPUB t\n\0\0\0\x65".as_slice(),
         b"  V2FIN 0000010000000000\nREQ 0000010000000000 5\nFIN 00000100000000\r0\n".as_slice(),
         b"  V2TOUCH 0000010000000000\nRDY +7\n".as_slice(),
@@ -121,6 +123,21 @@ fn long_lines_and_laws(rt: HostRuntime) -> Result<(), Fail> {
         reader.feed(end)?;
         assert_eq!(rt; take(&mut reader, &mut commands)?, want, "{length} bytes");
         assert_eq!(rt; commands.len(), 1);
+    }
+    let mut bytes = b"  V2NOP\n".to_vec(alloc)?;
+    bytes.resize(8 + 16386, b'x')?;
+    for cut in 0..bytes.len() {
+        let mut reader = Reader::new(alloc, LIMITS)?;
+        let mut commands = Vec::new(alloc);
+        for piece in [&bytes[..cut], &bytes[cut..]] {
+            reader.feed(piece)?;
+            take(&mut reader, &mut commands)?;
+        }
+        assert_eq!(rt;
+            take(&mut reader, &mut commands)?,
+            Rest::Faulty(long),
+            "cut at {cut}"
+        );
     }
     reader_laws::any_pieces_are_one_stream();
     reader_laws::answers_take_what_is_left();

@@ -6,3 +6,6 @@ pub mod Following
 pub mod PlainTalk
 pub mod NameTexts
 pub mod NameLists
+pub mod FindingLemmas
+pub mod Own
+pub mod FindingOnce

@@ -1,5 +1,6 @@
 -- Histories, and which of them are legal.
 use Rattle.std.specs.Prelude.{ℕ, ◌+◌, ◌≤◌, ◌^◌, Bool, true, false, not, ◌&&◌, if◌then◌else◌, List, [], ◌∷◌, ◌++◌, length, filter}
+use Rattle.std.specs.List.{list_any}
 use Rattle.nsq_outside.specs.declared.journal.End.{End}
 use Rattle.nsq_outside.specs.declared.journal.End.TheVariants.{Faulted}
 use Rattle.history.specs.declared.entry.Act.{Act}
@@ -16,6 +17,10 @@ History = List (Entry × End)
 abbrev pub is_stop : Act → Bool
 is_stop Stop = true
 is_stop _ = false
+
+-- whether a Stop stands in the history
+abbrev pub has_stop : History → Bool
+has_stop h = list_any (λ e. is_stop e.0.act) h
 
 -- how many Stops stand in the history
 abbrev pub stops_of : History → ℕ

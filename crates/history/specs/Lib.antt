@@ -10,3 +10,4 @@ pub mod Found
 pub mod Laws
 pub mod PlainTalk
 pub mod Follow
+pub mod Findings

@@ -1,7 +1,7 @@
 -- What the parts of a reader of the file of names answer.
 use Rattle.std.specs.Prelude.{◌≡◌, ℕ, ◌≢◌, List, AllPairs, Option, Some, None, MatchOption}
 use Rattle.serde_json.specs.Data as json
-use Rattle.history.specs.Data.{HasName, ItemsSay, SaysList, IsKept, durable}
+use Rattle.history.specs.Data.{ItemsSay, SaysList, IsKept, durable}
 
 module _ {D X : Type 0} (Says : D → X → Type 0) where
   -- the answer is what the data says; there is none exactly where it says nothing
@@ -17,12 +17,6 @@ present (Some (json.number n)) = Some (json.number n)
 present (Some (json.string s)) = Some (json.string s)
 present (Some (json.array ds)) = Some (json.array ds)
 present (Some (json.object ms)) = Some (json.object ms)
-
--- an item is an object with this name, by the grammar of names
-pub record SaysName (item : json.Data) (name : List ℕ) : Type 0 where
-  pub members : json.Members
-  pub object : item ≡ json.object members
-  pub named : HasName members name
 
 module _ {X : Type 0} (Says : json.Data → X → Type 0) (name : X → List ℕ) where
   -- the items of an array say what is listed, of which these are the durable ones, each name once

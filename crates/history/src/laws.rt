@@ -1,6 +1,6 @@
 //! What follows from the definitions alone: each function's contract is a law, and its body is empty.
 
-ghost use Rattle.history.specs.Laws.{HistoriesJoin, FrontsAreLegal, StopsAreOnce, FaultsAreApartButOne, MomentsNeverFall, TalksTakeCommandsInOrder, FinishedTalksTakeAll, TalksFollowScripts, OnlyTalksFollowScripts, NamesReadBack};
+ghost use Rattle.history.specs.Laws.{HistoriesJoin, FrontsAreLegal, StopsAreOnce, FaultsAreApartButOne, MomentsNeverFall, OwnEntriesJoin, OnlyGonesTell, GonesTell, OthersAreNotGone, TalksStay, TalksWithoutGone, TalksWithGone, TalksTakeCommandsInOrder, FinishedTalksTakeAll, TalksFollowScripts, OnlyTalksFollowScripts, NamesReadBack, NamesAreOne, FindingIsOne};
 
 /// Legal histories join, each front of one is legal, its moments never fall, it has one Stop at most, and of its disk faults at
 /// most one stands just before that.
@@ -10,6 +10,18 @@ pub fn histories()
     ensures moments { MomentsNeverFall }
     ensures stops { StopsAreOnce }
     ensures faults { FaultsAreApartButOne }
+{}
+
+/// A conversation in a history depends on the connection's own entries, and on whether a Stop stands before its Gone. Both stay as
+/// they are where entries of others follow, so it stays a conversation; and a conversation by the own entries is one in the history.
+pub fn connections()
+    ensures own { OwnEntriesJoin }
+    ensures only_gones { OnlyGonesTell }
+    ensures gones { GonesTell }
+    ensures others { OthersAreNotGone }
+    ensures stay { TalksStay }
+    ensures without_gone { TalksWithoutGone }
+    ensures with_gone { TalksWithGone }
 {}
 
 /// A conversation takes the commands of its bytes in order, and all of them where it comes to the end of the input.
@@ -23,4 +35,10 @@ pub fn talks()
 /// The text that is written for names reads back as them.
 pub fn names()
     ensures { NamesReadBack }
+{}
+
+/// A file of names keeps one thing only, and an opening of a folder finds one thing only.
+pub fn openings()
+    ensures names { NamesAreOne }
+    ensures finding { FindingIsOne }
 {}

@@ -1,5 +1,6 @@
 //! Plain, slow functions that compute the definitions of `specs` on small inputs, for tests.
 
+mod findings;
 mod histories;
 mod names;
 mod names_lists;
@@ -8,6 +9,7 @@ mod state;
 mod steps;
 mod talks;
 
+pub use findings::{Finding, FoundChannel, FoundNames, FoundTopic, found};
 pub use histories::is_legal;
 pub use names::{KeptChannel, KeptNames, KeptTopic, read_names};
 pub use replies::{refusal, reply};
@@ -15,6 +17,8 @@ pub use state::{Client, State, TopicState, Waiting};
 pub use steps::step;
 pub use talks::is_talk;
 
+#[cfg(test)]
+mod findings_tests;
 #[cfg(test)]
 mod names_tests;
 #[cfg(test)]

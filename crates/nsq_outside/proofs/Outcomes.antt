@@ -1,4 +1,4 @@
-use Rattle.std.proofs.Common.{◌≡◌, ℕ, ◌≤◌, List, [], length, sym, subst, inl, arith, Some, IsSome, unwrap_or, OnOk, OnErr, Result, Ok, Err}
+use Rattle.std.proofs.Common.{◌≡◌, ℕ, List, [], length, sym, subst, inl, arith, Some, IsSome, unwrap_or, OnOk, OnErr, Result, Ok, Err}
 use Rattle.std.proofs.lemmas.Grind.{common_steps}
 use Rattle.nsq_outside.specs.Files.{Files, SameFiles, IsTorn, WritesAt, Cuts, written_at, cut_to}
 use Rattle.nsq_outside.specs.MemFiles.{Sets}

@@ -1,5 +1,5 @@
 -- Which calls of a folder in memory fail.
-use Rattle.std.specs.Prelude.{ℕ, ◌≡◌, ◌≤◌, ◌<◌, ◌⊎◌}
+use Rattle.std.specs.Prelude.{ℕ, ◌≡◌, ◌≢◌, ◌+◌, ◌-◌, ◌^◌, ◌≤◌, ◌<◌, ◌⊎◌, min}
 use Rattle.nsq_outside.specs.declared.mem.folder_calls.FolderCall.{FolderCall}
 use Rattle.nsq_outside.specs.declared.mem.folder_calls.FolderCall.TheVariants.{List as ListCalls, Len, ReadAt, WriteAt, Cut, Sync, SyncNames, Rename, Remove, Any}
 use Rattle.nsq_outside.specs.declared.mem.folder_calls.Failing.{Failing}
@@ -22,3 +22,10 @@ count_of counts Any = counts.any
 abbrev pub Hits : Counts → FolderCall → Failing → Type 0
 Hits counts call failing =
     ((failing.call ≡ call) ⊎ (failing.call ≡ Any)) × (failing.from ≤ count_of counts failing.call) × (count_of counts failing.call < failing.to)
+
+-- a call of a method was counted, for the method and for all of them; each other count stays
+pub record CountsCall (old new : Counts) (call : FolderCall) : Type 0 where
+  pub of_one : call ≢ Any
+  pub here : count_of new call ≡ min (count_of old call + 1) (2 ^ 64 - 1)
+  pub all : count_of new Any ≡ min (count_of old Any + 1) (2 ^ 64 - 1)
+  pub others : (other : FolderCall) → other ≢ call → other ≢ Any → count_of new other ≡ count_of old other

@@ -1,8 +1,8 @@
 -- A folder as a map from names to bytes, and what each call on it does.
-use Rattle.std.specs.Prelude.{ℕ, ◌≡◌, ◌≢◌, ◌+◌, ◌-◌, ◌^◌, ◌≤◌, ◌↔◌, ◌⊎◌, List, [], ◌++◌, length, take, drop, map, replicate, min, Option, Some, None, unwrap_or, IsSome, IsSomeAnd, Contains, AllPairs, String, string_bytes}
+use Rattle.std.specs.Prelude.{ℕ, ◌≡◌, ◌≢◌, ◌+◌, ◌-◌, ◌^◌, ◌≤◌, ◌↔◌, ◌⊎◌, List, [], ◌++◌, length, take, drop, map, replicate, min, Option, Some, None, unwrap_or, IsSome, IsSomeAnd, Contains, AllPairs, String, string_bytes, true, false}
 use Rattle.std.specs.List.{slice_range}
 use Rattle.std.specs.declared.alloc.Global.{Global}
-use Rattle.nsq_outside.specs.Causes.{Rose}
+use Rattle.nsq_outside.specs.Causes.{Rose, CountsFault}
 use Rattle.nsq_outside.specs.declared.did.Did.{Did}
 use Rattle.nsq_outside.specs.declared.did.Did.TheVariants.{Done, Failed}
 use Rattle.nsq_outside.specs.declared.folder.Listing.{Listing}
@@ -41,11 +41,23 @@ Lists files old new Listed = AppendsListing files old new
 Lists files old new NotListed = new ≡ old
 Lists files old new Memory = new ≡ old
 
+-- names were appended, or none
+abbrev pub Appends : List (String Global) → List (String Global) → Listing → Type 0
+Appends old new Listed = (added : List (String Global)) × (new ≡ old ++ added)
+Appends old new NotListed = new ≡ old
+Appends old new Memory = new ≡ old
+
 -- Failed comes only with a rise
 abbrev pub ListingFails : ℕ → ℕ → Listing → Type 0
 ListingFails before now NotListed = Rose before now
 ListingFails before now Listed = Unit {0}
 ListingFails before now Memory = Unit {0}
+
+-- Failed is counted, and nothing else
+abbrev pub ListingCounts : ℕ → ℕ → Listing → Type 0
+ListingCounts before now NotListed = CountsFault before now true
+ListingCounts before now Listed = CountsFault before now false
+ListingCounts before now Memory = CountsFault before now false
 
 -- the length is that of the file; Absent comes only where there is no file
 abbrev pub HasLength : Option (List ℕ) → Length → Type 0
@@ -64,6 +76,12 @@ abbrev pub LengthFails : ℕ → ℕ → Length → Type 0
 LengthFails before now NotMeasured = Rose before now
 LengthFails before now (Is n) = Unit {0}
 LengthFails before now Absent = Unit {0}
+
+-- Failed is counted, and nothing else
+abbrev pub LengthCounts : ℕ → ℕ → Length → Type 0
+LengthCounts before now NotMeasured = CountsFault before now true
+LengthCounts before now (Is n) = CountsFault before now false
+LengthCounts before now Absent = CountsFault before now false
 
 -- a file has at most 2^62 bytes: what was carried out ends there
 abbrev pub IsWithin : ℕ → Did → Type 0
@@ -91,6 +109,11 @@ ReadsAt file at old new NotRead = Unit {0}
 abbrev pub ReadAtFails : ℕ → ℕ → ReadAt → Type 0
 ReadAtFails before now NotRead = Rose before now
 ReadAtFails before now (Got n) = Unit {0}
+
+-- Failed is counted, and nothing else
+abbrev pub ReadAtCounts : ℕ → ℕ → ReadAt → Type 0
+ReadAtCounts before now NotRead = CountsFault before now true
+ReadAtCounts before now (Got n) = CountsFault before now false
 
 -- the first bytes, and zeros where there were fewer
 abbrev pub cut_to : List ℕ → ℕ → List ℕ

@@ -1,6 +1,6 @@
 -- What a host and a dialer tell, and what each call on them does.
 use Rattle.std.specs.Prelude.{ℕ, ◌≡◌, ◌≤◌, ◌⊎◌, List, [], ◌∷◌, ◌++◌, take, Bool, true, false, Option}
-use Rattle.nsq_outside.specs.Causes.{Rose}
+use Rattle.nsq_outside.specs.Causes.{Rose, CountsFault}
 use Rattle.nsq_outside.specs.declared.did.Did.{Did}
 use Rattle.nsq_outside.specs.declared.did.Did.TheVariants.{Done, Failed}
 use Rattle.nsq_outside.specs.declared.host.Kit.{Kit}
@@ -66,6 +66,11 @@ abbrev pub LinkFails : {K : Type 0} → ℕ → ℕ → Dialled K → Type 0
 LinkFails before now NotLinked = Rose before now
 LinkFails before now (Linked conn) = Unit {0}
 
+-- Failed is counted, and nothing else
+abbrev pub LinkCounts : {K : Type 0} → ℕ → ℕ → Dialled K → Type 0
+LinkCounts before now NotLinked = CountsFault before now true
+LinkCounts before now (Linked conn) = CountsFault before now false
+
 -- the start is noted; where it failed it may be missing
 abbrev pub Starts : {K : Type 0} → HostContent K → HostContent K → List ℕ → List ℕ → List ℕ → Did → Type 0
 Starts old new tcp http path Done = new ≡ record old { starts = old.starts ++ record { tcp = tcp; http = http; path = path } ∷ [] }
@@ -92,6 +97,13 @@ AcceptFails before now (Caller kind conn) = Unit {0}
 AcceptFails before now Nothing = Unit {0}
 AcceptFails before now Halt = Unit {0}
 
+-- Failed is counted, and nothing else
+abbrev pub AcceptCounts : {K : Type 0} → ℕ → ℕ → Accept K → Type 0
+AcceptCounts before now NotAccepted = CountsFault before now true
+AcceptCounts before now (Caller kind conn) = CountsFault before now false
+AcceptCounts before now Nothing = CountsFault before now false
+AcceptCounts before now Halt = CountsFault before now false
+
 -- the whole text was printed; or that failed, and bytes from its front were
 abbrev pub Prints : {K : Type 0} → HostContent K → HostContent K → List ℕ → Did → Type 0
 Prints old new text Done = new ≡ record old { printed = old.printed ++ text }
@@ -100,6 +112,11 @@ Prints old new text Failed = (n : ℕ) × (new ≡ record old { printed = old.pr
 -- the line was told; or it wasn't, and the count of tell faults rose
 abbrev pub Tells : {K : Type 0} → HostContent K → HostContent K → List ℕ → ℕ → ℕ → Type 0
 Tells old new line before now = (new ≡ record old { lines = old.lines ++ line ∷ [] }) ⊎ ((new ≡ old) × Rose before now)
+
+-- the line was told, or that failed and was counted
+abbrev pub TellCounts : {K : Type 0} → HostContent K → HostContent K → List ℕ → ℕ → ℕ → Type 0
+TellCounts old new line before now =
+    ((new ≡ record old { lines = old.lines ++ line ∷ [] }) × CountsFault before now false) ⊎ ((new ≡ old) × CountsFault before now true)
 
 -- of what each host shows, at most the count of accept faults changes, and it doesn't fall
 abbrev pub OnlyAcceptFaults : {F C J : Type 0} → HostState F C J → HostState F C J → Type 0

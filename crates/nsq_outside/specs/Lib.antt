@@ -5,8 +5,11 @@ pub mod Files
 pub mod Hosts
 pub mod Failings
 pub mod MemFiles
+pub mod MemFolders
+pub mod Frames
 pub mod TcpConns
 pub mod TcpDialers
+pub mod SysClocks
 pub mod Listeners
 pub mod Pieces
 pub mod Scripts

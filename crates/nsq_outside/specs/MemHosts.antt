@@ -1,7 +1,7 @@
 -- What a host in memory shows.
-use Rattle.std.specs.Prelude.{ℕ, ◌≡◌, ◌<◌, List, [], map, length}
+use Rattle.std.specs.Prelude.{ℕ, ◌≡◌, ◌<◌, List, [], drop, map, length, IsSomeAnd, slice_get}
 use Rattle.nsq_outside.specs.Hosts.{DialerContent, HostContent, HostState, IsFreshCaller}
-use Rattle.nsq_outside.specs.MemConns.{left_of, has_ended, pieces_of, written_of, read_faults_of, write_faults_of}
+use Rattle.nsq_outside.specs.MemConns.{left_of, has_ended, pieces_of, written_of, read_faults_of, write_faults_of, IsRestarted}
 use Rattle.nsq_outside.specs.MemDialers.{dialled_of}
 use Rattle.nsq_outside.specs.declared.host.Kind.{Kind}
 use Rattle.nsq_outside.specs.declared.host.Accept.{Accept}
@@ -46,3 +46,18 @@ AnswersAtOnce coming (Caller kind conn) = 0 < length coming
 AnswersAtOnce coming Nothing = ⊥
 AnswersAtOnce coming Halt = coming ≡ []
 AnswersAtOnce coming Failed = 0 < length coming
+
+-- the callers to come, with their connections
+abbrev pub callers_of : {E : Type 0} → MemHost E → List (Kind × MemConn)
+callers_of host = host.callers.items
+
+-- the connections that dials will give
+abbrev pub to_link_of : {E : Type 0} → MemHost E → List MemConn
+to_link_of host = host.dialer.coming.items
+
+-- the first of the callers to come is given, its connection restarted, and the others are still to come; or all are
+abbrev pub GivesFirst : List (Kind × MemConn) → List (Kind × MemConn) → Accept MemConn → Type 0
+GivesFirst old new (Caller kind conn) = IsSomeAnd (slice_get old 0) (λ first. (first.0 ≡ kind) × IsRestarted first.1 conn) × (new ≡ drop 1 old)
+GivesFirst old new Nothing = new ≡ old
+GivesFirst old new Halt = new ≡ old
+GivesFirst old new Failed = new ≡ old

@@ -1,6 +1,6 @@
 -- What a read and a write of a stream do.
 use Rattle.std.specs.Prelude.{ℕ, ◌≡◌, ◌≤◌, ◌<◌, List, [], ◌∷◌, ◌++◌, take, Bool, true, false}
-use Rattle.nsq_outside.specs.Causes.{Rose}
+use Rattle.nsq_outside.specs.Causes.{Rose, CountsFault}
 use Rattle.nsq_outside.specs.declared.conn.Read.{Read}
 use Rattle.nsq_outside.specs.declared.conn.Read.TheVariants.{Got, Nothing, End, Failed}
 use Rattle.nsq_outside.specs.declared.conn.Write.{Write}
@@ -34,6 +34,13 @@ ReadFails before now (Got n) = Unit {0}
 ReadFails before now Nothing = Unit {0}
 ReadFails before now End = Unit {0}
 
+-- Failed is counted, and nothing else
+abbrev pub ReadCounts : ℕ → ℕ → Read → Type 0
+ReadCounts before now Failed = CountsFault before now true
+ReadCounts before now (Got n) = CountsFault before now false
+ReadCounts before now Nothing = CountsFault before now false
+ReadCounts before now End = CountsFault before now false
+
 -- at least one byte and no more than were offered
 abbrev pub IsAmountWritten : Write → ℕ → Type 0
 IsAmountWritten (Took n) most = (0 < n) × (n ≤ most)
@@ -48,3 +55,8 @@ Writes written written' from NotTaken = written' ≡ written
 abbrev pub WriteFails : ℕ → ℕ → Write → Type 0
 WriteFails before now NotTaken = Rose before now
 WriteFails before now (Took n) = Unit {0}
+
+-- Failed is counted, and nothing else
+abbrev pub WriteCounts : ℕ → ℕ → Write → Type 0
+WriteCounts before now NotTaken = CountsFault before now true
+WriteCounts before now (Took n) = CountsFault before now false

@@ -1,6 +1,7 @@
 -- What clauses see of a TCP connection.
-use Rattle.std.specs.Prelude.{ℕ, ◌≡◌, ◌⊎◌, ◌++◌, List, [], Bool}
+use Rattle.std.specs.Prelude.{ℕ, ◌≡◌, ◌+◌, ◌≤◌, ◌<◌, ◌⊎◌, ◌++◌, List, [], length, Bool, true, false}
 use Rattle.nsq_outside.specs.Hosts.{IsFresh}
+use Rattle.nsq_outside.specs.Frames.{EndsInError}
 use Rattle.nsq_outside.specs.declared.conn.Write.{Write}
 use Rattle.nsq_outside.specs.declared.conn.Write.TheVariants.{Took, Failed}
 use Rattle.nsq_outside.specs.declared.host.Kind.{Kind}
@@ -17,6 +18,10 @@ kind_of conn = conn.kind
 -- the bytes that were taken and aren't sent yet
 abbrev pub gathered_of : TcpConn → List ℕ
 gathered_of conn = conn.gathered.items
+
+-- whether a read or a send failed, after which nothing is read or sent any more
+abbrev pub broken_of : TcpConn → Bool
+broken_of conn = conn.broken
 
 -- how often a read failed
 abbrev pub read_faults_of : TcpConn → ℕ
@@ -38,8 +43,31 @@ no_bytes conn = []
 abbrev pub IsFreshTcpConn : TcpConn → Type 0
 IsFreshTcpConn conn = IsFresh no_pieces ended_of no_bytes read_faults_of write_faults_of conn
 
--- bytes that were taken stand behind those that were gathered before, or behind none after these were sent, or they too were sent;
--- those that weren't taken don't stand there
+-- bytes that were taken, all of them, stand behind those that were gathered before, or behind none after these were sent; or nothing is
+-- gathered any more. Those that weren't taken don't stand there
 abbrev pub Gathers : List ℕ → List ℕ → List ℕ → Write → Type 0
-Gathers before now from (Took n) = (now ≡ before ++ from) ⊎ (now ≡ from) ⊎ (now ≡ [])
+Gathers before now from (Took n) = ((n ≡ length from) × ((now ≡ before ++ from) ⊎ (now ≡ from))) ⊎ (now ≡ [])
 Gathers before now from Failed = (now ≡ before) ⊎ (now ≡ [])
+
+-- where bytes were taken and the count of write faults rose nevertheless, the connection is broken
+abbrev pub TookBreaks : TcpConn → TcpConn → Write → Type 0
+TookBreaks old new (Took n) = write_faults_of old < write_faults_of new → broken_of new ≡ true
+TookBreaks old new Failed = Unit {0}
+
+-- bytes that were taken and end in an error frame are sent at once
+abbrev pub SendsErrors : List ℕ → List ℕ → Write → Type 0
+SendsErrors from now (Took n) = EndsInError from → now ≡ []
+SendsErrors from now Failed = Unit {0}
+
+-- bytes that were taken, don't end in one, and fit behind those that were gathered before stand there
+abbrev pub KeepsOthers : List ℕ → List ℕ → List ℕ → Write → Type 0
+KeepsOthers before now from (Took n) = length before + length from ≤ 16384 → (EndsInError from → ⊥) → now ≡ before ++ from
+KeepsOthers before now from Failed = Unit {0}
+
+-- nothing is gathered and nothing failed yet
+abbrev pub IsNewTcpConn : TcpConn → Type 0
+IsNewTcpConn conn = (gathered_of conn ≡ []) × (broken_of conn ≡ false)
+
+-- what speaks the same, and stays broken once it is
+abbrev pub IsSameConn : TcpConn → TcpConn → Type 0
+IsSameConn old new = (kind_of new ≡ kind_of old) × (broken_of old ≡ true → broken_of new ≡ true)

@@ -1,6 +1,6 @@
 ghost use Rattle.std.specs.Prelude.{◌≡◌, ◌+◌, ◌≤◌, List, ℕ, Bool, IsTrue, Option, length};
 ghost use Rattle.nsq_outside.specs.Causes.{DidFails};
-ghost use Rattle.nsq_outside.specs.Files.{SameFiles, IsWithin, OnlyChanges, Lists, ListingFails, HasLength, IsFileLength, LengthFails, IsAmountAt, ReadsAt, IsReadWithin, ReadAtFails, WritesAt, Cuts, Renames, Removes};
+ghost use Rattle.nsq_outside.specs.Files.{SameFiles, IsWithin, OnlyChanges, Lists, Appends, ListingFails, HasLength, IsFileLength, LengthFails, IsAmountAt, ReadsAt, IsReadWithin, ReadAtFails, WritesAt, Cuts, Renames, Removes};
 
 use crate::Did;
 use std::alloc::Global;
@@ -50,6 +50,7 @@ pub trait Folder: Send {
     /// Appends the name of each file once, in any order. After another answer than `Done` the names are as before.
     fn list(&mut self, alloc: Global, names: &mut Vec<String>) -> Listing
         ensures names { IsTrue tells_files → Lists (files self.old) names.old.items names.new.items result }
+        ensures kept { Appends names.old.items names.new.items result }
         ensures same { IsTrue tells_files → SameFiles (files self.old) (files self.new) }
         ensures faults { folder_faults self.old ≤ folder_faults self.new }
         ensures cause { ListingFails (folder_faults self.old) (folder_faults self.new) result };

@@ -15,7 +15,7 @@ use std::marker::Model;
 const LONGEST_DATA: usize = 1 << 24;
 
 /// The greatest epoch.
-const LAST_EPOCH: u64 = 16_777_215;
+pub const LAST_EPOCH: u64 = 16_777_215;
 
 /// A channel that the file of names keeps.
 #[derive(Debug, Drop)]

@@ -265,6 +265,8 @@ fn an_entry_has_a_twin(rt: HostRuntime) -> Result<(), Fail> {
 #[test]
 fn the_laws_can_be_called() {
     laws::histories();
+    laws::connections();
+    laws::openings();
     laws::talks();
     laws::names();
 }

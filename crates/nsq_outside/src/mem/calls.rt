@@ -1,5 +1,5 @@
-ghost use Rattle.std.specs.Prelude.{◌≡◌, ◌≤◌, ◌↔◌, IsTrue};
-ghost use Rattle.nsq_outside.specs.Causes.{Rose};
+ghost use Rattle.std.specs.Prelude.{◌≡◌, ◌≤◌, ◌↔◌, IsTrue, true};
+ghost use Rattle.nsq_outside.specs.Causes.{Rose, CountsFault};
 
 /// The calls of one method: which of them fail, by their numbers from 0, and how many failed.
 #[derive(Drop)]
@@ -30,6 +30,7 @@ impl Calls {
         ensures counted { Counts self.old self.new }
         ensures faults { self.old.faults ≤ self.new.faults }
         ensures cause { IsTrue result → Rose self.old.faults self.new.faults }
+        ensures fault { CountsFault self.old.faults self.new.faults result }
     {
         let call = self.next;
         self.next = call.saturating_add(1);
@@ -44,6 +45,7 @@ impl Calls {
     pub fn add_fault(&mut self)
         ensures faults { self.old.faults ≤ self.new.faults }
         ensures rose { Rose self.old.faults self.new.faults }
+        ensures fault { CountsFault self.old.faults self.new.faults true }
         ensures calls { self.new ≡ record self.old { faults = self.new.faults } }
     {
         self.faults = self.faults.saturating_add(1);

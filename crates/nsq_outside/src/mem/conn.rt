@@ -26,7 +26,7 @@ pub struct MemConn {
 }
 
 impl MemConn {
-    ghost use Rattle.nsq_outside.specs.MemConns.{pieces_of, left_of, written_of, IsUnused, FailsAtCalls};
+    ghost use Rattle.nsq_outside.specs.MemConns.{pieces_of, left_of, written_of, IsUnused, IsToGive, IsRestarted, FailsAtCalls};
 
     /// A connection that gives these pieces, and fails at the reads and the writes of these numbers, counted from 0.
     pub fn new(
@@ -36,6 +36,7 @@ impl MemConn {
         write_fails: Vec<u64>,
     ) -> Result<MemConn, Memory>
         ensures left { IfOk result (λ conn. left_of conn ≡ bytes_to_come pieces.items) }
+        ensures script { IfOk result (IsToGive pieces.items) }
         ensures unused { IfOk result IsUnused }
         ensures fails { IfOk result (FailsAtCalls read_fails.items write_fails.items) }
     {
@@ -64,10 +65,11 @@ impl MemConn {
         &self.written
     }
 
-    /// As if nothing had been read or written yet. What is to come stays.
+    /// As if nothing had been read or written yet. What is to come stays, and so do the calls that fail.
     pub(super) fn restart(&mut self)
         ensures unused { IsUnused self.new }
         ensures left { left_of self.new ≡ left_of self.old }
+        ensures kept { IsRestarted self.old self.new }
     {
         self.ended = false;
         self.pieces.clear();
@@ -78,8 +80,8 @@ impl MemConn {
 }
 
 impl Source for MemConn {
-    ghost use Rattle.nsq_outside.specs.MemConns.{pieces_of, left_of, has_ended, read_faults_of, written_of, write_faults_of, CountsRead};
-    ghost use Rattle.nsq_outside.specs.Streams.{IsAmountRead, Reads, EndsWith, ReadFails};
+    ghost use Rattle.nsq_outside.specs.MemConns.{pieces_of, left_of, has_ended, read_faults_of, written_of, write_faults_of, CountsRead, FollowsScript};
+    ghost use Rattle.nsq_outside.specs.Streams.{IsAmountRead, Reads, EndsWith, ReadFails, ReadCounts};
 
     ghost tells_pieces = { true };
 
@@ -102,7 +104,11 @@ impl Source for MemConn {
         ensures write_faults { write_faults_of self.old ≤ write_faults_of self.new }
         ensures faults { read_faults_of self.old ≤ read_faults_of self.new }
         ensures cause { ReadFails (read_faults_of self.old) (read_faults_of self.new) result }
+        ensures counted { ReadCounts (read_faults_of self.old) (read_faults_of self.new) result }
         ensures calls { CountsRead self.old self.new result }
+        ensures over { self.old.ended ≡ true → self.new.reads ≡ self.old.reads }
+        ensures script { FollowsScript self.old self.new (length into.old) result }
+        ensures writes { self.new.writes ≡ self.old.writes }
     {
         if self.ended {
             return Read::End;
@@ -130,8 +136,8 @@ impl Source for MemConn {
 }
 
 impl Sink for MemConn {
-    ghost use Rattle.nsq_outside.specs.MemConns.{pieces_of, left_of, has_ended, read_faults_of, written_of, write_faults_of, CountsWrite};
-    ghost use Rattle.nsq_outside.specs.Streams.{IsAmountWritten, Writes, WriteFails};
+    ghost use Rattle.nsq_outside.specs.MemConns.{pieces_of, left_of, has_ended, read_faults_of, written_of, write_faults_of, CountsWrite, IsAllOrNone};
+    ghost use Rattle.nsq_outside.specs.Streams.{IsAmountWritten, Writes, WriteFails, WriteCounts};
 
     ghost tells_written = { true };
 
@@ -151,7 +157,10 @@ impl Sink for MemConn {
         ensures read_faults { read_faults_of self.old ≤ read_faults_of self.new }
         ensures faults { write_faults_of self.old ≤ write_faults_of self.new }
         ensures cause { WriteFails (write_faults_of self.old) (write_faults_of self.new) result }
+        ensures counted { WriteCounts (write_faults_of self.old) (write_faults_of self.new) result }
         ensures calls { CountsWrite self.old self.new result }
+        ensures all { IsAllOrNone (length from.now) result }
+        ensures rest { self.new ≡ record self.old { written = self.new.written; writes = self.new.writes } }
     {
         if self.writes.next_fails() {
             return Write::Failed;

@@ -1,7 +1,7 @@
-ghost use Rattle.std.specs.Prelude.{◌≡◌, ◌+◌, ◌≤◌, ◌++◌, ◌∷◌, [], map, vec_len, string_bytes, OnOk, OnErr};
-ghost use Rattle.nsq_outside.specs.Causes.{Rose};
-ghost use Rattle.nsq_outside.specs.Hosts.{Dials, LinkFails};
-ghost use Rattle.nsq_outside.specs.MemConns.{left_of, IsUnusedLink};
+ghost use Rattle.std.specs.Prelude.{◌≡◌, ◌+◌, ◌≤◌, ◌++◌, ◌∷◌, [], map, vec_len, string_bytes, true, OnOk, OnErr};
+ghost use Rattle.nsq_outside.specs.Causes.{Rose, CountsFault};
+ghost use Rattle.nsq_outside.specs.Hosts.{Dials, LinkFails, LinkCounts};
+ghost use Rattle.nsq_outside.specs.MemConns.{left_of, IsUnusedLink, LinksFirst};
 
 use crate::Dialled;
 use crate::mem::conn::MemConn;
@@ -26,6 +26,7 @@ impl MemDialer {
         ensures dials { dialled_of result ≡ record { asked = []; linked = []; coming = map left_of coming.items } }
         ensures no_fault { result.faults ≡ 0 }
         ensures none_linked { vec_len result.linked ≡ 0 }
+        ensures coming { result.coming.items ≡ coming.items }
     {
         MemDialer {
             alloc,
@@ -49,7 +50,9 @@ impl MemDialer {
         ensures fresh { IsUnusedLink result }
         ensures faults { self.old.faults ≤ self.new.faults }
         ensures cause { LinkFails self.old.faults self.new.faults result }
+        ensures counted { LinkCounts self.old.faults self.new.faults result }
         ensures one { vec_len self.new.linked ≤ vec_len self.old.linked + 1 }
+        ensures first { LinksFirst self.old.coming.items self.new.coming.items result }
     {
         if keep(self.alloc, &mut self.asked, address).is_err() {
             return self.fail();
@@ -74,6 +77,7 @@ impl MemDialer {
         ensures fault { self.new ≡ record self.old { faults = self.new.faults } }
         ensures faults { self.old.faults ≤ self.new.faults }
         ensures rose { Rose self.old.faults self.new.faults }
+        ensures counted { CountsFault self.old.faults self.new.faults true }
     {
         self.faults = self.faults.saturating_add(1);
         Dialled::Failed

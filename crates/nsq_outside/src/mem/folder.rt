@@ -1,8 +1,7 @@
-ghost use Rattle.std.specs.Prelude.{◌≡◌, ◌≤◌, ◌↔◌, List, ℕ, IsTrue, true, false, IfOk, IfSome, IfNone, None, Option, option_map, OnErr, OnOk, IsOk};
-ghost use Rattle.std.specs.List.{Any};
-ghost use Rattle.nsq_outside.specs.Causes.{Rose, DidFails};
+ghost use Rattle.std.specs.Prelude.{◌≡◌, ◌≢◌, ◌≤◌, ◌↔◌, List, ℕ, IsTrue, true, false, IfOk, IfSome, IfNone, None, Option, option_map, OnErr, OnOk, IsOk};
+ghost use Rattle.nsq_outside.specs.Causes.{Rose, DidFails, CountsFault, DidCounts};
 ghost use Rattle.nsq_outside.specs.MemFiles.{files_of, first_of};
-ghost use Rattle.nsq_outside.specs.Failings.{Hits, count_of};
+ghost use Rattle.nsq_outside.specs.Failings.{count_of};
 
 use super::files;
 use super::folder_calls::{Counts, Failing, FolderCall};
@@ -24,6 +23,9 @@ pub struct MemFolder {
 }
 
 impl MemFolder {
+    ghost use Rattle.nsq_outside.specs.Failings.{CountsCall};
+    ghost use Rattle.nsq_outside.specs.MemFolders.{counts_of, IsRefused};
+
     /// A folder with these files, of which these calls fail. Of several files with one name the first counts.
     pub fn new(
         alloc: Global,
@@ -56,9 +58,12 @@ impl MemFolder {
 
     /// Counts a call, and a fault where it is among those that fail.
     fn refuses(&mut self, call: FolderCall) -> bool
-        ensures fails { IsTrue result ↔ Any (Hits self.old.counts call) self.old.fails.items }
-        ensures files { self.new.files ≡ self.old.files }
+        requires { call ≢ FolderCall.Any }
+        ensures refused { IsTrue result ↔ IsRefused self.old call }
+        ensures counted { CountsCall (counts_of self.old) (counts_of self.new) call }
+        ensures rest { self.new ≡ record self.old { counts = self.new.counts; faults = self.new.faults } }
         ensures rose { IsTrue result → Rose self.old.faults self.new.faults }
+        ensures fault { CountsFault self.old.faults self.new.faults result }
         ensures faults { self.old.faults ≤ self.new.faults }
     {
         let fails = self.counts.count(&self.fails, call);
@@ -72,9 +77,10 @@ impl MemFolder {
     fn answer(&mut self, outcome: Result<(), files::NoRoom>) -> Did
         ensures done { OnOk outcome (result ≡ Did.Done) }
         ensures failed { OnErr outcome (result ≡ Did.Failed) }
-        ensures files { self.new.files ≡ self.old.files }
+        ensures rest { self.new ≡ record self.old { faults = self.new.faults } }
         ensures faults { self.old.faults ≤ self.new.faults }
         ensures cause { DidFails self.old.faults self.new.faults result }
+        ensures counted { DidCounts self.old.faults self.new.faults result }
     {
         match outcome {
             Ok(()) => Did::Done,
@@ -87,13 +93,28 @@ impl MemFolder {
 }
 
 impl Folder for MemFolder {
+    ghost use Rattle.std.specs.Prelude.{◌+◌, ◌-◌, ◌^◌, ◌<◌, ◌⊎◌, [], length, min, unwrap_or, IsSomeAnd};
+    ghost use Rattle.nsq_outside.specs.Files.{SameFiles, IsWithin, OnlyChanges, Lists, Appends, ListingFails, ListingCounts, HasLength, IsFileLength, LengthFails, LengthCounts, IsAmountAt, ReadsAt, IsReadWithin, ReadAtFails, ReadAtCounts, WritesAt, Cuts, Renames, Removes};
+    ghost use Rattle.nsq_outside.specs.Failings.{CountsCall};
+    ghost use Rattle.nsq_outside.specs.MemFolders.{files_in, fails_of, counts_of, faults_of, IsRefused};
+
     ghost tells_files = { true };
 
-    ghost files = { λ folder. files_of folder.files };
+    ghost files = { files_in };
 
-    ghost folder_faults = { λ folder. folder.faults };
+    ghost folder_faults = { faults_of };
 
-    fn list(&mut self, alloc: Global, names: &mut Vec<String>) -> Listing {
+    fn list(&mut self, alloc: Global, names: &mut Vec<String>) -> Listing
+        ensures names { Lists (files_in self.old) names.old.items names.new.items result }
+        ensures kept { Appends names.old.items names.new.items result }
+        ensures same { SameFiles (files_in self.old) (files_in self.new) }
+        ensures faults { faults_of self.old ≤ faults_of self.new }
+        ensures cause { ListingFails (faults_of self.old) (faults_of self.new) result }
+        ensures counted { ListingCounts (faults_of self.old) (faults_of self.new) result }
+        ensures calls { CountsCall (counts_of self.old) (counts_of self.new) FolderCall.List }
+        ensures fails { fails_of self.new ≡ fails_of self.old }
+        ensures refused { (result ≡ Listing.Failed) ↔ IsRefused self.old FolderCall.List }
+    {
         if self.refuses(FolderCall::List) {
             return Listing::Failed;
         }
@@ -103,7 +124,18 @@ impl Folder for MemFolder {
         }
     }
 
-    fn len(&mut self, name: &str) -> Length {
+    fn len(&mut self, name: &str) -> Length
+        ensures length { HasLength (files_in self.old name.now) result }
+        ensures limit { IsFileLength result }
+        ensures same { SameFiles (files_in self.old) (files_in self.new) }
+        ensures faults { faults_of self.old ≤ faults_of self.new }
+        ensures cause { LengthFails (faults_of self.old) (faults_of self.new) result }
+        ensures counted { LengthCounts (faults_of self.old) (faults_of self.new) result }
+        ensures calls { CountsCall (counts_of self.old) (counts_of self.new) FolderCall.Len }
+        ensures fails { fails_of self.new ≡ fails_of self.old }
+        ensures refused { IsRefused self.old FolderCall.Len → result ≡ Length.Failed }
+        ensures failed { result ≡ Length.Failed → IsRefused self.old FolderCall.Len ⊎ IsSomeAnd (files_in self.old name.now) (λ bytes. 2 ^ 62 < length bytes) }
+    {
         if self.refuses(FolderCall::Len) {
             return Length::Failed;
         }
@@ -117,7 +149,19 @@ impl Folder for MemFolder {
         }
     }
 
-    fn read_at(&mut self, name: &str, at: u64, into: &mut [u8]) -> ReadAt {
+    fn read_at(&mut self, name: &str, at: u64, into: &mut [u8]) -> ReadAt
+        ensures amount { IsAmountAt result (length into.old) }
+        ensures bytes { ReadsAt (files_in self.old name.now) at into.old into.new result }
+        ensures limit { IsReadWithin at result }
+        ensures same { SameFiles (files_in self.old) (files_in self.new) }
+        ensures faults { faults_of self.old ≤ faults_of self.new }
+        ensures cause { ReadAtFails (faults_of self.old) (faults_of self.new) result }
+        ensures counted { ReadAtCounts (faults_of self.old) (faults_of self.new) result }
+        ensures calls { CountsCall (counts_of self.old) (counts_of self.new) FolderCall.ReadAt }
+        ensures fails { fails_of self.new ≡ fails_of self.old }
+        ensures refused { IsRefused self.old FolderCall.ReadAt → result ≡ ReadAt.Failed }
+        ensures failed { result ≡ ReadAt.Failed → IsRefused self.old FolderCall.ReadAt ⊎ (2 ^ 62 < at + min (length into.old) (length (unwrap_or (files_in self.old name.now) []) - at)) }
+    {
         if self.refuses(FolderCall::ReadAt) {
             return ReadAt::Failed;
         }
@@ -130,7 +174,18 @@ impl Folder for MemFolder {
         ReadAt::Got(count)
     }
 
-    fn write_at(&mut self, name: &str, at: u64, from: &[u8]) -> Did {
+    fn write_at(&mut self, name: &str, at: u64, from: &[u8]) -> Did
+        ensures bytes { WritesAt (files_in self.old name.now) (files_in self.new name.now) at from.now result }
+        ensures limit { IsWithin (at + length from.now) result }
+        ensures others { OnlyChanges (files_in self.old) (files_in self.new) name.now }
+        ensures faults { faults_of self.old ≤ faults_of self.new }
+        ensures cause { DidFails (faults_of self.old) (faults_of self.new) result }
+        ensures counted { DidCounts (faults_of self.old) (faults_of self.new) result }
+        ensures calls { CountsCall (counts_of self.old) (counts_of self.new) FolderCall.WriteAt }
+        ensures fails { fails_of self.new ≡ fails_of self.old }
+        ensures refused { IsRefused self.old FolderCall.WriteAt → result ≡ Did.Failed }
+        ensures failed { result ≡ Did.Failed → SameFiles (files_in self.old) (files_in self.new) }
+    {
         if self.refuses(FolderCall::WriteAt) {
             return Did::Failed;
         }
@@ -138,7 +193,18 @@ impl Folder for MemFolder {
         self.answer(outcome)
     }
 
-    fn cut(&mut self, name: &str, to: u64) -> Did {
+    fn cut(&mut self, name: &str, to: u64) -> Did
+        ensures bytes { Cuts (files_in self.old name.now) (files_in self.new name.now) to result }
+        ensures limit { IsWithin to result }
+        ensures others { OnlyChanges (files_in self.old) (files_in self.new) name.now }
+        ensures faults { faults_of self.old ≤ faults_of self.new }
+        ensures cause { DidFails (faults_of self.old) (faults_of self.new) result }
+        ensures counted { DidCounts (faults_of self.old) (faults_of self.new) result }
+        ensures calls { CountsCall (counts_of self.old) (counts_of self.new) FolderCall.Cut }
+        ensures fails { fails_of self.new ≡ fails_of self.old }
+        ensures refused { IsRefused self.old FolderCall.Cut → result ≡ Did.Failed }
+        ensures failed { result ≡ Did.Failed → SameFiles (files_in self.old) (files_in self.new) }
+    {
         if self.refuses(FolderCall::Cut) {
             return Did::Failed;
         }
@@ -146,21 +212,46 @@ impl Folder for MemFolder {
         self.answer(outcome)
     }
 
-    fn sync(&mut self, _name: &str) -> Did {
+    fn sync(&mut self, _name: &str) -> Did
+        ensures same { SameFiles (files_in self.old) (files_in self.new) }
+        ensures faults { faults_of self.old ≤ faults_of self.new }
+        ensures cause { DidFails (faults_of self.old) (faults_of self.new) result }
+        ensures counted { DidCounts (faults_of self.old) (faults_of self.new) result }
+        ensures calls { CountsCall (counts_of self.old) (counts_of self.new) FolderCall.Sync }
+        ensures fails { fails_of self.new ≡ fails_of self.old }
+        ensures refused { (result ≡ Did.Failed) ↔ IsRefused self.old FolderCall.Sync }
+    {
         if self.refuses(FolderCall::Sync) {
             return Did::Failed;
         }
         Did::Done
     }
 
-    fn sync_names(&mut self) -> Did {
+    fn sync_names(&mut self) -> Did
+        ensures same { SameFiles (files_in self.old) (files_in self.new) }
+        ensures faults { faults_of self.old ≤ faults_of self.new }
+        ensures cause { DidFails (faults_of self.old) (faults_of self.new) result }
+        ensures counted { DidCounts (faults_of self.old) (faults_of self.new) result }
+        ensures calls { CountsCall (counts_of self.old) (counts_of self.new) FolderCall.SyncNames }
+        ensures fails { fails_of self.new ≡ fails_of self.old }
+        ensures refused { (result ≡ Did.Failed) ↔ IsRefused self.old FolderCall.SyncNames }
+    {
         if self.refuses(FolderCall::SyncNames) {
             return Did::Failed;
         }
         Did::Done
     }
 
-    fn rename(&mut self, from: &str, to: &str) -> Did {
+    fn rename(&mut self, from: &str, to: &str) -> Did
+        ensures files { Renames (files_in self.old) (files_in self.new) from.now to.now result }
+        ensures faults { faults_of self.old ≤ faults_of self.new }
+        ensures cause { DidFails (faults_of self.old) (faults_of self.new) result }
+        ensures counted { DidCounts (faults_of self.old) (faults_of self.new) result }
+        ensures calls { CountsCall (counts_of self.old) (counts_of self.new) FolderCall.Rename }
+        ensures fails { fails_of self.new ≡ fails_of self.old }
+        ensures refused { IsRefused self.old FolderCall.Rename → result ≡ Did.Failed }
+        ensures failed { result ≡ Did.Failed → SameFiles (files_in self.old) (files_in self.new) }
+    {
         if self.refuses(FolderCall::Rename) {
             return Did::Failed;
         }
@@ -168,7 +259,17 @@ impl Folder for MemFolder {
         self.answer(outcome.map_err(files::NoRoom::from))
     }
 
-    fn remove(&mut self, name: &str) -> Did {
+    fn remove(&mut self, name: &str) -> Did
+        ensures bytes { Removes (files_in self.old name.now) (files_in self.new name.now) result }
+        ensures others { OnlyChanges (files_in self.old) (files_in self.new) name.now }
+        ensures faults { faults_of self.old ≤ faults_of self.new }
+        ensures cause { DidFails (faults_of self.old) (faults_of self.new) result }
+        ensures counted { DidCounts (faults_of self.old) (faults_of self.new) result }
+        ensures calls { CountsCall (counts_of self.old) (counts_of self.new) FolderCall.Remove }
+        ensures fails { fails_of self.new ≡ fails_of self.old }
+        ensures refused { (result ≡ Did.Failed) ↔ IsRefused self.old FolderCall.Remove }
+        ensures failed { result ≡ Did.Failed → SameFiles (files_in self.old) (files_in self.new) }
+    {
         if self.refuses(FolderCall::Remove) {
             return Did::Failed;
         }

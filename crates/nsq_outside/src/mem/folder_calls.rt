@@ -1,6 +1,6 @@
 ghost use Rattle.std.specs.Prelude.{◌≡◌, ◌≢◌, ◌+◌, ◌-◌, ◌^◌, ◌≤◌, ◌<◌, ◌↔◌, IsTrue, min};
 ghost use Rattle.std.specs.List.{Any};
-ghost use Rattle.nsq_outside.specs.Failings.{Hits, count_of};
+ghost use Rattle.nsq_outside.specs.Failings.{Hits, count_of, CountsCall};
 
 /// A method of `Folder`, or `Any` of them.
 #[derive(Clone, Copy, Debug, PartialEq, Eq)]
@@ -112,7 +112,9 @@ impl Counts {
 
     /// Counts a call of a method, and answers whether it is among those that fail.
     pub fn count(&mut self, fails: &[Failing], call: FolderCall) -> bool
-        ensures { IsTrue result ↔ Any (Hits self.old call) fails.now }
+        requires { call ≢ FolderCall.Any }
+        ensures fails { IsTrue result ↔ Any (Hits self.old call) fails.now }
+        ensures counted { CountsCall self.old self.new call }
     {
         let fails_now = fails.iter().any(|failing| failing.hits(self, call));
         self.raise(call);

@@ -1,6 +1,7 @@
 use crate::{Did, Failing, Folder, FolderCall, Length, Listing, MemFolder, ReadAt};
 use std::alloc::{AllocError, Global};
 use std::test::Fail;
+use std::thread::{Threads, join};
 
 /// The files `a` with "one" and `b` with "two".
 fn two_files(alloc: Global) -> Result<Vec<(String, Vec<u8>)>, AllocError> {
@@ -65,5 +66,33 @@ fn fails(rt: HostRuntime) -> Result<(), Fail> {
     assert_eq!(rt; folder.remove("a"), Did::Failed);
     assert_eq!(rt; folder.file("a"), Some(b"13e".as_slice()));
     assert_eq!(rt; folder.remove("a"), Did::Done);
+    Ok(())
+}
+
+/// Writes a file anew, under another name first, and gives its length.
+fn put_anew<F: Folder>(folder: &mut F, name: &str, bytes: &[u8]) -> Length {
+    if folder.write_at("new", 0, bytes) == Did::Failed || folder.sync("new") == Did::Failed {
+        return Length::Failed;
+    }
+    if folder.rename("new", name) == Did::Failed || folder.sync_names() == Did::Failed {
+        return Length::Failed;
+    }
+    folder.len(name)
+}
+
+/// Lets another thread have a folder, and takes it back.
+fn carried<R: Threads, F: Folder + Drop>(rt: &R, folder: F) -> F {
+    let (folder, _) = join(rt, move || folder, || ());
+    folder
+}
+
+#[test]
+fn moves_between_threads_under_its_bound(rt: HostRuntime) -> Result<(), Fail> {
+    let alloc = rt.alloc();
+    let mut folder = MemFolder::new(alloc, two_files(alloc)?, Vec::new(alloc))?;
+    assert_eq!(rt; put_anew(&mut folder, "a", b"anew"), Length::Is(4));
+    let mut folder = carried(&rt, folder);
+    assert_eq!(rt; folder.file("a"), Some(b"anew".as_slice()));
+    assert_eq!(rt; put_anew(&mut folder, "b", b""), Length::Is(0));
     Ok(())
 }

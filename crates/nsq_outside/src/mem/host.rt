@@ -38,7 +38,7 @@ pub struct MemHost<E: Drop> {
 
 impl<E: Drop> MemHost<E> {
     ghost use Rattle.nsq_outside.specs.MemConns.{left_of};
-    ghost use Rattle.nsq_outside.specs.MemHosts.{content_of, state_of, dials_of, dial_faults_of};
+    ghost use Rattle.nsq_outside.specs.MemHosts.{content_of, state_of, dials_of, dial_faults_of, callers_of, to_link_of};
 
     /// A host with these callers, connections to be dialled and kit. `beside` says whether each caller gets a thread of its own.
     pub fn new(
@@ -51,6 +51,8 @@ impl<E: Drop> MemHost<E> {
         ensures content { IfOk result (λ host. content_of host ≡ record { starts = []; coming = map (λ c. (c.0, left_of c.1)) callers.items; given = []; halted = false; back = []; printed = []; lines = [] }) }
         ensures dials { IfOk result (λ host. dials_of host ≡ record { asked = []; linked = []; coming = map left_of dialled.items }) }
         ensures dial_faults { IfOk result (λ host. dial_faults_of host ≡ 0) }
+        ensures callers { IfOk result (λ host. callers_of host ≡ callers.items) }
+        ensures to_link { IfOk result (λ host. to_link_of host ≡ dialled.items) }
         ensures state { IfOk result (λ host. state_of host ≡ record { kit = Some kit; beside = beside; accept_faults = 0; print_faults = 0; tell_faults = 0 }) }
     {
         Ok(MemHost {
@@ -125,6 +127,7 @@ impl<E: Drop> MemHost<E> {
         ensures content { content_of self.new ≡ content_of self.old }
         ensures state { state_of self.new ≡ state_of self.old }
         ensures dialer { self.new.dialer ≡ self.old.dialer }
+        ensures callers { self.new.callers ≡ self.old.callers }
         ensures given { vec_len self.new.given ≡ vec_len self.old.given }
         ensures room { OnOk result (vec_len self.new.given + vec_len self.new.dialer.linked + 1 ≤ vec_capacity self.new.back) }
     {
@@ -135,7 +138,9 @@ impl<E: Drop> MemHost<E> {
 }
 
 impl<E: Drop> Dialer for MemHost<E> {
-    ghost use Rattle.nsq_outside.specs.MemHosts.{content_of, state_of, dials_of, dial_faults_of};
+    ghost use Rattle.nsq_outside.specs.MemHosts.{content_of, state_of, dials_of, dial_faults_of, callers_of, to_link_of};
+    ghost use Rattle.nsq_outside.specs.MemConns.{left_of, IsUnusedLink, LinksFirst};
+    ghost use Rattle.nsq_outside.specs.Hosts.{Dials, LinkFails, LinkCounts};
 
     type Conn = MemConn;
 
@@ -147,7 +152,16 @@ impl<E: Drop> Dialer for MemHost<E> {
 
     ghost may_dial = { λ a b. (content_of b ≡ content_of a) × (state_of b ≡ state_of a) };
 
-    fn dial<R: Wait>(&mut self, _rt: &R, address: &str) -> Dialled<MemConn> {
+    fn dial<R: Wait>(&mut self, _rt: &R, address: &str) -> Dialled<MemConn>
+        ensures told { Dials left_of (dials_of self.old) (dials_of self.new) address.now result }
+        ensures fresh { IsUnusedLink result }
+        ensures may { (content_of self.new ≡ content_of self.old) × (state_of self.new ≡ state_of self.old) }
+        ensures faults { dial_faults_of self.old ≤ dial_faults_of self.new }
+        ensures cause { LinkFails (dial_faults_of self.old) (dial_faults_of self.new) result }
+        ensures counted { LinkCounts (dial_faults_of self.old) (dial_faults_of self.new) result }
+        ensures first { LinksFirst (to_link_of self.old) (to_link_of self.new) result }
+        ensures callers { callers_of self.new ≡ callers_of self.old }
+    {
         if self.make_room().is_err() {
             return self.dialer.fail();
         }
@@ -156,9 +170,12 @@ impl<E: Drop> Dialer for MemHost<E> {
 }
 
 impl<E: Drop + Twin + Send> Host<E> for MemHost<E> {
-    ghost use Rattle.nsq_outside.specs.MemHosts.{content_of, state_of, dials_of, dial_faults_of, IsUnusedCaller, AnswersAtOnce};
+    ghost use Rattle.nsq_outside.specs.MemHosts.{content_of, state_of, dials_of, dial_faults_of, callers_of, to_link_of, IsUnusedCaller, AnswersAtOnce, GivesFirst};
     ghost use Rattle.nsq_outside.specs.MemConns.{left_of};
-    ghost use Rattle.nsq_outside.specs.Hosts.{Accepts, AcceptFails, OnlyAcceptFaults};
+    ghost use Rattle.nsq_outside.specs.Hosts.{Starts, Accepts, AcceptFails, AcceptCounts, Prints, Tells, TellCounts, OnlyAcceptFaults, OnlyPrintFaults, OnlyTellFaults};
+    ghost use Rattle.nsq_outside.specs.Causes.{DidFails, DidCounts};
+    ghost use Rattle.nsq_outside.specs.MemJournals.{kept_of, notes_of};
+    ghost use Rattle.std.specs.Prelude.{◌<◌, IsSome, IfSome, is_some};
     ghost use Rattle.std.proofs.lemmas.List.{length-map};
 
     type Folder = MemFolder;
@@ -171,7 +188,16 @@ impl<E: Drop + Twin + Send> Host<E> for MemHost<E> {
 
     ghost state = { state_of };
 
-    fn start<R: Wait>(&mut self, _rt: &R, tcp: &str, http: &str, path: &str) -> Did {
+    fn start<R: Wait>(&mut self, _rt: &R, tcp: &str, http: &str, path: &str) -> Did
+        ensures content { Starts (content_of self.old) (content_of self.new) tcp.now http.now path.now result }
+        ensures state { OnlyAcceptFaults (state_of self.old) (state_of self.new) }
+        ensures cause { DidFails (state_of self.old).accept_faults (state_of self.new).accept_faults result }
+        ensures counted { DidCounts (state_of self.old).accept_faults (state_of self.new).accept_faults result }
+        ensures dials { dials_of self.new ≡ dials_of self.old }
+        ensures dial_faults { dial_faults_of self.new ≡ dial_faults_of self.old }
+        ensures callers { callers_of self.new ≡ callers_of self.old }
+        ensures to_link { to_link_of self.new ≡ to_link_of self.old }
+    {
         if keep_start(self.alloc, &mut self.starts, tcp, http, path).is_err() {
             self.accept_faults = self.accept_faults.saturating_add(1);
             return Did::Failed;
@@ -185,8 +211,11 @@ impl<E: Drop + Twin + Send> Host<E> for MemHost<E> {
         ensures fresh { IsUnusedCaller result }
         ensures state { OnlyAcceptFaults (state_of self.old) (state_of self.new) }
         ensures cause { AcceptFails (state_of self.old).accept_faults (state_of self.new).accept_faults result }
+        ensures counted { AcceptCounts (state_of self.old).accept_faults (state_of self.new).accept_faults result }
         ensures dials { dials_of self.new ≡ dials_of self.old }
         ensures dial_faults { dial_faults_of self.new ≡ dial_faults_of self.old }
+        ensures first { GivesFirst (callers_of self.old) (callers_of self.new) result }
+        ensures to_link { to_link_of self.new ≡ to_link_of self.old }
     {
         if self.callers.is_empty() {
             self.halted = true;
@@ -204,11 +233,32 @@ impl<E: Drop + Twin + Send> Host<E> for MemHost<E> {
         Accept::Caller(kind, conn)
     }
 
-    fn done(&mut self, number: u64, conn: MemConn) {
+    fn done(&mut self, number: u64, conn: MemConn)
+        requires { length (content_of self.old).back < length (content_of self.old).given + length (dials_of self.old).linked }
+        ensures content { content_of self.new ≡ record (content_of self.old) { back = (content_of self.old).back ++ (number, conn) ∷ [] } }
+        ensures state { state_of self.new ≡ state_of self.old }
+        ensures dials { dials_of self.new ≡ dials_of self.old }
+        ensures dial_faults { dial_faults_of self.new ≡ dial_faults_of self.old }
+        ensures callers { callers_of self.new ≡ callers_of self.old }
+        ensures to_link { to_link_of self.new ≡ to_link_of self.old }
+    {
         let _ = self.back.push((number, conn));
     }
 
-    fn lend(&mut self) -> Kit<MemFolder, MemClock, MemJournal<E>> {
+    /// Lends the kit, which is at home. It drops the kit's journal, and lends a new and empty one in its place.
+    fn lend(&mut self) -> Kit<MemFolder, MemClock, MemJournal<E>>
+        requires { IsSome (state_of self.old).kit }
+        ensures folder { IfSome (state_of self.old).kit (λ kit. result.folder ≡ kit.folder) }
+        ensures clock { IfSome (state_of self.old).kit (λ kit. result.clock ≡ kit.clock) }
+        ensures aside { is_some (kept_of result.journal) ≡ false }
+        ensures empty { notes_of result.journal ≡ [] }
+        ensures content { content_of self.new ≡ content_of self.old }
+        ensures state { state_of self.new ≡ record (state_of self.old) { kit = None } }
+        ensures dials { dials_of self.new ≡ dials_of self.old }
+        ensures dial_faults { dial_faults_of self.new ≡ dial_faults_of self.old }
+        ensures callers { callers_of self.new ≡ callers_of self.old }
+        ensures to_link { to_link_of self.new ≡ to_link_of self.old }
+    {
         match self.kit.take() {
             Some(
                 Kit {
@@ -231,6 +281,8 @@ impl<E: Drop + Twin + Send> Host<E> for MemHost<E> {
         ensures state { state_of self.new ≡ record (state_of self.old) { kit = Some home } }
         ensures dials { dials_of self.new ≡ dials_of self.old }
         ensures dial_faults { dial_faults_of self.new ≡ dial_faults_of self.old }
+        ensures callers { callers_of self.new ≡ callers_of self.old }
+        ensures to_link { to_link_of self.new ≡ to_link_of self.old }
     {
         self.kit = Some(home);
     }
@@ -239,7 +291,16 @@ impl<E: Drop + Twin + Send> Host<E> for MemHost<E> {
         self.beside
     }
 
-    fn print<R: Wait>(&mut self, _rt: &R, text: &[u8]) -> Did {
+    fn print<R: Wait>(&mut self, _rt: &R, text: &[u8]) -> Did
+        ensures content { Prints (content_of self.old) (content_of self.new) text.now result }
+        ensures state { OnlyPrintFaults (state_of self.old) (state_of self.new) }
+        ensures cause { DidFails (state_of self.old).print_faults (state_of self.new).print_faults result }
+        ensures counted { DidCounts (state_of self.old).print_faults (state_of self.new).print_faults result }
+        ensures dials { dials_of self.new ≡ dials_of self.old }
+        ensures dial_faults { dial_faults_of self.new ≡ dial_faults_of self.old }
+        ensures callers { callers_of self.new ≡ callers_of self.old }
+        ensures to_link { to_link_of self.new ≡ to_link_of self.old }
+    {
         if self.printed.extend_from_slice(text).is_err() {
             self.print_faults = self.print_faults.saturating_add(1);
             return Did::Failed;
@@ -247,7 +308,15 @@ impl<E: Drop + Twin + Send> Host<E> for MemHost<E> {
         Did::Done
     }
 
-    fn tell<R: Wait>(&mut self, _rt: &R, line: &[u8]) {
+    fn tell<R: Wait>(&mut self, _rt: &R, line: &[u8])
+        ensures content { Tells (content_of self.old) (content_of self.new) line.now (state_of self.old).tell_faults (state_of self.new).tell_faults }
+        ensures state { OnlyTellFaults (state_of self.old) (state_of self.new) }
+        ensures counted { TellCounts (content_of self.old) (content_of self.new) line.now (state_of self.old).tell_faults (state_of self.new).tell_faults }
+        ensures dials { dials_of self.new ≡ dials_of self.old }
+        ensures dial_faults { dial_faults_of self.new ≡ dial_faults_of self.old }
+        ensures callers { callers_of self.new ≡ callers_of self.old }
+        ensures to_link { to_link_of self.new ≡ to_link_of self.old }
+    {
         if keep_line(self.alloc, &mut self.lines, line).is_err() {
             self.tell_faults = self.tell_faults.saturating_add(1);
         }

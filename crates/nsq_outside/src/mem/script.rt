@@ -1,4 +1,4 @@
-ghost use Rattle.std.specs.Prelude.{◌≡◌, ◌+◌, ◌-◌, ◌<◌, ◌≤◌, ◌++◌, [], length, take, drop, IfSome, IfNone};
+ghost use Rattle.std.specs.Prelude.{◌≡◌, ◌≢◌, ◌+◌, ◌-◌, ◌<◌, ◌≤◌, ◌++◌, [], length, take, drop, Some, IfSome, IfNone, slice_get};
 ghost use Rattle.nsq_outside.specs.Pieces.{bytes_to_come, front_bytes};
 
 use nsq_base::Body;
@@ -22,10 +22,11 @@ pub struct Script {
 }
 
 impl Script {
-    ghost use Rattle.nsq_outside.specs.Scripts.{to_come, IsMark};
+    ghost use Rattle.nsq_outside.specs.Scripts.{to_come, rest_of, IsMark, IsAtEnd, IsWhole, PassesFirst, PassesBytes};
 
     pub fn new(pieces: Vec<Piece>) -> Script
-        ensures { to_come result ≡ bytes_to_come pieces.items }
+        ensures bytes { to_come result ≡ bytes_to_come pieces.items }
+        ensures whole { IsWhole pieces.items result }
     {
         Script {
             pieces: VecDeque::from(pieces),
@@ -36,7 +37,8 @@ impl Script {
     /// The rest of the first piece, none of 0 bytes at the end; or `None` at a mark.
     pub fn front(&self) -> Option<&[u8]>
         ensures mark { IfNone result (IsMark self.now) }
-        ensures rest { IfSome result (λ rest. rest.now ≡ drop self.now.offset (front_bytes self.now.pieces.items)) }
+        ensures rest { IfSome result (λ rest. rest.now ≡ rest_of self.now) }
+        ensures no_mark { IfSome result (λ _. slice_get self.now.pieces.items 0 ≢ Some Piece.Nothing) }
         ensures end { IfSome result (λ rest. length rest.now ≡ 0 → to_come self.now ≡ []) }
     {
         match self.pieces.front() {
@@ -49,7 +51,7 @@ impl Script {
     /// Passes the mark that stands first.
     pub fn pass_mark(&mut self)
         requires { IsMark self.old }
-        ensures passed { self.new.pieces.items ≡ drop 1 self.old.pieces.items }
+        ensures passed { PassesFirst self.old self.new }
         ensures bytes { to_come self.new ≡ to_come self.old }
     {
         let _ = self.pieces.pop_front();
@@ -59,7 +61,8 @@ impl Script {
     pub fn pass(&mut self, count: usize)
         requires some { 0 < count }
         requires there { self.old.offset + count ≤ length (front_bytes self.old.pieces.items) }
-        ensures { to_come self.old ≡ take count (drop self.old.offset (front_bytes self.old.pieces.items)) ++ to_come self.new }
+        ensures bytes { to_come self.old ≡ take count (rest_of self.old) ++ to_come self.new }
+        ensures passed { PassesBytes self.old self.new count }
     {
         let left = match self.pieces.front() {
             Some(Piece::Bytes(body)) => body.bytes().len() - self.offset,

@@ -1,5 +1,5 @@
-ghost use Rattle.std.specs.Prelude.{◌≡◌, ◌≤◌, OnErr, None, false, IfOk};
-ghost use Rattle.nsq_outside.specs.Causes.{DidFails, Rose};
+ghost use Rattle.std.specs.Prelude.{◌≡◌, ◌≤◌, OnErr, None, true, false, IfOk};
+ghost use Rattle.nsq_outside.specs.Causes.{DidFails, Rose, CountsFault, DidCounts};
 
 use super::open_files::{LIMIT, OpenFiles};
 use crate::{Did, Folder, Length, Listing, ReadAt};
@@ -56,6 +56,7 @@ where
     /// Counts an error.
     fn count(&mut self)
         ensures rose { Rose self.old self.new }
+        ensures counted { CountsFault self.old self.new true }
         ensures faults { self.old ≤ self.new }
     {
         self.faults = self.faults.saturating_add(1);
@@ -66,6 +67,7 @@ where
         ensures failed { OnErr outcome (result ≡ Did.Failed) }
         ensures faults { self.old ≤ self.new }
         ensures cause { DidFails self.old self.new result }
+        ensures counted { DidCounts self.old self.new result }
     {
         match outcome {
             Ok(()) => Did::Done,
@@ -90,13 +92,21 @@ impl<R: Files + AllocGlobal + Clone + Drop + Send> Folder for DirFolder<R>
 where
     R::File: FileExt + Send,
 {
+    ghost use Rattle.std.specs.Prelude.{◌+◌, length};
+    ghost use Rattle.nsq_outside.specs.Files.{IsWithin, Appends, ListingFails, ListingCounts, IsFileLength, LengthFails, LengthCounts, IsAmountAt, IsReadWithin, ReadAtFails, ReadAtCounts};
+
     ghost tells_files = { false };
 
     ghost files = { λ _ _. None };
 
     ghost folder_faults = { λ folder. folder };
 
-    fn list(&mut self, alloc: Global, names: &mut Vec<String>) -> Listing {
+    fn list(&mut self, alloc: Global, names: &mut Vec<String>) -> Listing
+        ensures kept { Appends names.old.items names.new.items result }
+        ensures faults { self.old ≤ self.new }
+        ensures cause { ListingFails self.old self.new result }
+        ensures counted { ListingCounts self.old self.new result }
+    {
         match self.files.names(alloc) {
             Ok(mut added) => match names.append(&mut added) {
                 Ok(()) => Listing::Done,
@@ -110,7 +120,12 @@ where
         }
     }
 
-    fn len(&mut self, name: &str) -> Length {
+    fn len(&mut self, name: &str) -> Length
+        ensures limit { IsFileLength result }
+        ensures faults { self.old ≤ self.new }
+        ensures cause { LengthFails self.old self.new result }
+        ensures counted { LengthCounts self.old self.new result }
+    {
         match self.files.len(name) {
             Ok(n) if n <= LIMIT => Length::Is(n),
             Err(e) if e.kind() == ErrorKind::NotFound => Length::Absent,
@@ -122,7 +137,13 @@ where
         }
     }
 
-    fn read_at(&mut self, name: &str, at: u64, into: &mut [u8]) -> ReadAt {
+    fn read_at(&mut self, name: &str, at: u64, into: &mut [u8]) -> ReadAt
+        ensures amount { IsAmountAt result (length into.old) }
+        ensures limit { IsReadWithin at result }
+        ensures faults { self.old ≤ self.new }
+        ensures cause { ReadAtFails self.old self.new result }
+        ensures counted { ReadAtCounts self.old self.new result }
+    {
         match self.files.read_at(name, at, into) {
             Ok(n) if n == 0 || at.saturating_add(n as u64) <= LIMIT => ReadAt::Got(n),
             Err(e) if e.kind() == ErrorKind::NotFound => ReadAt::Got(0),
@@ -134,22 +155,40 @@ where
         }
     }
 
-    fn write_at(&mut self, name: &str, at: u64, from: &[u8]) -> Did {
+    fn write_at(&mut self, name: &str, at: u64, from: &[u8]) -> Did
+        ensures limit { IsWithin (at + length from.now) result }
+        ensures faults { self.old ≤ self.new }
+        ensures cause { DidFails self.old self.new result }
+        ensures counted { DidCounts self.old self.new result }
+    {
         let outcome = self.files.write_at(name, at, from);
         self.answer(name, outcome)
     }
 
-    fn cut(&mut self, name: &str, to: u64) -> Did {
+    fn cut(&mut self, name: &str, to: u64) -> Did
+        ensures limit { IsWithin to result }
+        ensures faults { self.old ≤ self.new }
+        ensures cause { DidFails self.old self.new result }
+        ensures counted { DidCounts self.old self.new result }
+    {
         let outcome = self.files.cut(name, to);
         self.answer(name, outcome)
     }
 
-    fn sync(&mut self, name: &str) -> Did {
+    fn sync(&mut self, name: &str) -> Did
+        ensures faults { self.old ≤ self.new }
+        ensures cause { DidFails self.old self.new result }
+        ensures counted { DidCounts self.old self.new result }
+    {
         let outcome = self.files.sync(name);
         self.answer(name, unless_absent(outcome))
     }
 
-    fn sync_names(&mut self) -> Did {
+    fn sync_names(&mut self) -> Did
+        ensures faults { self.old ≤ self.new }
+        ensures cause { DidFails self.old self.new result }
+        ensures counted { DidCounts self.old self.new result }
+    {
         match self.files.sync_names() {
             Ok(()) => Did::Done,
             Err(_) => {
@@ -159,12 +198,20 @@ where
         }
     }
 
-    fn rename(&mut self, from: &str, to: &str) -> Did {
+    fn rename(&mut self, from: &str, to: &str) -> Did
+        ensures faults { self.old ≤ self.new }
+        ensures cause { DidFails self.old self.new result }
+        ensures counted { DidCounts self.old self.new result }
+    {
         let outcome = self.files.rename(from, to);
         self.answer(from, unless_absent(outcome))
     }
 
-    fn remove(&mut self, name: &str) -> Did {
+    fn remove(&mut self, name: &str) -> Did
+        ensures faults { self.old ≤ self.new }
+        ensures cause { DidFails self.old self.new result }
+        ensures counted { DidCounts self.old self.new result }
+    {
         let outcome = self.files.remove(name);
         self.answer(name, unless_absent(outcome))
     }

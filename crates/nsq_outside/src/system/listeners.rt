@@ -1,5 +1,6 @@
-ghost use Rattle.std.specs.Prelude.{◌≡◌, ◌≤◌, IfOk};
-ghost use Rattle.nsq_outside.specs.Hosts.{AcceptFails};
+ghost use Rattle.std.specs.Prelude.{◌≡◌, ◌≤◌, IfOk, is_some};
+ghost use Rattle.nsq_outside.specs.Listeners.{IsHeardStream, IsOfKind};
+ghost use Rattle.nsq_outside.specs.Hosts.{AcceptFails, AcceptCounts};
 
 use crate::system::tcp_conn::TcpConn;
 use crate::{Accept, Kind};
@@ -61,7 +62,7 @@ enum Tried {
 }
 
 impl<N: Net + Clock> Listeners<N> {
-    ghost use Rattle.nsq_outside.specs.Listeners.{accept_faults_of, IsFreshTcpCaller, Speaks, GoesOn};
+    ghost use Rattle.nsq_outside.specs.Listeners.{accept_faults_of, has_http, IsFreshTcpCaller, IsHeard, Speaks, GoesOn};
 
     /// Opens the listeners at these addresses, as `127.0.0.1:4150`. Of a name's addresses it takes the first that can be
     /// bound. The error is that of a name that can't be resolved, of the last address that can't be bound, or another of the
@@ -69,7 +70,8 @@ impl<N: Net + Clock> Listeners<N> {
     pub fn open(rt: N, alloc: Global, tcp: &str, http: Option<&str>) -> io::Result<Listeners<N>>
     where
         N: Drop,
-        ensures { IfOk result (λ listeners. accept_faults_of listeners ≡ 0) }
+        ensures faults { IfOk result (λ listeners. accept_faults_of listeners ≡ 0) }
+        ensures http { IfOk result (λ listeners. has_http listeners ≡ is_some http.entry) }
     {
         let poll = Poll::new(&rt)?;
         let tcp = listen(&rt, &poll, tcp, TCP)?;
@@ -95,8 +97,11 @@ impl<N: Net + Clock> Listeners<N> {
         ensures fresh { IsFreshTcpCaller result }
         ensures speaks { Speaks result }
         ensures goes_on { GoesOn result }
+        ensures heard { IsHeard (has_http self.old) result }
+        ensures http { has_http self.new ≡ has_http self.old }
         ensures faults { accept_faults_of self.old ≤ accept_faults_of self.new }
         ensures cause { AcceptFails (accept_faults_of self.old) (accept_faults_of self.new) result }
+        ensures counted { AcceptCounts (accept_faults_of self.old) (accept_faults_of self.new) result }
     {
         match self.next_caller() {
             Tried::Stream(kind, stream) => {
@@ -123,7 +128,9 @@ impl<N: Net + Clock> Listeners<N> {
     }
 
     /// The address of the listener of HTTP, where there is one.
-    pub fn http_address(&self) -> io::Result<Option<SocketAddr>> {
+    pub fn http_address(&self) -> io::Result<Option<SocketAddr>>
+        ensures { IfOk result (λ address. is_some address ≡ has_http self.now) }
+    {
         match &self.http {
             Some(listener) => Ok(Some(listener.local_addr()?)),
             None => Ok(None),
@@ -132,7 +139,9 @@ impl<N: Net + Clock> Listeners<N> {
 
     /// A caller of either listener, after a wait where nobody called yet.
     fn next_caller(&mut self) -> Tried
-        ensures { accept_faults_of self.new ≡ accept_faults_of self.old }
+        ensures faults { accept_faults_of self.new ≡ accept_faults_of self.old }
+        ensures heard { IsHeardStream (has_http self.old) result }
+        ensures http { has_http self.new ≡ has_http self.old }
     {
         match try_both(&self.tcp, &self.http) {
             Tried::Nobody => {}
@@ -167,7 +176,9 @@ fn bind<N: Net>(rt: &N, address: &str) -> io::Result<TcpListener> {
 }
 
 /// A caller of the first listener, or else of the second.
-fn try_both(tcp: &TcpListener, http: &Option<TcpListener>) -> Tried {
+fn try_both(tcp: &TcpListener, http: &Option<TcpListener>) -> Tried
+    ensures { IsHeardStream (is_some http.now) result }
+{
     match (try_accept(tcp, Kind::Tcp), http) {
         (Tried::Nobody, Some(http)) => try_accept(http, Kind::Http),
         (tried, _) => tried,
@@ -175,7 +186,9 @@ fn try_both(tcp: &TcpListener, http: &Option<TcpListener>) -> Tried {
 }
 
 /// A caller of a listener, if one waits. A caller that was lost before it was accepted is passed over.
-fn try_accept(listener: &TcpListener, kind: Kind) -> Tried {
+fn try_accept(listener: &TcpListener, kind: Kind) -> Tried
+    ensures { IsOfKind kind result }
+{
     for _ in 0..MOST_TRIES {
         match listener.accept() {
             Ok((stream, _)) => return Tried::Stream(kind, TcpStream::from(stream)),

@@ -1,4 +1,4 @@
-ghost use Rattle.std.specs.Prelude.{◌+◌, ◌^◌, ◌≤◌, length, IfOk, OnOk};
+ghost use Rattle.std.specs.Prelude.{◌≡◌, ◌+◌, ◌^◌, ◌≤◌, ◌++◌, ◌∷◌, [], length, IfOk, OnOk, OnErr, string_bytes};
 
 use lru::LruCache;
 use nsq_base::Memory;
@@ -28,7 +28,7 @@ pub struct OpenFiles<R: Files> {
     /// Room for the paths of files, which are written anew at each call.
     path: String,
     new_path: String,
-    open: LruCache<String, R::File>,
+    opened: LruCache<String, R::File>,
 }
 
 impl<R: Files + AllocGlobal + Clone + Drop> OpenFiles<R>
@@ -36,7 +36,10 @@ where
     R::File: FileExt,
 {
     /// The files of the folder at a path. It asks nothing of the system.
-    pub fn new(rt: R, alloc: Global, path: &str) -> Result<OpenFiles<R>, Memory> {
+    pub fn new(rt: R, alloc: Global, path: &str) -> Result<OpenFiles<R>, Memory>
+        ensures path { IfOk result (λ files. string_bytes files.folder ≡ path.now ++ 47 ∷ []) }
+        ensures closed { IfOk result (λ files. files.opened.entries ≡ []) }
+    {
         let mut folder = String::from_str(alloc, path)?;
         folder.push('/')?;
         Ok(OpenFiles {
@@ -45,44 +48,43 @@ where
             folder,
             path: String::new(alloc),
             new_path: String::new(alloc),
-            open: LruCache::new(alloc, NonZeroUsize::new(OPEN_FILES).unwrap())?,
+            opened: LruCache::new(alloc, NonZeroUsize::new(OPEN_FILES).unwrap())?,
         })
     }
 
     /// Opens a file to read and write, which keeps its bytes.
-    fn open(&mut self, name: &str, creates: bool) -> io::Result<()> {
-        if self.open.contains(name) {
+    fn open(&mut self, name: &str, creates: bool) -> io::Result<()>
+        ensures folder { self.new.folder ≡ self.old.folder }
+    {
+        if self.opened.contains(name) {
             return Ok(());
         }
         set_path(&mut self.path, self.folder.as_str(), name)?;
         let mut how = OpenOptions::new();
         how.read(true).write(true).create(creates);
         let file = self.rt.open_file(&how, self.path.as_str())?;
-        self.open.put(String::from_str(self.alloc, name)?, file)?;
+        self.opened.put(String::from_str(self.alloc, name)?, file)?;
         Ok(())
     }
 
     /// Goes to the folder at another path, and closes the files of this one. Without memory nothing changes.
-    pub fn move_to(&mut self, path: &str) -> Result<(), Memory> {
+    pub fn move_to(&mut self, path: &str) -> Result<(), Memory>
+        ensures path { OnOk result (string_bytes self.new.folder ≡ path.now ++ 47 ∷ []) }
+        ensures closed { OnOk result (self.new.opened.entries ≡ []) }
+        ensures err { OnErr result (self.new ≡ self.old) }
+    {
         let mut folder = String::from_str(self.alloc, path)?;
         folder.push('/')?;
-        self.open.clear();
+        self.opened.clear();
         self.folder = folder;
         Ok(())
     }
 
-    /// The file of a name, opened where it isn't open.
-    fn file(&mut self, name: &str, creates: bool) -> io::Result<&R::File> {
-        self.open(name, creates)?;
-        match self.open.get(name) {
-            Some(file) => Ok(file),
-            None => Err(ErrorKind::Other.into()),
-        }
-    }
-
     /// Closes a file, where it's open.
-    pub fn forget(&mut self, name: &str) {
-        let _ = self.open.pop(name);
+    pub fn forget(&mut self, name: &str)
+        ensures folder { self.new.folder ≡ self.old.folder }
+    {
+        let _ = self.opened.pop(name);
     }
 
     /// The names of the regular files.
@@ -102,41 +104,67 @@ where
     }
 
     /// The number of bytes of a file.
-    pub fn len(&mut self, name: &str) -> io::Result<u64> {
-        let about = self.file(name, false)?.metadata()?;
+    pub fn len(&mut self, name: &str) -> io::Result<u64>
+        ensures folder { self.new.folder ≡ self.old.folder }
+    {
+        self.open(name, false)?;
+        let about = opened_file(&mut self.opened, name)?.metadata()?;
         Ok(about.len())
     }
 
     /// Reads the bytes from a place on, as many as fit and stand there.
     pub fn read_at(&mut self, name: &str, at: u64, into: &mut [u8]) -> io::Result<usize>
-        ensures { IfOk result (λ n. n ≤ length into.old) }
+        ensures folder { self.new.folder ≡ self.old.folder }
+        ensures amount { IfOk result (λ n. n ≤ length into.old) }
     {
-        read_whole(self.file(name, false)?, at, into)
+        self.open(name, false)?;
+        read_whole(opened_file(&mut self.opened, name)?, at, into)
     }
 
-    /// Writes bytes at a place, all of them.
+    /// Writes bytes at a place, all of them. The file reaches up to the place, also where there are none.
     pub fn write_at(&mut self, name: &str, at: u64, from: &[u8]) -> io::Result<()>
-        ensures { OnOk result (at + length from.now ≤ 2 ^ 62) }
+        ensures folder { self.new.folder ≡ self.old.folder }
+        ensures limit { OnOk result (at + length from.now ≤ 2 ^ 62) }
     {
         if at > LIMIT || from.len() as u64 > LIMIT - at {
             return Err(ErrorKind::FileTooLarge.into());
         }
-        self.file(name, true)?.write_all_at(from, at)
+        if from.is_empty() {
+            return self.lengthen(name, at);
+        }
+        self.open(name, true)?;
+        opened_file(&mut self.opened, name)?.write_all_at(from, at)
+    }
+
+    /// Gives a file at least a number of bytes, with zeros behind those that it has. It creates an absent file.
+    fn lengthen(&mut self, name: &str, to: u64) -> io::Result<()>
+        ensures folder { self.new.folder ≡ self.old.folder }
+    {
+        self.open(name, true)?;
+        if self.len(name)? < to {
+            self.cut(name, to)?;
+        }
+        Ok(())
     }
 
     /// Gives a file a number of bytes.
     pub fn cut(&mut self, name: &str, to: u64) -> io::Result<()>
-        ensures { OnOk result (to ≤ 2 ^ 62) }
+        ensures folder { self.new.folder ≡ self.old.folder }
+        ensures limit { OnOk result (to ≤ 2 ^ 62) }
     {
         if to > LIMIT {
             return Err(ErrorKind::FileTooLarge.into());
         }
-        self.file(name, true)?.set_len(to)
+        self.open(name, true)?;
+        opened_file(&mut self.opened, name)?.set_len(to)
     }
 
     /// Makes the bytes of a file durable.
-    pub fn sync(&mut self, name: &str) -> io::Result<()> {
-        self.file(name, false)?.sync_all()
+    pub fn sync(&mut self, name: &str) -> io::Result<()>
+        ensures folder { self.new.folder ≡ self.old.folder }
+    {
+        self.open(name, false)?;
+        opened_file(&mut self.opened, name)?.sync_all()
     }
 
     /// Makes the names durable.
@@ -145,7 +173,9 @@ where
     }
 
     /// Gives the file `from` the name `to`.
-    pub fn rename(&mut self, from: &str, to: &str) -> io::Result<()> {
+    pub fn rename(&mut self, from: &str, to: &str) -> io::Result<()>
+        ensures folder { self.new.folder ≡ self.old.folder }
+    {
         self.forget(from);
         self.forget(to);
         set_path(&mut self.path, self.folder.as_str(), from)?;
@@ -154,10 +184,20 @@ where
     }
 
     /// Removes a file.
-    pub fn remove(&mut self, name: &str) -> io::Result<()> {
+    pub fn remove(&mut self, name: &str) -> io::Result<()>
+        ensures folder { self.new.folder ≡ self.old.folder }
+    {
         self.forget(name);
         set_path(&mut self.path, self.folder.as_str(), name)?;
         self.rt.remove_file(self.path.as_str())
+    }
+}
+
+/// A file among those that are open, which it becomes the most recently used of.
+fn opened_file<'a, F>(opened: &'a mut LruCache<String, F>, name: &str) -> io::Result<&'a F> {
+    match opened.get(name) {
+        Some(file) => Ok(file),
+        None => Err(ErrorKind::Other.into()),
     }
 }
 

@@ -1,4 +1,4 @@
-ghost use Rattle.std.specs.Prelude.{false};
+ghost use Rattle.std.specs.Prelude.{◌≡◌, false};
 
 use crate::Clock;
 use std::rt::Clock as SystemClock;
@@ -13,18 +13,26 @@ pub struct SysClock<R: SystemClock> {
 }
 
 impl<R: SystemClock> SysClock<R> {
+    ghost use Rattle.nsq_outside.specs.SysClocks.{last_of};
+
     /// A clock that has given no reading.
-    pub fn new(rt: R) -> SysClock<R> {
+    pub fn new(rt: R) -> SysClock<R>
+        ensures { last_of result ≡ 0 }
+    {
         SysClock { rt, last: 0 }
     }
 }
 
 impl<R: SystemClock + Send> Clock for SysClock<R> {
+    ghost use Rattle.nsq_outside.specs.SysClocks.{last_of};
+
     ghost tells_readings = { false };
 
     ghost coming = { λ _ _. 0 };
 
-    fn now(&mut self) -> u64 {
+    fn now(&mut self) -> u64
+        ensures { result ≡ last_of self.new }
+    {
         if let Ok(time) = self.rt.since_1970() {
             self.last = time.as_nanos().min(u64::MAX as u128) as u64;
         }

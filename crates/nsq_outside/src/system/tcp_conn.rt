@@ -1,4 +1,5 @@
-ghost use Rattle.std.specs.Prelude.{◌≡◌, ◌<◌, ◌≤◌, [], IfOk, length};
+ghost use Rattle.std.specs.Prelude.{◌≡◌, ◌+◌, ◌<◌, ◌≤◌, ◌⊎◌, ◌↔◌, [], true, false, IfOk, IsTrue, length};
+ghost use Rattle.nsq_outside.specs.Frames.{EndsInError, number_at};
 ghost use Rattle.nsq_outside.specs.Causes.{DidFails};
 ghost use Rattle.nsq_outside.specs.Streams.{IsAmountRead, IsAmountWritten, WriteFails};
 
@@ -35,15 +36,19 @@ const STREAM: Token = Token(0);
 /// The bytes at the start of a frame of the TCP protocol that say how long it is.
 const SIZE_LEN: usize = 4;
 
-/// The type of an error frame, the 4 bytes after the size.
-const ERROR_FRAME: [u8; 4] = [0, 0, 0, 1];
+/// The bytes after the size that say what type a frame has.
+const TYPE_LEN: usize = 4;
+
+/// The type of an error frame.
+const ERROR_FRAME: u32 = 1;
 
 /// A TCP connection. It tells no content.
 ///
 /// A connection of `Kind::Tcp` gathers what is written, up to 16 KiB: it is sent when no more fits, at the next read, at
-/// once where an error frame ends it, at `flush`, and when the connection is dropped. So `write` answers `Took` before the
-/// system has the bytes; where they can't be sent later, that call raises the count of write faults, and the next read
-/// answers `Failed`. A connection of `Kind::Http` sends what is written at once.
+/// once where the bytes of one `write` are whole frames that end with an error frame, at `flush`, and when the connection
+/// is dropped. Each write is judged alone: an error frame that comes in two is gathered as any bytes are. So `write`
+/// answers `Took` before the system has the bytes; where they can't be sent later, that call raises the count of write
+/// faults, and the next read answers `Failed`. A connection of `Kind::Http` sends what is written at once.
 ///
 /// A read waits up to 20 ms for bytes, and a send up to 5 s for the peer to take a byte. After a read or a send failed,
 /// nothing is read or sent any more, so that no byte is missing between two that were sent.
@@ -60,15 +65,17 @@ pub struct TcpConn {
     broken: bool,
     read_faults: u64,
     write_faults: u64,
+    ghost bound: { length gathered.items ≤ 16384 },
 }
 
 impl TcpConn {
-    ghost use Rattle.nsq_outside.specs.TcpConns.{IsFreshTcpConn, Gathers, kind_of, gathered_of, ended_of, read_faults_of, write_faults_of};
+    ghost use Rattle.nsq_outside.specs.TcpConns.{IsFreshTcpConn, IsNewTcpConn, IsSameConn, Gathers, TookBreaks, SendsErrors, KeepsOthers, kind_of, gathered_of, ended_of, broken_of, read_faults_of, write_faults_of};
 
     /// A connection over an open stream. The error is the system's, or want of memory; the stream is closed then.
     pub fn new<N: Net>(rt: &N, alloc: Global, stream: TcpStream, kind: Kind) -> io::Result<TcpConn>
         ensures fresh { IfOk result IsFreshTcpConn }
         ensures kind { IfOk result (λ conn. kind_of conn ≡ kind) }
+        ensures unused { IfOk result IsNewTcpConn }
     {
         stream.set_nonblocking(true)?;
         stream.set_nodelay(true)?;
@@ -100,6 +107,11 @@ impl TcpConn {
         ensures read_faults { read_faults_of self.new ≡ read_faults_of self.old }
         ensures faults { write_faults_of self.old ≤ write_faults_of self.new }
         ensures cause { DidFails (write_faults_of self.old) (write_faults_of self.new) result }
+        ensures same { IsSameConn self.old self.new }
+        ensures done { result ≡ Did.Done → broken_of self.new ≡ broken_of self.old }
+        ensures settled { result ≡ Did.Done → write_faults_of self.new ≡ write_faults_of self.old }
+        ensures broken { result ≡ Did.Failed → broken_of self.new ≡ true }
+        ensures breaks { write_faults_of self.old < write_faults_of self.new → broken_of self.new ≡ true }
     {
         if self.gathered.is_empty() {
             return Did::Done;
@@ -114,6 +126,26 @@ impl TcpConn {
         Did::Failed
     }
 
+    /// Makes room for so many bytes more. Where there is too little, what was gathered is sent.
+    fn make_room(&mut self, len: usize) -> Did
+        requires { len ≤ 16384 }
+        ensures room { result ≡ Did.Done → length (gathered_of self.new) + len ≤ 16384 }
+        ensures gathered { (gathered_of self.new ≡ gathered_of self.old) ⊎ (gathered_of self.new ≡ []) }
+        ensures stays { length (gathered_of self.old) + len ≤ 16384 → gathered_of self.new ≡ gathered_of self.old }
+        ensures ended { ended_of self.new ≡ ended_of self.old }
+        ensures read_faults { read_faults_of self.new ≡ read_faults_of self.old }
+        ensures faults { write_faults_of self.old ≤ write_faults_of self.new }
+        ensures cause { DidFails (write_faults_of self.old) (write_faults_of self.new) result }
+        ensures same { IsSameConn self.old self.new }
+        ensures done { result ≡ Did.Done → broken_of self.new ≡ broken_of self.old }
+        ensures settled { result ≡ Did.Done → write_faults_of self.new ≡ write_faults_of self.old }
+    {
+        if len <= MOST_GATHERED - self.gathered.len() {
+            return Did::Done;
+        }
+        self.flush()
+    }
+
     /// Sends what was gathered, and then a part of these bytes from their front.
     fn send_through(&mut self, from: &[u8]) -> Write
         requires { 0 < length from.now }
@@ -123,6 +155,10 @@ impl TcpConn {
         ensures read_faults { read_faults_of self.new ≡ read_faults_of self.old }
         ensures faults { write_faults_of self.old ≤ write_faults_of self.new }
         ensures cause { WriteFails (write_faults_of self.old) (write_faults_of self.new) result }
+        ensures same { IsSameConn self.old self.new }
+        ensures failed { broken_of self.old ≡ true → result ≡ Write.Failed }
+        ensures broken { result ≡ Write.Failed → broken_of self.new ≡ true }
+        ensures took { TookBreaks self.old self.new result }
     {
         if self.flush() == Did::Failed {
             return Write::Failed;
@@ -146,22 +182,27 @@ impl TcpConn {
         ensures read_faults { read_faults_of self.new ≡ read_faults_of self.old }
         ensures faults { write_faults_of self.old ≤ write_faults_of self.new }
         ensures cause { WriteFails (write_faults_of self.old) (write_faults_of self.new) result }
+        ensures same { IsSameConn self.old self.new }
+        ensures failed { broken_of self.old ≡ true → result ≡ Write.Failed }
+        ensures took { TookBreaks self.old self.new result }
+        ensures errors { SendsErrors from.now (gathered_of self.new) result }
+        ensures room { KeepsOthers (gathered_of self.old) (gathered_of self.new) from.now result }
     {
         if MOST_GATHERED < from.len() {
             return self.send_through(from);
         }
-        let room = MOST_GATHERED.saturating_sub(self.gathered.len());
-        if room < from.len() && self.flush() == Did::Failed {
+        if self.make_room(from.len()) == Did::Failed {
             return Write::Failed;
         }
         if self.broken || self.gathered.extend_from_slice(from).is_err() {
             self.write_faults = self.write_faults.saturating_add(1);
             return Write::Failed;
         }
-        if ends_with_error_frame(from) {
-            // A failure shows at the next read: the bytes were taken.
-            let _ = self.flush();
+        if !ends_with_error_frame(from) {
+            return Write::Took(from.len());
         }
+        // A failure shows at the next read: the bytes were taken.
+        let _ = self.flush();
         Write::Took(from.len())
     }
 
@@ -170,6 +211,9 @@ impl TcpConn {
         ensures ended { ended_of self.new ≡ ended_of self.old }
         ensures read_faults { read_faults_of self.new ≡ read_faults_of self.old }
         ensures write_faults { write_faults_of self.new ≡ write_faults_of self.old }
+        ensures gathered { gathered_of self.new ≡ gathered_of self.old }
+        ensures kind { kind_of self.new ≡ kind_of self.old }
+        ensures broken { broken_of self.new ≡ broken_of self.old }
     {
         match self.poll.poll(&mut self.events, Some(most)) {
             Ok(()) => Some(!self.events.is_empty()),
@@ -177,14 +221,21 @@ impl TcpConn {
         }
     }
 
-    /// Receives a piece, after a wait where none has come yet.
+    /// Receives a piece, after a wait where none has come yet. From a broken connection it receives nothing.
     fn receive_or_wait(&mut self, most: Duration, into: &mut [u8]) -> Read
         requires { 0 < length into.old }
         ensures amount { IsAmountRead result (length into.old) }
         ensures ended { ended_of self.new ≡ ended_of self.old }
         ensures read_faults { read_faults_of self.new ≡ read_faults_of self.old }
         ensures write_faults { write_faults_of self.new ≡ write_faults_of self.old }
+        ensures gathered { gathered_of self.new ≡ gathered_of self.old }
+        ensures kind { kind_of self.new ≡ kind_of self.old }
+        ensures broken { broken_of self.new ≡ broken_of self.old }
+        ensures failed { broken_of self.old ≡ true → result ≡ Read.Failed }
     {
+        if self.broken {
+            return Read::Failed;
+        }
         let first = receive(&mut self.stream, into);
         if first != Read::Nothing {
             return first;
@@ -199,7 +250,8 @@ impl TcpConn {
 
 impl Source for TcpConn {
     ghost use Rattle.std.specs.Prelude.{false};
-    ghost use Rattle.nsq_outside.specs.TcpConns.{no_pieces, no_bytes, ended_of, read_faults_of, write_faults_of};
+    ghost use Rattle.nsq_outside.specs.TcpConns.{IsSameConn, no_pieces, no_bytes, gathered_of, broken_of, ended_of, read_faults_of, write_faults_of};
+    ghost use Rattle.nsq_outside.specs.Streams.{IsAmountRead, EndsWith, ReadFails};
 
     ghost tells_pieces = { false };
 
@@ -213,8 +265,21 @@ impl Source for TcpConn {
 
     ghost may_read = { λ a b. write_faults_of a ≤ write_faults_of b };
 
-    fn read<R: Wait>(&mut self, _rt: &R, into: &mut [u8]) -> Read {
-        let flushed = self.flush();
+    fn read<R: Wait>(&mut self, _rt: &R, into: &mut [u8]) -> Read
+        requires { 0 < length into.old }
+        ensures amount { IsAmountRead result (length into.old) }
+        ensures end { EndsWith (ended_of self.old) (ended_of self.new) result }
+        ensures write_faults { write_faults_of self.old ≤ write_faults_of self.new }
+        ensures faults { read_faults_of self.old ≤ read_faults_of self.new }
+        ensures cause { ReadFails (read_faults_of self.old) (read_faults_of self.new) result }
+        ensures gathered { gathered_of self.new ≡ [] }
+        ensures same { IsSameConn self.old self.new }
+        ensures failed { broken_of self.old ≡ true → ended_of self.old ≡ false → result ≡ Read.Failed }
+        ensures lost { write_faults_of self.old < write_faults_of self.new → ended_of self.old ≡ false → result ≡ Read.Failed }
+        ensures broken { result ≡ Read.Failed → broken_of self.new ≡ true }
+    {
+        // Where it fails the connection is broken.
+        let _ = self.flush();
         let most = if self.writes < BUSY_WRITES {
             READ_WAIT
         } else {
@@ -224,11 +289,7 @@ impl Source for TcpConn {
         if self.ended {
             return Read::End;
         }
-        let answer = if flushed == Did::Failed || self.broken {
-            Read::Failed
-        } else {
-            self.receive_or_wait(Duration::from_millis(most), into)
-        };
+        let answer = self.receive_or_wait(Duration::from_millis(most), into);
         match answer {
             Read::End => self.ended = true,
             Read::Failed => {
@@ -243,7 +304,8 @@ impl Source for TcpConn {
 
 impl Sink for TcpConn {
     ghost use Rattle.std.specs.Prelude.{false};
-    ghost use Rattle.nsq_outside.specs.TcpConns.{no_bytes, ended_of, read_faults_of, write_faults_of};
+    ghost use Rattle.nsq_outside.specs.TcpConns.{Gathers, IsSameConn, TookBreaks, SendsErrors, KeepsOthers, no_bytes, kind_of, gathered_of, broken_of, ended_of, read_faults_of, write_faults_of};
+    ghost use Rattle.nsq_outside.specs.Streams.{IsAmountWritten, WriteFails};
 
     ghost tells_written = { false };
 
@@ -253,7 +315,21 @@ impl Sink for TcpConn {
 
     ghost may_write = { λ a b. (ended_of b ≡ ended_of a) × (read_faults_of a ≤ read_faults_of b) };
 
-    fn write<R: Wait>(&mut self, _rt: &R, from: &[u8]) -> Write {
+    fn write<R: Wait>(&mut self, _rt: &R, from: &[u8]) -> Write
+        requires { 0 < length from.now }
+        ensures amount { IsAmountWritten result (length from.now) }
+        ensures ended { ended_of self.new ≡ ended_of self.old }
+        ensures read_faults { read_faults_of self.old ≤ read_faults_of self.new }
+        ensures faults { write_faults_of self.old ≤ write_faults_of self.new }
+        ensures cause { WriteFails (write_faults_of self.old) (write_faults_of self.new) result }
+        ensures gathered { Gathers (gathered_of self.old) (gathered_of self.new) from.now result }
+        ensures at_once { kind_of self.old ≡ Kind.Http → gathered_of self.new ≡ [] }
+        ensures same { IsSameConn self.old self.new }
+        ensures failed { broken_of self.old ≡ true → result ≡ Write.Failed }
+        ensures took { TookBreaks self.old self.new result }
+        ensures errors { SendsErrors from.now (gathered_of self.new) result }
+        ensures room { kind_of self.old ≡ Kind.Tcp → KeepsOthers (gathered_of self.old) (gathered_of self.new) from.now result }
+    {
         self.writes = self.writes.saturating_add(1);
         match self.kind {
             Kind::Tcp => self.gather(from),
@@ -291,17 +367,30 @@ impl Drop for TcpConn {
 
 /// Whether these bytes are frames of the TCP protocol, the last of which is an error frame. A frame is 4 bytes of its
 /// size, most significant first, and so many bytes: 4 of its type, and its data (NSQ's TCP protocol page, "Data Format").
-fn ends_with_error_frame(bytes: &[u8]) -> bool {
+fn ends_with_error_frame(bytes: &[u8]) -> bool
+    ensures ends { EndsInError bytes.now → IsTrue result }
+    ensures only { IsTrue result → EndsInError bytes.now }
+{
     let mut rest = bytes;
-    for _ in 0..bytes.len() {
-        let Some((size, frame)) = rest.split_first_chunk::<SIZE_LEN>() else {
+    while let Some((front, frame)) = rest.split_first_chunk::<SIZE_LEN>() {
+        let size = u32::from_be_bytes(*front) as usize;
+        if frame.len() < size {
             return false;
-        };
-        let size = u32::from_be_bytes(*size) as usize;
-        if frame.len() <= size {
-            return frame.len() == size && frame.starts_with(&ERROR_FRAME);
+        }
+        if frame.len() == size {
+            return is_error(frame);
         }
         rest = &frame[size..];
     }
     false
+}
+
+/// Whether a frame, without its size, is an error frame.
+fn is_error(frame: &[u8]) -> bool
+    ensures { IsTrue result ↔ (4 ≤ length frame.now) × (number_at frame.now ≡ 1) }
+{
+    match frame.split_first_chunk::<TYPE_LEN>() {
+        Some((kind, _)) => u32::from_be_bytes(*kind) == ERROR_FRAME,
+        None => false,
+    }
 }

@@ -35,7 +35,8 @@ impl<N: Net<Stream = TcpStream>> TcpDialer<N> {
 
 impl<N: Net<Stream = TcpStream>> Dialer for TcpDialer<N> {
     ghost use Rattle.std.specs.Prelude.{false};
-    ghost use Rattle.nsq_outside.specs.TcpDialers.{dial_faults_of, no_content};
+    ghost use Rattle.nsq_outside.specs.TcpDialers.{dial_faults_of, no_content, IsFreshTcpLink, SpeaksTcp};
+    ghost use Rattle.nsq_outside.specs.Hosts.{LinkFails, LinkCounts};
 
     type Conn = TcpConn;
 
@@ -47,7 +48,13 @@ impl<N: Net<Stream = TcpStream>> Dialer for TcpDialer<N> {
 
     ghost may_dial = { λ a b. dial_faults_of a ≤ dial_faults_of b };
 
-    fn dial<R: Wait>(&mut self, _rt: &R, address: &str) -> Dialled<TcpConn> {
+    fn dial<R: Wait>(&mut self, _rt: &R, address: &str) -> Dialled<TcpConn>
+        ensures fresh { IsFreshTcpLink result }
+        ensures speaks { SpeaksTcp result }
+        ensures faults { dial_faults_of self.old ≤ dial_faults_of self.new }
+        ensures cause { LinkFails (dial_faults_of self.old) (dial_faults_of self.new) result }
+        ensures counted { LinkCounts (dial_faults_of self.old) (dial_faults_of self.new) result }
+    {
         if let Some(stream) = connect(&self.rt, address) {
             if let Ok(conn) = TcpConn::new(&self.rt, self.alloc, stream, Kind::Tcp) {
                 return Dialled::Linked(conn);

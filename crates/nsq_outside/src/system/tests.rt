@@ -8,6 +8,10 @@ const NAMES: &str = "nsq_outside_names";
 
 const ERRORS: &str = "nsq_outside_errors";
 
+const LEFT: &str = "nsq_outside_left";
+
+const MOVED: &str = "nsq_outside_moved";
+
 #[test]
 fn files_of_a_folder(rt: HostRuntime) -> Result<(), Fail> {
     let alloc = rt.alloc();
@@ -20,6 +24,12 @@ fn files_of_a_folder(rt: HostRuntime) -> Result<(), Fail> {
     let mut into = [b'-'; 6];
     assert_eq!(rt; folder.read_at("a", 1, &mut into), ReadAt::Got(4));
     assert_eq!(rt; into, *b"\0one--");
+    assert_eq!(rt; folder.write_at("a", 7, b""), Did::Done);
+    assert_eq!(rt; folder.len("a"), Length::Is(7));
+    assert_eq!(rt; folder.write_at("a", 6, b""), Did::Done);
+    assert_eq!(rt; folder.len("a"), Length::Is(7));
+    assert_eq!(rt; folder.write_at("empty", 0, b""), Did::Done);
+    assert_eq!(rt; folder.len("empty"), Length::Is(0));
     assert_eq!(rt; folder.cut("a", 3), Did::Done);
     assert_eq!(rt; folder.sync("a"), Did::Done);
     assert_eq!(rt; folder.rename("a", "b"), Did::Done);
@@ -64,6 +74,29 @@ fn errors_of_a_folder(rt: HostRuntime) -> Result<(), Fail> {
     let mut names = Vec::new(alloc);
     assert_eq!(rt; folder.list(alloc, &mut names), Listing::Failed);
     assert_eq!(rt; folder.sync_names(), Did::Failed);
+    Ok(())
+}
+
+#[test]
+fn another_folder(rt: HostRuntime) -> Result<(), Fail> {
+    let alloc = rt.alloc();
+    let _ = fs::remove_dir_all(&rt, LEFT);
+    let _ = fs::remove_dir_all(&rt, MOVED);
+    fs::create_dir(&rt, LEFT)?;
+    fs::create_dir(&rt, MOVED)?;
+    let mut folder = DirFolder::new(rt.clone()?, alloc, LEFT)?;
+    assert_eq!(rt; folder.write_at("a", 0, b"left"), Did::Done);
+    folder.move_to(MOVED)?;
+    assert_eq!(rt; folder.len("a"), Length::Absent);
+    assert_eq!(rt; folder.write_at("a", 0, b"here"), Did::Done);
+    let mut into = [0u8; 4];
+    assert_eq!(rt; folder.read_at("a", 0, &mut into), ReadAt::Got(4));
+    assert_eq!(rt; into, *b"here");
+    fs::remove_dir_all(&rt, MOVED)?;
+    folder.move_to(LEFT)?;
+    assert_eq!(rt; folder.read_at("a", 0, &mut into), ReadAt::Got(4));
+    assert_eq!(rt; into, *b"left");
+    fs::remove_dir_all(&rt, LEFT)?;
     Ok(())
 }
 

@@ -1,0 +1,30 @@
+-- What clauses see of a folder in memory.
+use Rattle.std.specs.Prelude.{ℕ, List}
+use Rattle.std.specs.List.{Any}
+use Rattle.nsq_outside.specs.Files.{Files}
+use Rattle.nsq_outside.specs.MemFiles.{files_of}
+use Rattle.nsq_outside.specs.Failings.{Hits}
+use Rattle.nsq_outside.specs.declared.mem.folder_calls.FolderCall.{FolderCall}
+use Rattle.nsq_outside.specs.declared.mem.folder_calls.Failing.{Failing}
+use Rattle.nsq_outside.specs.declared.mem.folder_calls.Counts.{Counts}
+use Rattle.nsq_outside.specs.declared.mem.folder.MemFolder.{MemFolder}
+
+-- the bytes of the file of a name, where there is one
+abbrev pub files_in : MemFolder → Files
+files_in folder = files_of folder.files
+
+-- the calls that fail
+abbrev pub fails_of : MemFolder → List Failing
+fails_of folder = folder.fails.items
+
+-- how many calls of each method were made, and of all
+abbrev pub counts_of : MemFolder → Counts
+counts_of folder = folder.counts
+
+-- how often a call failed
+abbrev pub faults_of : MemFolder → ℕ
+faults_of folder = folder.faults
+
+-- the next call of a method is among those that fail
+abbrev pub IsRefused : MemFolder → FolderCall → Type 0
+IsRefused folder call = Any (Hits (counts_of folder) call) (fails_of folder)

@@ -1,0 +1,5 @@
+pub mod WrittenBytes
+pub mod Kept
+pub mod FileSteps
+pub mod Saves
+pub mod Others

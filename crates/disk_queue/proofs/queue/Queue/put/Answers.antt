@@ -1,0 +1,30 @@
+use Rattle.std.proofs.Common.{subst, [], ◌∷◌, length}
+use Rattle.disk_queue.specs.Holding.{OwnChange}
+use Rattle.disk_queue.specs.Parts.{OnlySaveChanges}
+use Rattle.disk_queue.proofs.Kept.{own_join}
+use Rattle.disk_queue.proofs.Saves.{put_changes}
+use Rattle.disk_queue.proofs.queue.Queue.put.Goals as goal
+
+pub returns-in-Fault-clause-list : goal.returns-in-Fault-clause-list
+returns-in-Fault-clause-list g c = λ told bodies. c.in-Fault.ensures.list told bodies []
+
+pub returns-clause-list : goal.returns-clause-list
+returns-clause-list g c = λ told bodies h. c.commit.ensures.list told bodies (c.args.bytes.now ∷ []) (c.in-Staged.ensures.list told bodies [] h)
+
+pub returns-clause-kept : goal.returns-clause-kept
+returns-clause-kept g c = λ told bodies h. c.commit.ensures.kept told bodies (c.args.bytes.now ∷ []) (c.in-Staged.ensures.list told bodies [] h)
+
+pub returns-clause-others : goal.returns-clause-others
+returns-clause-others g c = λ told.
+    let old = g.F.Folder.files c.args.folder.now in
+    let mid = g.F.Folder.files c.stage.new.folder in
+    let new = g.F.Folder.files c.commit.new.folder in
+    own_join c.args.self.now.name old mid new (c.in-Staged.ensures.others told) (subst (λ q. OwnChange q.name mid new) c.in-Staged.ensures.seen (c.commit.ensures.others told))
+
+pub returns-clause-files : goal.returns-clause-files
+returns-clause-files g c = λ told.
+    let old = g.F.Folder.files c.args.folder.now in
+    let mid = g.F.Folder.files c.stage.new.folder in
+    let new = g.F.Folder.files c.commit.new.folder in
+    put_changes c.args.self.now (length c.args.bytes.now) c.commit.result old mid new (c.in-Staged.ensures.files told)
+    (subst (λ q. OnlySaveChanges q mid new) c.in-Staged.ensures.seen (c.commit.ensures.files told))

@@ -1,0 +1,25 @@
+use Rattle.std.proofs.Common.{subst, sym, ◌<◌, ◌^◌}
+use Rattle.nsq_outside.specs.declared.did.Did.TheVariants.{Done, Failed}
+use Rattle.disk_queue.proofs.Kept.{through, through_staged, cut_kept, cut_turns}
+use Rattle.disk_queue.proofs.queue.Queue.roll.Goals as goal
+
+pub returns-in-Failed-clause-list : goal.returns-in-Failed-clause-list
+returns-in-Failed-clause-list g c = λ told bodies waiting.
+    let old = g.F.Folder.files c.args.folder.now in
+    let new = g.F.Folder.files c.roll.new.folder in
+    through _ _ old new bodies bodies waiting waiting c.self.view_is
+    (cut_kept _ old new Failed bodies waiting c.self.invariant.staged_file (c.in-Failed.ensures.ended told) (c.in-Failed.ensures.others told))
+
+pub returns-clause-list : goal.returns-clause-list
+returns-clause-list g c = λ told bodies waiting.
+    let old = g.F.Folder.files c.args.folder.now in
+    let new = g.F.Folder.files c.roll.new.folder in
+    through _ _ old new bodies bodies waiting waiting c.self.view_is
+    (cut_kept _ old new Done bodies waiting c.self.invariant.staged_file (c.in-Done.ensures.ended told) (c.in-Done.ensures.others told))
+
+pub returns-clause-ready : goal.returns-clause-ready
+returns-clause-ready g c = λ told bodies waiting.
+    let old = g.F.Folder.files c.args.folder.now in
+    let new = g.F.Folder.files c.roll.new.folder in
+    through_staged _ _ _ old new bodies waiting c.self.view_is
+    (cut_turns _ old new bodies waiting (subst (λ q. q.staged.file < 2 ^ 40) (sym c.self.view_is) c.requires) (c.in-Done.ensures.ended told) (c.in-Done.ensures.others told))

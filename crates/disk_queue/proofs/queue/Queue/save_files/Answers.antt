@@ -1,0 +1,12 @@
+use Rattle.std.proofs.Common.{subst}
+use Rattle.disk_queue.specs.Parts.{OnlyNumbersChange}
+use Rattle.disk_queue.proofs.Saves.{rewritten}
+use Rattle.disk_queue.proofs.queue.Queue.save_files.Goals as goal
+
+pub returns-clause-metadata : goal.returns-clause-metadata
+returns-clause-metadata g c = λ told.
+    let old = g.F.Folder.files c.args.folder.now in
+    let mid = g.F.Folder.files c.save.new.folder in
+    let new = g.F.Folder.files c.remove.new.folder in
+    let removed = subst (λ name. OnlyNumbersChange name mid new c.self.inside.saved.positions.read_file c.self.inside.positions.read_file) c.in-Done.ensures.name (c.remove.ensures.others told) in
+    rewritten _ c.args.self.now old mid new c.remove.result c.self.view_is c.self.invariant.range.read_file (c.in-Done.ensures.metadata told) removed

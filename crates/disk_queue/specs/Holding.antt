@@ -1,0 +1,45 @@
+-- What the files of a queue hold.
+use Rattle.std.specs.Prelude.{ℕ, ◌≡◌, ◌^◌, ◌<◌, ◌≤◌, ◌⊎◌, List, Option, Some, None, length, IsTrue}
+use Rattle.nsq_outside.specs.Files.{Files}
+use Rattle.queue_image.specs.Places.{IsAtEnd}
+use Rattle.queue_image.specs.Metas.{IsMeta}
+use Rattle.queue_image.specs.Between.{Between}
+use Rattle.queue_image.specs.FileNames.{data_file, meta_file, IsOwnFile}
+use Rattle.queue_image.specs.declared.positions.Positions.{Positions}
+use Rattle.disk_queue.specs.Seen.{Seen}
+
+-- from where the list ends to where the staged records end
+abbrev pub staged_part : Seen → Positions
+staged_part q = record { read_file = q.positions.write_file; read_at = q.positions.write_at; write_file = q.staged.file; write_at = q.staged.at }
+
+-- the files hold the queue's list, as many records as its depth, and behind it the staged records; the numbers of these files are in
+-- range
+pub record Holds (q : Seen) (files : Files) (bodies waiting : List (List ℕ)) : Type 0 where
+  pub list : Between q.options.least q.options.limit files q.name q.positions bodies
+  pub depth : length bodies ≡ q.depth
+  pub staged : Between q.options.least q.options.limit files q.name (staged_part q) waiting
+  pub count : length waiting ≡ q.staged.count
+  pub within : q.staged.file ≤ 2 ^ 40
+
+-- a file is metadata that says these positions
+pub record Says (file : Option (List ℕ)) (p : Positions) : Type 0 where
+  pub text : List ℕ
+  pub depth : ℕ
+  pub there : file ≡ Some text
+  pub is : IsMeta text (record { depth = depth; positions = p })
+
+-- there is no metadata, or one with two equal positions: an opening finds an empty list
+abbrev pub IsIdle : Option (List ℕ) → Type 0
+IsIdle file = (file ≡ None) ⊎ ((p : Positions) × Says file p × IsAtEnd p)
+
+-- what the last save left still stands. Where none failed since the last finished one, the metadata says that one's positions; where
+-- none was made, it is idle. The data files below the file that was read at the last finished one are gone
+pub record SaveStands (q : Seen) (files : Files) : Type 0 where
+  pub saved : IsTrue q.saved.finished → ¬ IsTrue q.saved.failed → Says (files (meta_file q.name)) q.saved.positions
+  pub unsaved : ¬ IsTrue q.saved.finished → ¬ IsTrue q.saved.failed → IsIdle (files (meta_file q.name))
+  pub within : q.saved.positions.read_file ≤ 2 ^ 40
+  pub removed : (k : ℕ) → k < q.saved.positions.read_file → files (data_file q.name k) ≡ None
+
+-- no file changes but those that the queue of that name reads and writes
+abbrev pub OwnChange : List ℕ → Files → Files → Type 0
+OwnChange name old new = (file : List ℕ) → ¬ IsOwnFile name file → new file ≡ old file

@@ -1,0 +1,5 @@
+pub mod Rising
+pub mod Listing
+pub mod Soundness
+pub mod Calls
+pub mod Taking

@@ -1,0 +1,19 @@
+use Rattle.std.proofs.Common.{◌≡◌, ◌<◌, length}
+use Rattle.due_heap.specs.Layout.{Matched, IsHeapBut, AboveChildren, Moved}
+use Rattle.due_heap.proofs.Rising.{Climbed}
+use Rattle.due_heap.proofs.order.rise.Given as goal
+
+abbrev pub invariant-loop-j : goal.invariant-loop-j
+invariant-loop-j g l =
+    record {
+      matched : Matched l.order l.places;
+      long : length l.order ≡ length l.fn.order;
+      in_range : l.j < l.n;
+      but : IsHeapBut l.order l.n l.j;
+      above : AboveChildren l.order l.n l.j l.j;
+      moved : Moved l.n l.fn.order l.fn.places l.order l.places;
+      steps : Climbed l.n l.fn.steps l.steps l.j;
+    }
+
+abbrev pub decreases-loop-j : goal.decreases-loop-j
+decreases-loop-j g l = l.j

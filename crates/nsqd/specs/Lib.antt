@@ -1,1 +1,6 @@
+pub mod SysHosts
 pub mod Words
+pub mod Served
+pub mod Went
+pub mod Endings
+pub mod Runs

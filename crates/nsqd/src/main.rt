@@ -1,25 +1,36 @@
-//! The message daemon. So far it judges its words and says its version.
+//! The message daemon. It takes what clients publish by the V2 protocol, and a clean stop leaves the messages in its folder.
 #![tactic(auto)]
 
+mod callers;
+mod ending;
+mod host;
+mod run;
 mod words;
 
+use ending::{Ending, status};
+use host::SysHost;
+use run::{close, nsqd_run};
+use std::env;
 use std::process::ExitCode;
-use std::{env, io};
-use words::Request;
 
-fn main(rt: HostRuntime) -> io::Result<ExitCode> {
-    let request = match env::args(&rt) {
-        Ok(words) => words::request_of(&words.collect::<Vec<String>>(rt.alloc())?),
-        Err(_) => Request::Unknown,
+fn main(rt: HostRuntime) -> ExitCode {
+    let alloc = rt.alloc();
+    let own: Result<_, _> = rt.clone();
+    let Ok(own) = own else {
+        return ExitCode::from(status(Ending::Memory));
     };
-    match request {
-        Request::Version => {
-            println!(rt; "nsqd 1.0.0")?;
-            Ok(ExitCode::SUCCESS)
-        }
-        Request::Unknown => {
-            eprintln!(rt; "nsqd: bad options")?;
-            Ok(ExitCode::from(1))
-        }
-    }
+    let Ok(mut host) = SysHost::new(own, alloc) else {
+        return ExitCode::from(status(Ending::Memory));
+    };
+    let status = match env::args(&rt) {
+        Ok(words) => match words.collect::<Vec<String>>(alloc) {
+            Ok(words) => nsqd_run(&rt, alloc, &words, &mut host),
+            Err(_) => close(&rt, &mut host, Ending::Memory),
+        },
+        Err(_) => close(&rt, &mut host, Ending::BadOptions),
+    };
+    ExitCode::from(status)
 }
+
+#[cfg(test)]
+mod tests;

@@ -1,0 +1,88 @@
+ghost use Rattle.std.specs.Prelude.{◌≡◌, ◌≤◌};
+ghost use Rattle.data_path.specs.Closings.{ShutFails, shut_end};
+
+use crate::names::write_names;
+use crate::opening::{NAMES, NAMES_TEMP};
+use broker_core::{Entry, Floor, Flushed};
+use nsq_base::Memory;
+use nsq_outside::{Clock, Did, Folder, Journal, Kit};
+use std::alloc::Global;
+
+/// The most bytes that the file of names has.
+const LONGEST_NAMES: usize = 1 << 24;
+
+/// How a floor was shut.
+#[derive(Clone, Copy, Debug, PartialEq, Eq)]
+pub enum ShutEnd {
+    /// All that was left is in the folder, durably.
+    Clean,
+    /// The folder failed, and its count of faults rose in this call.
+    Fault,
+    /// Want of memory for the text of the file of names.
+    Memory,
+}
+
+/// Writes the messages that are left into the queues' files, then the file of the durable names, and gives the kit back. The
+/// messages take no memory. Clock and journal are as they were.
+pub fn shut<F: Folder, C: Clock, J: Journal<Entry>>(
+    alloc: Global,
+    floor: Floor<F, C, J>,
+) -> (ShutEnd, Kit<F, C, J>)
+    ensures clock { result.1.clock ≡ floor.clock }
+    ensures journal { result.1.journal ≡ floor.journal }
+    ensures faults { F.folder_faults floor.folder ≤ F.folder_faults result.1.folder }
+    ensures cause { ShutFails (F.folder_faults floor.folder) (F.folder_faults result.1.folder) result.0 }
+{
+    let mut floor = floor;
+    let end = write_down(alloc, &mut floor);
+    (end, floor.end())
+}
+
+/// Writes the messages that are left, then the names. A fault of the one doesn't keep the other from being written.
+fn write_down<F: Folder, C: Clock, J: Journal<Entry>>(
+    alloc: Global,
+    floor: &mut Floor<F, C, J>,
+) -> ShutEnd
+    ensures clock { floor.new.clock ≡ floor.old.clock }
+    ensures journal { floor.new.journal ≡ floor.old.journal }
+    ensures faults { F.folder_faults floor.old.folder ≤ F.folder_faults floor.new.folder }
+    ensures cause { ShutFails (F.folder_faults floor.old.folder) (F.folder_faults floor.new.folder) result }
+{
+    let flushed = floor.flush();
+    let saved = save(alloc, floor);
+    end_of(saved, flushed)
+}
+
+/// Writes the file of the durable names.
+fn save<F: Folder, C: Clock, J: Journal<Entry>>(
+    alloc: Global,
+    floor: &mut Floor<F, C, J>,
+) -> ShutEnd
+    ensures clock { floor.new.clock ≡ floor.old.clock }
+    ensures journal { floor.new.journal ≡ floor.old.journal }
+    ensures faults { F.folder_faults floor.old.folder ≤ F.folder_faults floor.new.folder }
+    ensures cause { ShutFails (F.folder_faults floor.old.folder) (F.folder_faults floor.new.folder) result }
+{
+    let Ok(kept) = floor.kept(alloc) else {
+        return ShutEnd::Memory;
+    };
+    let mut text = Vec::new(alloc);
+    if write_names(alloc, floor.epoch(), &kept, &mut text).is_err() || text.len() > LONGEST_NAMES {
+        return ShutEnd::Memory;
+    }
+    match floor.store(NAMES, NAMES_TEMP, &text) {
+        Did::Done => ShutEnd::Clean,
+        Did::Failed => ShutEnd::Fault,
+    }
+}
+
+/// How a floor is shut whose names were saved so, and whose messages were written so.
+fn end_of(saved: ShutEnd, flushed: Flushed) -> ShutEnd
+    ensures { result ≡ shut_end saved flushed }
+{
+    match (saved, flushed) {
+        (ShutEnd::Memory, _) => ShutEnd::Memory,
+        (ShutEnd::Fault, _) | (ShutEnd::Clean, Flushed::Fault) => ShutEnd::Fault,
+        (ShutEnd::Clean, Flushed::Done) => ShutEnd::Clean,
+    }
+}

@@ -1,0 +1,3 @@
+pub mod Serving
+pub mod Going
+pub mod Running

@@ -1,0 +1,52 @@
+use Rattle.std.proofs.Common.{rules, arith, refl, sym, subst, ◌≡◌, ◌∙◌, ap, ◌+◌}
+use Rattle.nsq_outside.specs.Hosts.{HostContent, OnlyAcceptFaults}
+use Rattle.nsqd.specs.Served.{UpTo}
+use Rattle.nsqd.proofs.Serving.{nothing_yet, up_to_more, next_served, still_served, at_first, accepted_then, caller_changes}
+use Rattle.nsqd.proofs.Going.{went_nowhere, went_on}
+use Rattle.nsqd.proofs.callers.serve_callers.Goals as goal
+
+pub callers-init : goal.callers-init
+callers-init g c = record {
+  went = went_nowhere _ _ _ _;
+  up_to = λ told. subst (λ x. UpTo 0 x) (sym (c.requires.empty told)) tt;
+  served = λ told. at_first _ _ _ _ (c.requires.empty told.3);
+  rest = λ told. record { starts = refl; printed = refl; lines = refl };
+  state = (omega arith, refl);
+}
+
+pub serve_caller-requires-clause-new : goal.serve_caller-requires-clause-new
+serve_caller-requires-clause-new g c κs within = λ told.
+    nothing_yet c.callers.number (c.callers.number + 1) (g.H.Journal.Journal.notes c.callers.floor.journal) (c.callers.invariant.up_to told) (omega arith)
+
+pub callers-preserved-in-Caller : goal.callers-preserved-in-Caller
+callers-preserved-in-Caller g c =
+    let n = c.callers.number in
+    let was = c.callers.invariant in
+    let before = g.H.Journal.Journal.notes c.callers.floor.journal in
+    let after = g.H.Journal.Journal.notes c.serve_caller.new.floor.journal in
+    record {
+      went = went_on _ _ _ (n + 1) _ _ _ was.went c.serve_caller.ensures.leads;
+      up_to = λ told.
+          let from = c.requires.stands told in
+          let there = was.went.legal told from.0 from.1 in
+          let led = c.serve_caller.ensures.leads.legal told there.to there.stands in
+          up_to_more n (n + 1) (n + 1) before after led.added led.whole (omega arith) (omega arith) (was.up_to told) led.of;
+      served = λ told.
+          let from = c.requires.stands told.3 in
+          let there = was.went.legal told.3 from.0 from.1 in
+          let led = c.serve_caller.ensures.leads.legal told.3 there.to there.stands in
+          next_served _ _ g.H.Conn.Source.left n before after led.added (g.H.Host.content c.args.host.now) (g.H.Host.content c.callers.host) (g.H.Host.content c.accept.new.self) (g.H.Host.content c.done.new.self)
+          c.in-Caller.kind c.in-Caller.conn c.serve_caller.new.conn (was.served told) (c.in-Caller.ensures.content told.0) (c.done.ensures.content told.0) led.whole led.of
+          (c.serve_caller.ensures.served told.1 told.2 told.3 c.in-Caller.ensures.fresh);
+      rest = λ told. caller_changes g.H.Conn.Source.left (g.H.Host.content c.args.host.now) (g.H.Host.content c.callers.host) (g.H.Host.content c.accept.new.self) (g.H.Host.content c.done.new.self) c.in-Caller.kind c.in-Caller.conn _
+          (was.rest told) (c.in-Caller.ensures.content told) (c.done.ensures.content told);
+      state = accepted_then _ _ _ was.state (subst (λ x. OnlyAcceptFaults (g.H.Host.state c.callers.host) x) (sym c.done.ensures.state) c.accept.ensures.state);
+    }
+
+pub returns-in-Halt-clause-served : goal.returns-in-Halt-clause-served
+returns-in-Halt-clause-served g c = λ told.
+    let halted = (c.in-Halt.ensures.content told.0).1 in (
+      c.callers.number,
+      still_served _ _ c.callers.number (g.H.Journal.Journal.notes c.callers.floor.journal) (g.H.Host.content c.args.host.now) (g.H.Host.content c.callers.host) (g.H.Host.content c.accept.new.self) (c.callers.invariant.served told)
+          (ap (λ (x : HostContent _). x.coming) halted) (ap (λ (x : HostContent _). x.given) halted) (ap (λ (x : HostContent _). x.back) halted),
+    )

@@ -1,0 +1,77 @@
+-- What is said of the callers that a run served.
+use Rattle.std.specs.Prelude.{◌≡◌, ℕ, ◌+◌, ◌≤◌, Bool, IsTrue, List, [], ◌∷◌, ◌++◌, length, map}
+use Rattle.nsq_outside.specs.Hosts.{HostContent}
+use Rattle.nsq_outside.specs.declared.host.Kind.{Kind}
+use Rattle.nsq_outside.specs.declared.host.Kind.TheVariants.{Tcp, Http}
+use Rattle.v2_frame.specs.declared.fault.Limits.{Limits}
+use Rattle.history.specs.declared.entry.Ended.{Ended}
+use Rattle.history.specs.Legal.{History}
+use Rattle.history.specs.Talk.{IsTalkIn, Allows, own, bytes_of}
+
+-- what is seen of a connection: the pieces read, the bytes still to come, whether it ended, the bytes written, and how often a read and a write failed
+pub record Views (K : Type 0) : Type 0 where
+  pub pieces : K → List (List ℕ)
+  pub left : K → List ℕ
+  pub ended : K → Bool
+  pub written : K → List ℕ
+  pub read_faults : K → ℕ
+  pub write_faults : K → ℕ
+
+-- these views
+abbrev pub views : {K : Type 0} → (K → List (List ℕ)) → (K → List ℕ) → (K → Bool) → (K → List ℕ) → (K → ℕ) → (K → ℕ) → Views K
+views pieces left ended written read_faults write_faults =
+    record { pieces = pieces; left = left; ended = ended; written = written; read_faults = read_faults; write_faults = write_faults }
+
+-- host, connections and journal tell their content
+abbrev pub AllTell : (host pieces written notes : Bool) → Type 0
+AllTell host pieces written notes = IsTrue host × IsTrue pieces × IsTrue written × IsTrue notes
+
+-- a caller of the TCP protocol was served: what it sent, its entries and what it got are a conversation, with an ending that has its cause; what it sent is from the bytes that it had
+pub record IsServedTcp {K : Type 0} (seen : Views K) (limits : Limits) (h : History) (number : ℕ) (bytes : List ℕ) (conn : K) : Type 0 where
+  pub ended : Ended
+  pub talk : IsTalkIn limits number h (seen.pieces conn) (seen.written conn) ended
+  pub cause : Allows ended (seen.ended conn) (seen.read_faults conn) (seen.write_faults conn)
+  pub stream : bytes_of (seen.pieces conn) ++ seen.left conn ≡ bytes
+
+-- a caller of HTTP was handed back as it came, and has no entry
+pub record IsUntouched {K : Type 0} (seen : Views K) (h : History) (number : ℕ) (bytes : List ℕ) (conn : K) : Type 0 where
+  pub no_entry : own number h ≡ []
+  pub nothing_read : seen.pieces conn ≡ []
+  pub nothing_written : seen.written conn ≡ []
+  pub no_read_fault : seen.read_faults conn ≡ 0
+  pub no_write_fault : seen.write_faults conn ≡ 0
+  pub stream : seen.left conn ≡ bytes
+
+-- a caller was served as its kind asks
+abbrev pub IsServed : {K : Type 0} → Views K → Limits → History → (number : ℕ) → Kind → (bytes : List ℕ) → K → Type 0
+IsServed seen limits h number Tcp bytes conn = IsServedTcp seen limits h number bytes conn
+IsServed seen limits h number Http bytes conn = IsUntouched seen h number bytes conn
+
+-- each of these callers, with the bytes that it had, was served and handed back, once, in their order, under its number, from the first number on
+abbrev pub AreServed : {K : Type 0} → Views K → Limits → History → (first : ℕ) → List (Kind × List ℕ) → List (ℕ × K) → Type 0
+AreServed seen limits h first [] [] = Unit {0}
+AreServed seen limits h first [] (x ∷ xs) = ⊥
+AreServed seen limits h first (c ∷ cs) [] = ⊥
+AreServed seen limits h first (c ∷ cs) (x ∷ xs) = (x.0 ≡ first) × IsServed seen limits h first c.0 c.1 x.1 × AreServed seen limits h (first + 1) cs xs
+
+-- no entry has a number above this one
+abbrev pub UpTo : ℕ → History → Type 0
+UpTo n [] = Unit {0}
+UpTo n (e ∷ h) = (e.0.conn ≤ n) × UpTo n h
+
+-- between two contents of a host so many callers were given, each was served and handed back, and the history has no entry of a number above theirs
+pub record HasServed {K : Type 0} (seen : Views K) (limits : Limits) (number : ℕ) (h : History) (old new : HostContent K) : Type 0 where
+  pub callers : List (Kind × List ℕ)
+  pub back : List (ℕ × K)
+  pub count : length callers ≡ number
+  pub came : old.coming ≡ callers ++ new.coming
+  pub given : new.given ≡ old.given ++ map (λ (c : Kind × List ℕ). c.0) callers
+  pub returned : new.back ≡ old.back ++ back
+  pub served : AreServed seen limits h 1 callers back
+  pub up_to : UpTo number h
+
+-- nothing but the callers changed: what was asked, printed and told is as it was
+pub record OnlyCallersChange {K : Type 0} (old new : HostContent K) : Type 0 where
+  pub starts : new.starts ≡ old.starts
+  pub printed : new.printed ≡ old.printed
+  pub lines : new.lines ≡ old.lines

@@ -1,0 +1,42 @@
+-- What clauses see of the host that is the real machine. `F` and `D` are the types of the files and folders that its runtime opens.
+use Rattle.std.specs.Prelude.{ℕ, ◌≡◌, Bool, [], true, false, IsSome}
+use Rattle.history.specs.declared.entry.Entry.{Entry}
+use Rattle.nsq_outside.specs.Hosts.{DialerContent, HostContent, HostState}
+use Rattle.nsq_outside.specs.TcpDialers.{dial_faults_of as dial_faults_in}
+use Rattle.nsq_outside.specs.declared.host.Accept.{Accept}
+use Rattle.nsq_outside.specs.declared.host.Accept.TheVariants.{Caller, Nothing, Halt, Failed}
+use Rattle.nsq_outside.specs.declared.mem.journal.Forgetful.{Forgetful}
+use Rattle.nsq_outside.specs.declared.system.sys_clock.SysClock.{SysClock}
+use Rattle.nsq_outside.specs.declared.system.tcp_conn.TcpConn.{TcpConn}
+use Rattle.nsqd.specs.declared.host.SysHost.{SysHost}
+
+-- it doesn't tell what it was asked, gave, took back and was told
+abbrev pub no_content : {N F D : Type 0} → SysHost N F D → HostContent TcpConn
+no_content host = record { starts = []; coming = []; given = []; halted = false; back = []; printed = []; lines = [] }
+
+-- it doesn't tell what was dialled
+abbrev pub no_dials : {N F D : Type 0} → SysHost N F D → DialerContent
+no_dials host = record { asked = []; linked = []; coming = [] }
+
+-- its kit, and its counts of faults; callers get no threads
+abbrev pub state_of : {N F D : Type 0} → SysHost N F D → HostState ℕ (SysClock N) (Forgetful Entry)
+state_of host = record { kit = host.kit; beside = false; accept_faults = host.accept_faults; print_faults = host.print_faults; tell_faults = host.tell_faults }
+
+-- how often a dial failed
+abbrev pub dial_faults_of : {N F D : Type 0} → SysHost N F D → ℕ
+dial_faults_of host = dial_faults_in host.dialer
+
+-- its kit is at home, and nothing failed yet
+abbrev pub IsAtHome : {F C J : Type 0} → HostState F C J → Type 0
+IsAtHome state = (IsSome state.kit) × (state.accept_faults ≡ 0) × (state.print_faults ≡ 0) × (state.tell_faults ≡ 0)
+
+-- whether it gave its one caller
+abbrev pub has_called : {N F D : Type 0} → SysHost N F D → Bool
+has_called host = host.has_called
+
+-- a caller comes only where none came before; nobody will call any more exactly where one came
+abbrev pub GivesOnce : {K : Type 0} → Bool → Bool → Accept K → Type 0
+GivesOnce before now (Caller kind conn) = (before ≡ false) × (now ≡ true)
+GivesOnce before now Nothing = (before ≡ false) × (now ≡ false)
+GivesOnce before now Halt = (before ≡ true) × (now ≡ true)
+GivesOnce before now Failed = (before ≡ false) × (now ≡ false)

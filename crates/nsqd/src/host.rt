@@ -1,0 +1,249 @@
+ghost use Rattle.std.specs.Prelude.{◌≡◌, IfOk};
+
+use history::Entry;
+use nsq_base::Memory;
+use nsq_outside::{
+    Accept, Dialer, Dialled, Did, DirFolder, Forgetful, Host, Kit, Listeners, SysClock, TcpConn,
+    TcpDialer,
+};
+use std::alloc::Global;
+use std::fmt;
+use std::io::{Eprint, Print};
+use std::net::{Net, TcpStream};
+use std::os::unix::fs::FileExt;
+use std::rt::{Clock, Files};
+use std::sync::Wait;
+
+/// The real machine, as the daemon sees it: TCP connections, a folder on disk, the system's clock, a journal that forgets, and
+/// the standard streams. It tells no content, and counts its faults. `N` is the runtime.
+///
+/// It listens at the address of the TCP protocol alone. HTTP, by which a daemon is stopped, isn't served yet: so it gives one
+/// caller, and answers `Halt` from then on.
+#[derive(Drop)]
+pub struct SysHost<N: Files + Clock> {
+    rt: N,
+    alloc: Global,
+    dialer: TcpDialer<N>,
+    listeners: Option<Listeners<N>>,
+    // Whether it gave its one caller.
+    has_called: bool,
+    kit: Option<Kit<DirFolder<N>, SysClock<N>, Forgetful<Entry>>>,
+    accept_faults: u64,
+    print_faults: u64,
+    tell_faults: u64,
+}
+
+impl<N: Files + Clock + Net<Stream = TcpStream> + AllocGlobal + Clone + Drop> SysHost<N>
+where
+    N::File: FileExt,
+{
+    ghost use Rattle.std.specs.Prelude.{false};
+    ghost use Rattle.nsqd.specs.SysHosts.{state_of, dial_faults_of, has_called, IsAtHome};
+
+    /// A host that has its kit at home and doesn't listen yet. Its folder is the one that the process runs in, until `start`
+    /// names another.
+    pub fn new(rt: N, alloc: Global) -> Result<SysHost<N>, Memory>
+        ensures state { IfOk result (λ host. IsAtHome (state_of host)) }
+        ensures callers { IfOk result (λ host. has_called host ≡ false) }
+        ensures dial_faults { IfOk result (λ host. dial_faults_of host ≡ 0) }
+    {
+        let kit = Kit {
+            folder: DirFolder::new(rt.clone()?, alloc, ".")?,
+            clock: SysClock::new(rt.clone()?),
+            journal: Forgetful::new(alloc),
+        };
+        Ok(SysHost {
+            dialer: TcpDialer::new(rt.clone()?, alloc),
+            rt,
+            alloc,
+            listeners: None,
+            has_called: false,
+            kit: Some(kit),
+            accept_faults: 0,
+            print_faults: 0,
+            tell_faults: 0,
+        })
+    }
+
+    /// Opens the listener at its address, and moves the folder to its path. False where either can't be.
+    fn open(&mut self, tcp: &str, path: &str) -> bool
+        ensures state { state_of self.new ≡ state_of self.old }
+        ensures dial_faults { dial_faults_of self.new ≡ dial_faults_of self.old }
+    {
+        let rt: Result<_, _> = self.rt.clone();
+        let Ok(rt) = rt else {
+            return false;
+        };
+        let Ok(listeners) = Listeners::open(rt, self.alloc, tcp, None) else {
+            return false;
+        };
+        if !self.move_folder(path) {
+            return false;
+        }
+        self.listeners = Some(listeners);
+        true
+    }
+
+    /// Moves the folder to its path. False where it isn't at home, or without memory.
+    fn move_folder(&mut self, path: &str) -> bool
+        ensures state { state_of self.new ≡ state_of self.old }
+        ensures dial_faults { dial_faults_of self.new ≡ dial_faults_of self.old }
+    {
+        match &mut self.kit {
+            Some(kit) => kit.folder.move_to(path).is_ok(),
+            None => false,
+        }
+    }
+}
+
+impl<N: Files + Clock + Net<Stream = TcpStream>> Dialer for SysHost<N> {
+    ghost use Rattle.std.specs.Prelude.{false};
+    ghost use Rattle.nsqd.specs.SysHosts.{state_of, no_dials, dial_faults_of};
+
+    type Conn = TcpConn;
+
+    ghost tells = { false };
+
+    ghost dials = { no_dials };
+
+    ghost dial_faults = { dial_faults_of };
+
+    ghost may_dial = { λ a b. state_of b ≡ state_of a };
+
+    fn dial<R: Wait>(&mut self, rt: &R, address: &str) -> Dialled<TcpConn> {
+        self.dialer.dial(rt, address)
+    }
+}
+
+impl<
+    N: Files + Clock + Net<Stream = TcpStream> + Print + Eprint + AllocGlobal + Clone + Drop + Send,
+> Host<Entry> for SysHost<N>
+where
+    N::File: FileExt + Send,
+{
+    ghost use Rattle.std.specs.Prelude.{refl, false, IsTrue, None, Some};
+    ghost use Rattle.std.proofs.lemmas.Bool.{false≢true};
+    ghost use Rattle.nsq_outside.specs.Hosts.{Accepts, AcceptFails, OnlyAcceptFaults};
+    ghost use Rattle.nsq_outside.specs.Listeners.{IsFreshTcpCaller};
+    ghost use Rattle.nsq_outside.specs.TcpConns.{no_bytes};
+    ghost use Rattle.nsqd.specs.SysHosts.{no_content, state_of, no_dials, dial_faults_of, has_called, GivesOnce};
+
+    type Folder = DirFolder<N>;
+
+    type Clock = SysClock<N>;
+
+    type Journal = Forgetful<Entry>;
+
+    ghost content = { no_content };
+
+    ghost state = { state_of };
+
+    fn start<R: Wait>(&mut self, _rt: &R, tcp: &str, _http: &str, path: &str) -> Did {
+        if self.open(tcp, path) {
+            return Did::Done;
+        }
+        self.accept_faults = self.accept_faults.saturating_add(1);
+        Did::Failed
+    }
+
+    fn accept<R: Wait>(&mut self, _rt: &R) -> Accept<TcpConn>
+        ensures once { GivesOnce (has_called self.old) (has_called self.new) result }
+        ensures content { IsTrue false → Accepts no_bytes (no_content self.old) (no_content self.new) result }
+        ensures fresh { IsFreshTcpCaller result }
+        ensures state { OnlyAcceptFaults (state_of self.old) (state_of self.new) }
+        ensures cause { AcceptFails (state_of self.old).accept_faults (state_of self.new).accept_faults result }
+        ensures dials { no_dials self.new ≡ no_dials self.old }
+        ensures dial_faults { dial_faults_of self.new ≡ dial_faults_of self.old }
+    {
+        if self.has_called {
+            return Accept::Halt;
+        }
+        let Some(listeners) = &mut self.listeners else {
+            self.accept_faults = self.accept_faults.saturating_add(1);
+            return Accept::Failed;
+        };
+        let accepted = listeners.accept();
+        match &accepted {
+            Accept::Caller(_, _) => self.has_called = true,
+            Accept::Failed => self.accept_faults = self.accept_faults.saturating_add(1),
+            Accept::Nothing | Accept::Halt => {}
+        }
+        accepted
+    }
+
+    fn done(&mut self, _number: u64, conn: TcpConn) {
+        // This sends what the connection has gathered.
+        drop(conn);
+    }
+
+    fn lend(&mut self) -> Kit<DirFolder<N>, SysClock<N>, Forgetful<Entry>> {
+        match self.kit.take() {
+            Some(
+                Kit {
+                    folder,
+                    clock,
+                    journal: _,
+                },
+            ) => Kit {
+                folder,
+                clock,
+                journal: Forgetful::new(self.alloc),
+            },
+            None => unreachable!(),
+        }
+    }
+
+    fn restore(&mut self, home: Kit<DirFolder<N>, SysClock<N>, Forgetful<Entry>>)
+        requires { (state_of self.old).kit ≡ None }
+        ensures content { no_content self.new ≡ no_content self.old }
+        ensures state { state_of self.new ≡ record (state_of self.old) { kit = Some home } }
+        ensures dials { no_dials self.new ≡ no_dials self.old }
+        ensures dial_faults { dial_faults_of self.new ≡ dial_faults_of self.old }
+    {
+        self.kit = Some(home);
+    }
+
+    fn beside(&self) -> bool {
+        false
+    }
+
+    fn print<R: Wait>(&mut self, _rt: &R, text: &[u8]) -> Did {
+        // The kit writes through: no buffer is left to flush.
+        match self.rt.write_all(text) {
+            Ok(()) => Did::Done,
+            Err(_) => {
+                self.print_faults = self.print_faults.saturating_add(1);
+                Did::Failed
+            }
+        }
+    }
+
+    fn tell<R: Wait>(&mut self, _rt: &R, line: &[u8]) {
+        if self.rt.eprintln(Line(line)).is_err() {
+            self.tell_faults = self.tell_faults.saturating_add(1);
+        }
+    }
+
+    ghost dial_keeps = { λ a b h. (refl, h) };
+
+    ghost back_given = { λ h told. absurd (false≢true told) };
+}
+
+/// A line that is told. What isn't UTF-8 in it shows as the replacement character.
+#[derive(Clone, Copy)]
+struct Line<'a>(&'a [u8]);
+
+impl fmt::Display for Line<'_> {
+    fn fmt<W: fmt::Write>(&self, f: &mut fmt::Formatter<W>) -> fmt::Result {
+        for chunk in self.0.utf8_chunks() {
+            write!(f, "{}", chunk.valid())?;
+            if !chunk.invalid().is_empty() {
+                write!(f, "\u{fffd}")?;
+            }
+        }
+        Ok(())
+    }
+}
+
+#[cfg(test)]
+mod tests;

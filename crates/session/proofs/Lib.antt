@@ -1,0 +1,5 @@
+pub mod Writing
+pub mod Owning
+pub mod Holding
+pub mod Talking
+pub mod Turning

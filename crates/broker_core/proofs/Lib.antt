@@ -5,5 +5,4 @@ pub mod Keeping
 pub mod Standing
 pub mod Leading
 pub mod Answering
-pub mod Whole
 pub mod Flushing

@@ -189,16 +189,3 @@ fn put_each<F: Folder>(
     }
     Flushed::Done
 }
-
-#[cfg(test)]
-impl Room {
-    /// How many messages were put into it and not dropped.
-    pub fn count(&self) -> u64 {
-        self.count
-    }
-
-    /// The messages that wait, in order.
-    pub fn waiting(&self) -> &VecDeque<Message> {
-        &self.waiting
-    }
-}

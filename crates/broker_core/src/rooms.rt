@@ -108,11 +108,3 @@ impl Rooms {
         self.rooms.binary_search_by_key(&topic, |room| room.name())
     }
 }
-
-#[cfg(test)]
-impl Rooms {
-    /// The topics, in byte order.
-    pub fn rooms(&self) -> &[Room] {
-        &self.rooms
-    }
-}

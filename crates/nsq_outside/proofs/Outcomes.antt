@@ -7,7 +7,7 @@ use Rattle.nsq_outside.specs.declared.did.Did.TheVariants.{Done, Failed}
 
 -- a file that stayed is torn nowhere
 torn_nowhere : (bytes : List ℕ) (at n : ℕ) → IsTorn bytes bytes at n
-torn_nowhere bytes at n = record { before = grind (arith, common_steps); behind = grind (arith, common_steps); no_shorter = omega arith }
+torn_nowhere bytes at n = record { before = grind (arith, common_steps); behind = grind (arith, common_steps); no_shorter = omega arith; within = omega arith }
 
 -- a write by its outcome: done, or the file stays
 pub write_outcome : {E : Type 0} (old new : Files) (name from : List ℕ) (at : ℕ) (outcome : Result (Unit {0}) E) (did : Did) →

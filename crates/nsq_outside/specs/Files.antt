@@ -1,5 +1,5 @@
 -- A folder as a map from names to bytes, and what each call on it does.
-use Rattle.std.specs.Prelude.{ℕ, ◌≡◌, ◌≢◌, ◌+◌, ◌-◌, ◌^◌, ◌≤◌, ◌↔◌, ◌⊎◌, List, [], ◌++◌, length, take, drop, map, replicate, min, Option, Some, None, unwrap_or, IsSome, IsSomeAnd, Contains, AllPairs, String, string_bytes, true, false}
+use Rattle.std.specs.Prelude.{ℕ, ◌≡◌, ◌≢◌, ◌+◌, ◌-◌, ◌^◌, ◌≤◌, ◌↔◌, ◌⊎◌, List, [], ◌++◌, length, take, drop, map, replicate, min, max, Option, Some, None, unwrap_or, IsSome, IsSomeAnd, Contains, AllPairs, String, string_bytes, true, false}
 use Rattle.std.specs.List.{slice_range}
 use Rattle.std.specs.declared.alloc.Global.{Global}
 use Rattle.nsq_outside.specs.Causes.{Rose, CountsFault}
@@ -123,11 +123,13 @@ cut_to bytes to = take to (bytes ++ replicate (to - length bytes) 0)
 abbrev pub written_at : List ℕ → ℕ → List ℕ → List ℕ
 written_at bytes at from = cut_to bytes at ++ from ++ drop (at + length from) bytes
 
--- a write of n bytes at a place failed: what stood before the place, and behind the range up to the old end, is as it was
+-- a write of n bytes at a place failed: what stood before the place, and behind the range up to the old end, is as it was, and the file
+-- didn't grow past the most bytes that a file may have
 pub record IsTorn (old new : List ℕ) (at n : ℕ) : Type 0 where
   pub before : take (min at (length old)) new ≡ take at old
   pub behind : slice_range new (at + n) (length old) ≡ drop (at + n) old
   pub no_shorter : length old ≤ length new
+  pub within : length new ≤ max (length old) (2 ^ 62)
 
 -- the bytes stand where they were to; or the write failed, and may have torn its range and what lies past the old end
 abbrev pub WritesAt : Option (List ℕ) → Option (List ℕ) → ℕ → List ℕ → Did → Type 0

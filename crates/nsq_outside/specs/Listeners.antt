@@ -1,7 +1,7 @@
 -- What clauses see of the listeners.
 use Rattle.std.specs.Prelude.{ℕ, ◌≡◌, Bool, true, is_some}
 use Rattle.nsq_outside.specs.Hosts.{IsFreshCaller}
-use Rattle.nsq_outside.specs.TcpConns.{no_pieces, no_bytes, ended_of, read_faults_of, write_faults_of, kind_of}
+use Rattle.nsq_outside.specs.TcpConns.{no_pieces, no_bytes, ended_of, read_faults_of, write_faults_of, kind_of, IsNewTcpConn}
 use Rattle.nsq_outside.specs.declared.host.Kind.{Kind}
 use Rattle.nsq_outside.specs.declared.host.Kind.TheVariants.{Http}
 use Rattle.nsq_outside.specs.declared.host.Accept.{Accept}
@@ -18,6 +18,13 @@ accept_faults_of listeners = listeners.faults
 -- from a caller's connection nothing was read yet, nothing was written, and it has no fault
 abbrev pub IsFreshTcpCaller : Accept TcpConn → Type 0
 IsFreshTcpCaller accept = IsFreshCaller no_pieces ended_of no_bytes read_faults_of write_faults_of accept
+
+-- in a caller's connection nothing is gathered, and it isn't broken
+abbrev pub IsNewTcpCaller : Accept TcpConn → Type 0
+IsNewTcpCaller (Caller kind conn) = IsNewTcpConn conn
+IsNewTcpCaller Nothing = Unit {0}
+IsNewTcpCaller Halt = Unit {0}
+IsNewTcpCaller Failed = Unit {0}
 
 -- a caller's connection speaks what is told with it
 abbrev pub Speaks : Accept TcpConn → Type 0

@@ -1,5 +1,5 @@
 -- The files that a map from names to bytes stands for.
-use Rattle.std.specs.Prelude.{ℕ, ◌≡◌, List, Option, Vec, String, option_map, string_bytes}
+use Rattle.std.specs.Prelude.{ℕ, ◌≡◌, ◌≢◌, ◌^◌, ◌<◌, ◌⊎◌, List, length, Option, None, IsSome, IfSome, Vec, String, option_map, string_bytes}
 use Rattle.std.specs.declared.alloc.Global.{Global}
 use Rattle.std.specs.BTreeMap.{BTreeMap, get_by_text}
 use Rattle.std.specs.Map.{lookup}
@@ -18,3 +18,11 @@ first_of list name = option_map (λ v. v.items) (lookup (λ key. bytes_eq name (
 pub record Sets (old new : Files) (name : List ℕ) (file : Option (List ℕ)) : Type 0 where
   pub here : new name ≡ file
   pub others : OnlyChanges old new name
+
+-- a file would have more bytes than a file may have; or it would be made, or grow to so many, for which there may be no memory
+abbrev pub GrowsTo : Option (List ℕ) → ℕ → Type 0
+GrowsTo file to = (2 ^ 62 < to) ⊎ IfSome file (λ bytes. length bytes < to)
+
+-- a file would get a name that is new, for which there may be no memory
+abbrev pub MovesToNew : Files → List ℕ → List ℕ → Type 0
+MovesToNew files from to = IsSome (files from) × (from ≢ to) × (files to ≡ None)

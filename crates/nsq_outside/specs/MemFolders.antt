@@ -1,5 +1,5 @@
 -- What clauses see of a folder in memory.
-use Rattle.std.specs.Prelude.{ℕ, List}
+use Rattle.std.specs.Prelude.{ℕ, ◌+◌, ◌-◌, ◌^◌, ◌<◌, List, [], length, min, Option, unwrap_or}
 use Rattle.std.specs.List.{Any}
 use Rattle.nsq_outside.specs.Files.{Files}
 use Rattle.nsq_outside.specs.MemFiles.{files_of}
@@ -28,3 +28,9 @@ faults_of folder = folder.faults
 -- the next call of a method is among those that fail
 abbrev pub IsRefused : MemFolder → FolderCall → Type 0
 IsRefused folder call = Any (Hits (counts_of folder) call) (fails_of folder)
+
+-- of so many bytes from a place on, some stand in the file, and they end past the most bytes that a file may have
+abbrev pub ReadsPast : Option (List ℕ) → ℕ → ℕ → Type 0
+ReadsPast file at most =
+    let n = min most (length (unwrap_or file []) - at) in
+    (0 < n) × (2 ^ 62 < at + n)

@@ -1,7 +1,10 @@
 -- What clauses see of a TCP connection.
-use Rattle.std.specs.Prelude.{ℕ, ◌≡◌, ◌+◌, ◌≤◌, ◌<◌, ◌⊎◌, ◌++◌, List, [], length, Bool, true, false}
+use Rattle.std.specs.Prelude.{ℕ, ◌≡◌, ◌≢◌, ◌+◌, ◌≤◌, ◌<◌, ◌⊎◌, ◌++◌, List, [], length, Bool, true, false}
+use Rattle.nsq_outside.specs.Causes.{CountsFault}
 use Rattle.nsq_outside.specs.Hosts.{IsFresh}
 use Rattle.nsq_outside.specs.Frames.{EndsInError}
+use Rattle.nsq_outside.specs.declared.conn.Read.{Read}
+use Rattle.nsq_outside.specs.declared.conn.Read.TheVariants.{Failed as NotRead}
 use Rattle.nsq_outside.specs.declared.conn.Write.{Write}
 use Rattle.nsq_outside.specs.declared.conn.Write.TheVariants.{Took, Failed}
 use Rattle.nsq_outside.specs.declared.host.Kind.{Kind}
@@ -53,6 +56,18 @@ Gathers before now from Failed = (now ≡ before) ⊎ (now ≡ [])
 abbrev pub TookBreaks : TcpConn → TcpConn → Write → Type 0
 TookBreaks old new (Took n) = write_faults_of old < write_faults_of new → broken_of new ≡ true
 TookBreaks old new Failed = Unit {0}
+
+-- bytes that were taken leave the connection broken only where they end in an error frame, which couldn't be sent
+abbrev pub BreaksAtErrors : List ℕ → TcpConn → Write → Type 0
+BreaksAtErrors from new (Took n) = broken_of new ≡ true → EndsInError from
+BreaksAtErrors from new Failed = Unit {0}
+
+-- a read first sends what was gathered. A part of that can't be sent, which is counted and breaks the connection; or no write failed, and
+-- the connection is broken only where it was before or the read fails
+abbrev pub SendsFirst : TcpConn → TcpConn → Read → Type 0
+SendsFirst old new result =
+    ((gathered_of old ≢ []) × CountsFault (write_faults_of old) (write_faults_of new) true × (broken_of new ≡ true))
+    ⊎ (CountsFault (write_faults_of old) (write_faults_of new) false × (broken_of new ≡ true → (broken_of old ≡ true) ⊎ (result ≡ NotRead)))
 
 -- bytes that were taken and end in an error frame are sent at once
 abbrev pub SendsErrors : List ℕ → List ℕ → Write → Type 0

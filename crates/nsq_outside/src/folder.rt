@@ -74,7 +74,7 @@ pub trait Folder: Send {
         ensures cause { ReadAtFails (folder_faults self.old) (folder_faults self.new) result };
 
     /// Writes bytes at a place, over what stands there and past the end. It creates an absent file, and fills a gap
-    /// with zeros. Past 2^62 bytes it fails. After `Failed` the range, and what lies past the old end, may hold any bytes.
+    /// with zeros. Past 2^62 bytes it fails. After `Failed` the range, and what lies past the old end, up to 2^62, may hold any bytes.
     fn write_at(&mut self, name: &str, at: u64, from: &[u8]) -> Did
         ensures bytes { IsTrue tells_files → WritesAt (files self.old name.now) (files self.new name.now) at from.now result }
         ensures limit { IsWithin (at + length from.now) result }

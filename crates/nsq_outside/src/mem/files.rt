@@ -1,7 +1,7 @@
 //! Files by name, each in a `Vec`.
 ghost use Rattle.std.specs.Prelude.{◌≡◌, ◌+◌, ◌-◌, ◌^◌, ◌≤◌, ◌<◌, ◌↔◌, Err, ◌++◌, [], List, ℕ, length, take, drop, min, map, OnOk, OnErr, IfOk, Some, None, option_copied, option_map, IsSome, unwrap_or, string_bytes};
 ghost use Rattle.nsq_outside.specs.Files.{SameFiles, IsListing, AppendsListing, IsRenamed, cut_to, written_at};
-ghost use Rattle.nsq_outside.specs.MemFiles.{files_of, Sets, first_of};
+ghost use Rattle.nsq_outside.specs.MemFiles.{files_of, Sets, first_of, GrowsTo, MovesToNew};
 
 use std::alloc::{AllocError, AllocFailed, Global};
 use std::collections::BTreeMap;
@@ -76,11 +76,16 @@ pub fn copy_from_place(bytes: &[u8], at: u64, into: &mut [u8]) -> usize
     count
 }
 
-/// Gives a file its first bytes, and zeros where it was shorter, in place. Without memory the file stays.
+/// Gives a file its first bytes, and zeros where it was shorter, in place. Only to grow wants memory, without which the file stays.
 fn fit(file: &mut Vec<u8>, to: usize) -> Result<(), AllocError>
     ensures ok { OnOk result (file.new.items ≡ cut_to file.old.items to) }
     ensures err { OnErr result (file.new.items ≡ file.old.items) }
+    ensures grows { OnErr result (length file.old.items < to) }
 {
+    if to <= file.len() {
+        file.truncate(to);
+        return Ok(());
+    }
     file.resize(to, 0)
 }
 
@@ -92,11 +97,12 @@ fn overwrite(file: &mut Vec<u8>, at: usize, from: &[u8])
     file.slice_mut(at..at + from.len()).copy_from_slice(from);
 }
 
-/// Writes bytes at a place of a file, in place. Without memory the file stays.
+/// Writes bytes at a place of a file, in place. Only to grow wants memory, without which the file stays.
 fn write_over(file: &mut Vec<u8>, at: usize, from: &[u8]) -> Result<(), AllocError>
     requires { at + length from.now ≤ 2 ^ 62 }
     ensures ok { OnOk result (file.new.items ≡ written_at file.old.items at from.now) }
     ensures err { OnErr result (file.new.items ≡ file.old.items) }
+    ensures grows { OnErr result (length file.old.items < at + length from.now) }
 {
     let end = at + from.len();
     if end > file.len() {
@@ -118,6 +124,7 @@ pub fn write(
     ensures too_long { (result ≡ Err NoRoom.TooLong) ↔ (2 ^ 62 < at + length from.now) }
     ensures ok { OnOk result (Sets (files_of files.old) (files_of files.new) name.now (Some (written_at (unwrap_or (files_of files.old name.now) []) at from.now))) }
     ensures err { OnErr result (SameFiles (files_of files.old) (files_of files.new)) }
+    ensures grows { OnErr result (GrowsTo (files_of files.old name.now) (at + length from.now)) }
 {
     if at > LIMIT || from.len() as u64 > LIMIT - at {
         return Err(NoRoom::TooLong);
@@ -144,6 +151,7 @@ pub fn cut(
     ensures too_long { (result ≡ Err NoRoom.TooLong) ↔ (2 ^ 62 < to) }
     ensures ok { OnOk result (Sets (files_of files.old) (files_of files.new) name.now (Some (cut_to (unwrap_or (files_of files.old name.now) []) to))) }
     ensures err { OnErr result (SameFiles (files_of files.old) (files_of files.new)) }
+    ensures grows { OnErr result (GrowsTo (files_of files.old name.now) to) }
 {
     if to > LIMIT {
         return Err(NoRoom::TooLong);
@@ -191,6 +199,7 @@ fn create(
 ) -> Result<(), AllocError>
     ensures ok { OnOk result (Sets (files_of files.old) (files_of files.new) name.now (Some (unwrap_or (files_of files.old name.now) []))) }
     ensures err { OnErr result (SameFiles (files_of files.old) (files_of files.new)) }
+    ensures absent { OnErr result (files_of files.old name.now ≡ None) }
 {
     if !files.contains_key(name) {
         files.insert(String::from_str(alloc, name)?, Vec::new(alloc))?;
@@ -225,6 +234,7 @@ pub fn rename(
 ) -> Result<(), AllocError>
     ensures ok { OnOk result (IsRenamed (files_of files.old) (files_of files.new) from.now to.now) }
     ensures err { OnErr result (SameFiles (files_of files.old) (files_of files.new)) }
+    ensures moves { OnErr result (MovesToNew (files_of files.old) from.now to.now) }
 {
     if from == to || !files.contains_key(from) {
         return Ok(());

@@ -1,6 +1,6 @@
 ghost use Rattle.std.specs.Prelude.{◌≡◌, ◌≢◌, ◌≤◌, ◌↔◌, List, ℕ, IsTrue, true, false, IfOk, IfSome, IfNone, None, Option, option_map, OnErr, OnOk, IsOk};
 ghost use Rattle.nsq_outside.specs.Causes.{Rose, DidFails, CountsFault, DidCounts};
-ghost use Rattle.nsq_outside.specs.MemFiles.{files_of, first_of};
+ghost use Rattle.nsq_outside.specs.MemFiles.{files_of, first_of, GrowsTo, MovesToNew};
 ghost use Rattle.nsq_outside.specs.Failings.{count_of};
 
 use super::files;
@@ -12,7 +12,8 @@ use std::collections::BTreeMap;
 
 /// A folder in memory, some of whose calls fail. A call that fails changes nothing but the counts of calls and of faults.
 ///
-/// What finds no memory, and a write or a cut past 2^62 bytes, is a fault too.
+/// Else a call fails only where a file has, or would get, more than 2^62 bytes, or where bytes are read past that place; or
+/// for want of memory, which may meet a file that is made or grows, and a name that is new.
 #[derive(Drop)]
 pub struct MemFolder {
     alloc: Global,
@@ -93,10 +94,10 @@ impl MemFolder {
 }
 
 impl Folder for MemFolder {
-    ghost use Rattle.std.specs.Prelude.{◌+◌, ◌-◌, ◌^◌, ◌<◌, ◌⊎◌, [], length, min, unwrap_or, IsSomeAnd};
+    ghost use Rattle.std.specs.Prelude.{◌+◌, ◌^◌, ◌<◌, ◌⊎◌, length, IsSomeAnd};
     ghost use Rattle.nsq_outside.specs.Files.{SameFiles, IsWithin, OnlyChanges, Lists, Appends, ListingFails, ListingCounts, HasLength, IsFileLength, LengthFails, LengthCounts, IsAmountAt, ReadsAt, IsReadWithin, ReadAtFails, ReadAtCounts, WritesAt, Cuts, Renames, Removes};
     ghost use Rattle.nsq_outside.specs.Failings.{CountsCall};
-    ghost use Rattle.nsq_outside.specs.MemFolders.{files_in, fails_of, counts_of, faults_of, IsRefused};
+    ghost use Rattle.nsq_outside.specs.MemFolders.{files_in, fails_of, counts_of, faults_of, IsRefused, ReadsPast};
 
     ghost tells_files = { true };
 
@@ -160,7 +161,8 @@ impl Folder for MemFolder {
         ensures calls { CountsCall (counts_of self.old) (counts_of self.new) FolderCall.ReadAt }
         ensures fails { fails_of self.new ≡ fails_of self.old }
         ensures refused { IsRefused self.old FolderCall.ReadAt → result ≡ ReadAt.Failed }
-        ensures failed { result ≡ ReadAt.Failed → IsRefused self.old FolderCall.ReadAt ⊎ (2 ^ 62 < at + min (length into.old) (length (unwrap_or (files_in self.old name.now) []) - at)) }
+        ensures failed { result ≡ ReadAt.Failed → IsRefused self.old FolderCall.ReadAt ⊎ ReadsPast (files_in self.old name.now) at (length into.old) }
+        ensures past { ReadsPast (files_in self.old name.now) at (length into.old) → result ≡ ReadAt.Failed }
     {
         if self.refuses(FolderCall::ReadAt) {
             return ReadAt::Failed;
@@ -185,6 +187,7 @@ impl Folder for MemFolder {
         ensures fails { fails_of self.new ≡ fails_of self.old }
         ensures refused { IsRefused self.old FolderCall.WriteAt → result ≡ Did.Failed }
         ensures failed { result ≡ Did.Failed → SameFiles (files_in self.old) (files_in self.new) }
+        ensures why { result ≡ Did.Failed → IsRefused self.old FolderCall.WriteAt ⊎ GrowsTo (files_in self.old name.now) (at + length from.now) }
     {
         if self.refuses(FolderCall::WriteAt) {
             return Did::Failed;
@@ -204,6 +207,7 @@ impl Folder for MemFolder {
         ensures fails { fails_of self.new ≡ fails_of self.old }
         ensures refused { IsRefused self.old FolderCall.Cut → result ≡ Did.Failed }
         ensures failed { result ≡ Did.Failed → SameFiles (files_in self.old) (files_in self.new) }
+        ensures why { result ≡ Did.Failed → IsRefused self.old FolderCall.Cut ⊎ GrowsTo (files_in self.old name.now) to }
     {
         if self.refuses(FolderCall::Cut) {
             return Did::Failed;
@@ -251,6 +255,7 @@ impl Folder for MemFolder {
         ensures fails { fails_of self.new ≡ fails_of self.old }
         ensures refused { IsRefused self.old FolderCall.Rename → result ≡ Did.Failed }
         ensures failed { result ≡ Did.Failed → SameFiles (files_in self.old) (files_in self.new) }
+        ensures why { result ≡ Did.Failed → IsRefused self.old FolderCall.Rename ⊎ MovesToNew (files_in self.old) from.now to.now }
     {
         if self.refuses(FolderCall::Rename) {
             return Did::Failed;

@@ -62,7 +62,7 @@ enum Tried {
 }
 
 impl<N: Net + Clock> Listeners<N> {
-    ghost use Rattle.nsq_outside.specs.Listeners.{accept_faults_of, has_http, IsFreshTcpCaller, IsHeard, Speaks, GoesOn};
+    ghost use Rattle.nsq_outside.specs.Listeners.{accept_faults_of, has_http, IsFreshTcpCaller, IsNewTcpCaller, IsHeard, Speaks, GoesOn};
 
     /// Opens the listeners at these addresses, as `127.0.0.1:4150`. Of a name's addresses it takes the first that can be
     /// bound. The error is that of a name that can't be resolved, of the last address that can't be bound, or another of the
@@ -95,6 +95,7 @@ impl<N: Net + Clock> Listeners<N> {
     /// dropped, and a system that is out of either is given some time: both are `Nothing`.
     pub fn accept(&mut self) -> Accept<TcpConn>
         ensures fresh { IsFreshTcpCaller result }
+        ensures unused { IsNewTcpCaller result }
         ensures speaks { Speaks result }
         ensures goes_on { GoesOn result }
         ensures heard { IsHeard (has_http self.old) result }

@@ -147,7 +147,7 @@ where
         Ok(())
     }
 
-    /// Gives a file a number of bytes.
+    /// Gives a file a number of bytes. It creates an absent file, which is removed again where it can't have so many.
     pub fn cut(&mut self, name: &str, to: u64) -> io::Result<()>
         ensures folder { self.new.folder ≡ self.old.folder }
         ensures limit { OnOk result (to ≤ 2 ^ 62) }
@@ -155,7 +155,28 @@ where
         if to > LIMIT {
             return Err(ErrorKind::FileTooLarge.into());
         }
-        self.open(name, true)?;
+        match self.set_len(name, to, false) {
+            Err(error) if error.kind() == ErrorKind::NotFound => self.create(name, to),
+            outcome => outcome,
+        }
+    }
+
+    /// Makes an absent file of a number of zeros. Where it can't have them it is removed again.
+    fn create(&mut self, name: &str, to: u64) -> io::Result<()>
+        ensures folder { self.new.folder ≡ self.old.folder }
+    {
+        let made = self.set_len(name, to, true);
+        if made.is_err() {
+            let _ = self.remove(name);
+        }
+        made
+    }
+
+    /// Gives a file a number of bytes, after it was opened.
+    fn set_len(&mut self, name: &str, to: u64, creates: bool) -> io::Result<()>
+        ensures folder { self.new.folder ≡ self.old.folder }
+    {
+        self.open(name, creates)?;
         opened_file(&mut self.opened, name)?.set_len(to)
     }
 

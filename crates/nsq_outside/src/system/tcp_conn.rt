@@ -1,6 +1,6 @@
-ghost use Rattle.std.specs.Prelude.{◌≡◌, ◌+◌, ◌<◌, ◌≤◌, ◌⊎◌, ◌↔◌, [], true, false, IfOk, IsTrue, length};
+ghost use Rattle.std.specs.Prelude.{◌≡◌, ◌≢◌, ◌+◌, ◌<◌, ◌≤◌, ◌⊎◌, ◌↔◌, [], true, false, IfOk, IsTrue, length, vec_capacity};
 ghost use Rattle.nsq_outside.specs.Frames.{EndsInError, number_at};
-ghost use Rattle.nsq_outside.specs.Causes.{DidFails};
+ghost use Rattle.nsq_outside.specs.Causes.{DidFails, DidCounts, CountsFault};
 ghost use Rattle.nsq_outside.specs.Streams.{IsAmountRead, IsAmountWritten, WriteFails};
 
 mod socket;
@@ -56,7 +56,7 @@ pub struct TcpConn {
     stream: TcpStream,
     poll: Poll,
     events: Events,
-    // It has room for `MOST_GATHERED` bytes from the start.
+    // It has room for `MOST_GATHERED` bytes from the start, so that to gather never wants memory.
     gathered: Vec<u8>,
     kind: Kind,
     // The writes since the last read.
@@ -66,10 +66,11 @@ pub struct TcpConn {
     read_faults: u64,
     write_faults: u64,
     ghost bound: { length gathered.items ≤ 16384 },
+    ghost room: { 16384 ≤ vec_capacity gathered },
 }
 
 impl TcpConn {
-    ghost use Rattle.nsq_outside.specs.TcpConns.{IsFreshTcpConn, IsNewTcpConn, IsSameConn, Gathers, TookBreaks, SendsErrors, KeepsOthers, kind_of, gathered_of, ended_of, broken_of, read_faults_of, write_faults_of};
+    ghost use Rattle.nsq_outside.specs.TcpConns.{IsFreshTcpConn, IsNewTcpConn, IsSameConn, Gathers, TookBreaks, BreaksAtErrors, SendsErrors, KeepsOthers, kind_of, gathered_of, ended_of, broken_of, read_faults_of, write_faults_of};
 
     /// A connection over an open stream. The error is the system's, or want of memory; the stream is closed then.
     pub fn new<N: Net>(rt: &N, alloc: Global, stream: TcpStream, kind: Kind) -> io::Result<TcpConn>
@@ -100,7 +101,7 @@ impl TcpConn {
         })
     }
 
-    /// Sends what was gathered. It may wait. After `Failed` the gathered bytes are lost.
+    /// Sends what was gathered, if anything was. It may wait. After `Failed` the gathered bytes are lost.
     pub fn flush(&mut self) -> Did
         ensures gathered { gathered_of self.new ≡ [] }
         ensures ended { ended_of self.new ≡ ended_of self.old }
@@ -112,6 +113,9 @@ impl TcpConn {
         ensures settled { result ≡ Did.Done → write_faults_of self.new ≡ write_faults_of self.old }
         ensures broken { result ≡ Did.Failed → broken_of self.new ≡ true }
         ensures breaks { write_faults_of self.old < write_faults_of self.new → broken_of self.new ≡ true }
+        ensures counted { DidCounts (write_faults_of self.old) (write_faults_of self.new) result }
+        ensures nothing { gathered_of self.old ≡ [] → result ≡ Did.Done }
+        ensures failed { broken_of self.old ≡ true → gathered_of self.old ≢ [] → result ≡ Did.Failed }
     {
         if self.gathered.is_empty() {
             return Did::Done;
@@ -139,6 +143,8 @@ impl TcpConn {
         ensures same { IsSameConn self.old self.new }
         ensures done { result ≡ Did.Done → broken_of self.new ≡ broken_of self.old }
         ensures settled { result ≡ Did.Done → write_faults_of self.new ≡ write_faults_of self.old }
+        ensures broken { result ≡ Did.Failed → broken_of self.new ≡ true }
+        ensures counted { DidCounts (write_faults_of self.old) (write_faults_of self.new) result }
     {
         if len <= MOST_GATHERED - self.gathered.len() {
             return Did::Done;
@@ -159,6 +165,8 @@ impl TcpConn {
         ensures failed { broken_of self.old ≡ true → result ≡ Write.Failed }
         ensures broken { result ≡ Write.Failed → broken_of self.new ≡ true }
         ensures took { TookBreaks self.old self.new result }
+        ensures counted { CountsFault (write_faults_of self.old) (write_faults_of self.new) (broken_of self.new) }
+        ensures breaks { BreaksAtErrors from.now self.new result }
     {
         if self.flush() == Did::Failed {
             return Write::Failed;
@@ -187,6 +195,9 @@ impl TcpConn {
         ensures took { TookBreaks self.old self.new result }
         ensures errors { SendsErrors from.now (gathered_of self.new) result }
         ensures room { KeepsOthers (gathered_of self.old) (gathered_of self.new) from.now result }
+        ensures broken { result ≡ Write.Failed → broken_of self.new ≡ true }
+        ensures counted { CountsFault (write_faults_of self.old) (write_faults_of self.new) (broken_of self.new) }
+        ensures breaks { BreaksAtErrors from.now self.new result }
     {
         if MOST_GATHERED < from.len() {
             return self.send_through(from);
@@ -250,8 +261,8 @@ impl TcpConn {
 
 impl Source for TcpConn {
     ghost use Rattle.std.specs.Prelude.{false};
-    ghost use Rattle.nsq_outside.specs.TcpConns.{IsSameConn, no_pieces, no_bytes, gathered_of, broken_of, ended_of, read_faults_of, write_faults_of};
-    ghost use Rattle.nsq_outside.specs.Streams.{IsAmountRead, EndsWith, ReadFails};
+    ghost use Rattle.nsq_outside.specs.TcpConns.{IsSameConn, SendsFirst, no_pieces, no_bytes, gathered_of, broken_of, ended_of, read_faults_of, write_faults_of};
+    ghost use Rattle.nsq_outside.specs.Streams.{IsAmountRead, EndsWith, ReadFails, ReadCounts};
 
     ghost tells_pieces = { false };
 
@@ -277,6 +288,9 @@ impl Source for TcpConn {
         ensures failed { broken_of self.old ≡ true → ended_of self.old ≡ false → result ≡ Read.Failed }
         ensures lost { write_faults_of self.old < write_faults_of self.new → ended_of self.old ≡ false → result ≡ Read.Failed }
         ensures broken { result ≡ Read.Failed → broken_of self.new ≡ true }
+        ensures counted { ReadCounts (read_faults_of self.old) (read_faults_of self.new) result }
+        ensures breaks { write_faults_of self.old < write_faults_of self.new → broken_of self.new ≡ true }
+        ensures sends { SendsFirst self.old self.new result }
     {
         // Where it fails the connection is broken.
         let _ = self.flush();
@@ -304,7 +318,7 @@ impl Source for TcpConn {
 
 impl Sink for TcpConn {
     ghost use Rattle.std.specs.Prelude.{false};
-    ghost use Rattle.nsq_outside.specs.TcpConns.{Gathers, IsSameConn, TookBreaks, SendsErrors, KeepsOthers, no_bytes, kind_of, gathered_of, broken_of, ended_of, read_faults_of, write_faults_of};
+    ghost use Rattle.nsq_outside.specs.TcpConns.{Gathers, IsSameConn, TookBreaks, BreaksAtErrors, SendsErrors, KeepsOthers, no_bytes, kind_of, gathered_of, broken_of, ended_of, read_faults_of, write_faults_of};
     ghost use Rattle.nsq_outside.specs.Streams.{IsAmountWritten, WriteFails};
 
     ghost tells_written = { false };
@@ -313,13 +327,13 @@ impl Sink for TcpConn {
 
     ghost write_faults = { write_faults_of };
 
-    ghost may_write = { λ a b. (ended_of b ≡ ended_of a) × (read_faults_of a ≤ read_faults_of b) };
+    ghost may_write = { λ a b. (ended_of b ≡ ended_of a) × (read_faults_of b ≡ read_faults_of a) };
 
     fn write<R: Wait>(&mut self, _rt: &R, from: &[u8]) -> Write
         requires { 0 < length from.now }
         ensures amount { IsAmountWritten result (length from.now) }
         ensures ended { ended_of self.new ≡ ended_of self.old }
-        ensures read_faults { read_faults_of self.old ≤ read_faults_of self.new }
+        ensures read_faults { read_faults_of self.new ≡ read_faults_of self.old }
         ensures faults { write_faults_of self.old ≤ write_faults_of self.new }
         ensures cause { WriteFails (write_faults_of self.old) (write_faults_of self.new) result }
         ensures gathered { Gathers (gathered_of self.old) (gathered_of self.new) from.now result }
@@ -329,6 +343,9 @@ impl Sink for TcpConn {
         ensures took { TookBreaks self.old self.new result }
         ensures errors { SendsErrors from.now (gathered_of self.new) result }
         ensures room { kind_of self.old ≡ Kind.Tcp → KeepsOthers (gathered_of self.old) (gathered_of self.new) from.now result }
+        ensures broken { result ≡ Write.Failed → broken_of self.new ≡ true }
+        ensures counted { CountsFault (write_faults_of self.old) (write_faults_of self.new) (broken_of self.new) }
+        ensures breaks { BreaksAtErrors from.now self.new result }
     {
         self.writes = self.writes.saturating_add(1);
         match self.kind {
@@ -340,10 +357,12 @@ impl Sink for TcpConn {
 
 impl Conn for TcpConn {
     ghost use Rattle.std.specs.Prelude.{refl};
+    ghost use Rattle.std.proofs.Common.{sym};
+    ghost use Rattle.std.proofs.Math.Nat.{le_of_eq};
 
     ghost read_keeps = { λ a b h. (refl, h) };
 
-    ghost write_keeps = { λ a b h. (refl, refl, h.0, h.1) };
+    ghost write_keeps = { λ a b h. (refl, refl, h.0, le_of_eq (sym h.1)) };
 }
 
 impl Drop for TcpConn {

@@ -35,7 +35,7 @@ impl<N: Net<Stream = TcpStream>> TcpDialer<N> {
 
 impl<N: Net<Stream = TcpStream>> Dialer for TcpDialer<N> {
     ghost use Rattle.std.specs.Prelude.{false};
-    ghost use Rattle.nsq_outside.specs.TcpDialers.{dial_faults_of, no_content, IsFreshTcpLink, SpeaksTcp};
+    ghost use Rattle.nsq_outside.specs.TcpDialers.{dial_faults_of, no_content, IsFreshTcpLink, IsNewTcpLink, SpeaksTcp};
     ghost use Rattle.nsq_outside.specs.Hosts.{LinkFails, LinkCounts};
 
     type Conn = TcpConn;
@@ -50,6 +50,7 @@ impl<N: Net<Stream = TcpStream>> Dialer for TcpDialer<N> {
 
     fn dial<R: Wait>(&mut self, _rt: &R, address: &str) -> Dialled<TcpConn>
         ensures fresh { IsFreshTcpLink result }
+        ensures unused { IsNewTcpLink result }
         ensures speaks { SpeaksTcp result }
         ensures faults { dial_faults_of self.old ≤ dial_faults_of self.new }
         ensures cause { LinkFails (dial_faults_of self.old) (dial_faults_of self.new) result }

@@ -8,6 +8,8 @@ const NAMES: &str = "nsq_outside_names";
 
 const ERRORS: &str = "nsq_outside_errors";
 
+const CUT: &str = "nsq_outside_cut";
+
 const LEFT: &str = "nsq_outside_left";
 
 const MOVED: &str = "nsq_outside_moved";
@@ -74,6 +76,29 @@ fn errors_of_a_folder(rt: HostRuntime) -> Result<(), Fail> {
     let mut names = Vec::new(alloc);
     assert_eq!(rt; folder.list(alloc, &mut names), Listing::Failed);
     assert_eq!(rt; folder.sync_names(), Did::Failed);
+    Ok(())
+}
+
+/// The length of a file of so many bytes after a cut to 2^62, which most file systems refuse.
+fn length_after(cut: Did, before: Length) -> Length {
+    match cut {
+        Did::Done => Length::Is(1 << 62),
+        Did::Failed => before,
+    }
+}
+
+#[test]
+fn failed_cut_leaves_what_was(rt: HostRuntime) -> Result<(), Fail> {
+    let alloc = rt.alloc();
+    let _ = fs::remove_dir_all(&rt, CUT);
+    fs::create_dir(&rt, CUT)?;
+    let mut folder = DirFolder::new(rt.clone()?, alloc, CUT)?;
+    let absent = length_after(folder.cut("a", 1 << 62), Length::Absent);
+    assert_eq!(rt; folder.len("a"), absent);
+    assert_eq!(rt; folder.write_at("b", 0, b"one"), Did::Done);
+    let there = length_after(folder.cut("b", 1 << 62), Length::Is(3));
+    assert_eq!(rt; folder.len("b"), there);
+    fs::remove_dir_all(&rt, CUT)?;
     Ok(())
 }
 

@@ -1,5 +1,6 @@
 -- What a change of the files leaves of a queue's lists.
-use Rattle.std.proofs.Common.{◌≡◌, ℕ, ◌+◌, ◌^◌, ◌<◌, ◌≤◌, ◌⊎◌, List, [], ◌∷◌, ◌++◌, length, take, drop, Option, Some, None, unwrap_or, Bool, true, false, if◌then◌else◌, refl, sym, ◌∙◌, ap, subst, inl, inr, arith, length-append}
+use Rattle.std.proofs.Common.{◌≡◌, ℕ, ◌+◌, ◌^◌, ◌<◌, ◌≤◌, ◌⊎◌, List, [], ◌∷◌, ◌++◌, length, take, drop, Option, Some, None, unwrap_or, IfSome, Bool, true, false, if◌then◌else◌, refl, sym, ◌∙◌, ap, subst, inl, inr, arith, length-append}
+use Rattle.std.proofs.lemmas.Bool.{cases_lt}
 use Rattle.std.proofs.lemmas.List.{append-nil, take_all, drop_all}
 use Rattle.std.proofs.lemmas.Grind.{common_steps}
 use Rattle.nsq_outside.specs.Files.{Files, Cuts, OnlyChanges, cut_to, written_at}
@@ -11,11 +12,11 @@ use Rattle.queue_image.specs.Records.{HasRecord, record_bytes, IsSize}
 use Rattle.queue_image.specs.Places.{IsOrdered, rolls}
 use Rattle.queue_image.specs.Between.{content}
 use Rattle.queue_image.specs.Between.Reads.{arrives}
-use Rattle.queue_image.proofs.Reading.{in_order, keeps}
+use Rattle.queue_image.proofs.Reading.{in_order, keeps, record_keeps}
 use Rattle.queue_image.proofs.Lists.{list_grows, list_turns}
 use Rattle.queue_image.proofs.Naming.{one_number, metadata_apart}
 use Rattle.disk_queue.specs.Seen.{Seen, unmarked, forgotten, fresh_queue, after_stage}
-use Rattle.disk_queue.specs.Holding.{Holds, staged_part, Says, IsIdle, SaveStands, OwnChange}
+use Rattle.disk_queue.specs.Holding.{Holds, IsNext, staged_part, Says, IsIdle, SaveStands, OwnChange}
 use Rattle.disk_queue.specs.Parts.{IsSound, WritesRecord, WritesPlace, StageWrites, place_for, base_for, with_record}
 use Rattle.disk_queue.specs.Answers.{StageTooLong, StaysWhereTooLong}
 use Rattle.disk_queue.specs.Replaced.{OnlyTwoChange}
@@ -31,6 +32,11 @@ use Rattle.disk_queue.proofs.WrittenBytes.{take-cut, cut-inside, length-cut_to, 
 pub record Before (bytes bytes' : ℕ → List ℕ) (from file at : ℕ) : Type 0 where
   pub earlier : (k : ℕ) → from ≤ k → k < file → bytes' k ≡ bytes k
   pub here : at ≤ length (bytes file) → take at (bytes' file) ≡ take at (bytes file)
+
+-- what holds of a mark's length holds in the files as they are now
+pub if_next : (m : Option ℕ) (P Q : ℕ → Type 0) → ((n : ℕ) → P n → Q n) → IfSome m P → IfSome m Q
+if_next None P Q step h = tt
+if_next (Some n) P Q step h = step n h
 
 -- the lists of a queue are the same where nothing changed before the staged end
 pub holds_kept : (q : Seen) (old new : Files) (bodies waiting : List (List ℕ)) → Before (content old q.name) (content new q.name) q.positions.read_file q.staged.file q.staged.at
@@ -63,6 +69,26 @@ holds_kept q old new bodies waiting b h =
       staged = record { reads = keeps least limit h.staged.reads (λ k from to. b.earlier k (omega (arith, low)) to) front; inside = long };
       count = h.count;
       within = h.within;
+      mark = if_next q.mark (IsNext least limit (content old q.name) p) (IsNext least limit (content new q.name) p)
+          (λ n x.
+          let size = x.size in
+          record {
+            body = x.body;
+            there = elim (cases_lt p.read_file s.file) [
+              | inl lt ↦ subst (λ (bytes : List ℕ). HasRecord least limit bytes p.read_at x.body) (sym (b.earlier p.read_file (omega arith) lt)) x.there
+              | inr past ↦
+                  let here : s.file ≡ p.read_file = omega (arith, past, low, high) in
+                  record_keeps least limit (content old q.name p.read_file) (content new q.name p.read_file) s.at p.read_at x.body x.there
+                  (subst (λ (k : ℕ). take s.at (content new q.name k) ≡ take s.at (content old q.name k)) here front)
+                  (elim x.order [
+                    | inl lt ↦ absurd (omega (arith, lt, high, past))
+                    | inr same ↦ elim ahead [ inl lt ↦ absurd (omega (arith, lt, same.0, past)) | inr end ↦ omega (arith, same.1, end.1, size) ]
+                  ])
+            ];
+            size = x.size;
+            order = x.order;
+          })
+          h.mark;
     }
 
 -- one more record is staged where it stands at the staged end
@@ -78,6 +104,7 @@ holds_more q old new bodies waiting body b r h =
       staged = list_grows q.options.least q.options.limit new new q.name (staged_part q) waiting body kept.staged (λ k from to. refl) refl r;
       count = omega (arith, length-append waiting (body ∷ []), count);
       within = h.within;
+      mark = kept.mark;
     }
 
 -- the staged end goes to the next file's start where its file ends there
@@ -89,6 +116,7 @@ holds_turn q files bodies waiting low end h = record {
   staged = list_turns q.options.least q.options.limit files q.name (staged_part q) waiting h.staged end;
   count = h.count;
   within = omega arith;
+  mark = h.mark;
 }
 
 -- without the staged records
@@ -102,12 +130,13 @@ holds_forgotten q files bodies waiting h =
       staged = record { reads = arrives refl refl; inside = h.list.inside };
       count = refl;
       within = elim ahead [ inl lt ↦ omega (arith, within) | inr same ↦ omega (arith, within, same.0) ];
+      mark = tt;
     }
 
--- what is known of the saves and the mark is no matter
-pub holds_as : (q : Seen) (saved : LastSave) (mark : Option ℕ) (begun : Bool) (files : Files) (bodies waiting : List (List ℕ)) → Holds q files bodies waiting
-    → Holds (record q { saved = saved; mark = mark; begun = begun }) files bodies waiting
-holds_as q saved mark begun files bodies waiting h = record { list = h.list; depth = h.depth; staged = h.staged; count = h.count; within = h.within }
+-- what is known of the saves is no matter, and a mark may be dropped
+pub holds_as : (q : Seen) (saved : LastSave) (begun : Bool) (files : Files) (bodies waiting : List (List ℕ)) → Holds q files bodies waiting
+    → Holds (record q { saved = saved; mark = None; begun = begun }) files bodies waiting
+holds_as q saved begun files bodies waiting h = record { list = h.list; depth = h.depth; staged = h.staged; count = h.count; within = h.within; mark = tt }
 
 -- a file whose content is as it was
 same_content : (old new : Files) (name : List ℕ) (k : ℕ) → new (data_file name k) ≡ old (data_file name k) → content new name k ≡ content old name k
@@ -146,6 +175,7 @@ holds_fresh name options files = record {
   staged = record { reads = arrives refl refl; inside = omega arith };
   count = refl;
   within = omega arith;
+  mark = tt;
 }
 
 pub only_two : (old new : Files) (a b : List ℕ) → OnlyChanges old new a → OnlyTwoChange old new a b
@@ -228,7 +258,7 @@ record_done q place old new bodies waiting body e low size w only h =
     let small : place.file < 2 ^ 60 = omega (arith, place_near q place (length body) e, low) in
     let old_bytes = content old q.name place.file in
     let is : content new q.name place.file ≡ written_at old_bytes place.at (record_bytes body) = ap (λ (o : Option (List ℕ)). unwrap_or o []) w in
-    holds_as (record q { staged = record { file = place.file; at = place.at + (4 + length body); count = place.count + 1 } }) q.saved None true new bodies (waiting ++ body ∷ [])
+    holds_as (record q { staged = record { file = place.file; at = place.at + (4 + length body); count = place.count + 1 } }) q.saved true new bodies (waiting ++ body ∷ [])
     (holds_more (record q { staged = place }) old new bodies waiting body
     (record {
       earlier = λ k low high. other_content old new q.name place.file k small high only;
@@ -243,7 +273,7 @@ holds_named q name files bodies waiting e h = subst (λ (n : List ℕ). Holds (r
 -- what is known of the value holds of another that is the same but for the mark
 pub holds_unmarked : (q r s : Seen) (files : Files) (bodies waiting : List (List ℕ)) → r ≡ q → s ≡ unmarked r → Holds q files bodies waiting → Holds s files bodies waiting
 holds_unmarked q r s files bodies waiting e d h =
-    subst (λ (x : Seen). Holds x files bodies waiting) (sym (d ∙ ap (λ (x : Seen). unmarked x) e)) (holds_as q q.saved None q.begun files bodies waiting h)
+    subst (λ (x : Seen). Holds x files bodies waiting) (sym (d ∙ ap (λ (x : Seen). unmarked x) e)) (holds_as q q.saved q.begun files bodies waiting h)
 
 -- only files of the queue change where two data files do
 pub own_two : (name : List ℕ) (n : ℕ) (old new : Files) → n < 2 ^ 60 → OnlyTwoChange old new (data_file name n) (data_file name (n + 1)) → OwnChange name old new

@@ -1,5 +1,5 @@
 -- What a save does to the lists of a queue, and what an opening finds after it.
-use Rattle.std.proofs.Common.{◌≡◌, ℕ, ◌+◌, ◌^◌, ◌<◌, ◌≤◌, Bool, true, false, IsTrue, List, [], ◌++◌, take, Option, Some, None, unwrap_or, refl, sym, ◌∙◌, ap, subst, inl, inr, arith, length-append}
+use Rattle.std.proofs.Common.{◌≡◌, ℕ, ◌+◌, ◌^◌, ◌<◌, ◌≤◌, Bool, true, false, IsTrue, List, [], ◌++◌, take, Option, Some, unwrap_or, refl, sym, ◌∙◌, ap, subst, inl, inr, arith, length-append}
 use Rattle.std.proofs.lemmas.Bool.{cases_lt}
 use Rattle.nsq_outside.specs.Files.{Files}
 use Rattle.nsq_outside.specs.declared.did.Did.{Did}
@@ -21,7 +21,7 @@ use Rattle.queue_image.proofs.MetaLemmas.{reads_back}
 use Rattle.queue_image.proofs.Naming.{one_number, metadata_apart}
 use Rattle.disk_queue.specs.Seen.{Seen, unmarked, committed, after_stage, after_save, IsUnchanged}
 use Rattle.disk_queue.specs.Holding.{Holds, staged_part, IsIdle, SaveStands, OwnChange}
-use Rattle.disk_queue.specs.Answers.{IsKept, KeptWhereDone, FoundUnlessFailed, NotDueWhere}
+use Rattle.disk_queue.specs.Answers.{IsKept, KeptWhereDone, FoundUnlessFailed, NotDueWhere, Saves, PutSaves}
 use Rattle.disk_queue.specs.Replaced.{OnlyTwoChange, Replaces}
 use Rattle.disk_queue.specs.Parts.{IsSound, OnlySaveChanges, OnlyNumbersChange, Gone, Rewrites, PutChanges}
 use Rattle.disk_queue.specs.declared.answers.Stage.TheVariants.{Staged}
@@ -46,6 +46,38 @@ rewritten q r old mid new Done e small w only =
     subst (λ (x : Seen). Rewrites x old new Done) e (meta_stays q.name from to mid new small only ∙ w.0, temp_stays q.name from to mid new small only ∙ w.1)
 rewritten q r old mid new Failed e small w only =
     subst (λ (x : Seen). Rewrites x old new Failed) e (inr (meta_stays q.name q.saved.positions.read_file q.positions.read_file mid new small only ∙ w.0))
+
+-- where the metadata could not be written no file was removed
+pub not_rewritten : (q r : Seen) (old new : Files) → q ≡ r → q.positions.read_file ≤ 2 ^ 40 → Replaces old new (meta_file q.name) (meta_temp q.name) (meta_text q.depth q.positions) Failed
+    → OnlyTwoChange old new (meta_file q.name) (meta_temp q.name) → Rewrites r old new Failed
+not_rewritten q r old new e small w only = subst (λ (x : Seen). Rewrites x old new Failed) e (go w)
+  where
+    go : Replaces old new (meta_file q.name) (meta_temp q.name) (meta_text q.depth q.positions) Failed → Rewrites q old new Failed
+    go (inl same) =
+        inl (
+          same,
+          λ k low.
+              let apart = metadata_apart q.name k (omega (arith, low, small)) in
+              only (data_file q.name k) (λ f. apart.0 (sym f)) (λ f. apart.1 (sym f)),
+        )
+    go (inr text) = inr text
+
+-- the save in a put tells of the metadata before it
+pub put_saves : (q p r : Seen) (old mid new : Files) (size : ℕ) (sync : Sync) → p ≡ after_stage q size Staged → r ≡ after_save (committed p) sync → mid (meta_file q.name) ≡ old (meta_file q.name)
+    → Saves r mid new sync → PutSaves r old new (Stored sync)
+put_saves q p r old mid new size sync e d stays s = go sync s
+  where
+    name : r.name ≡ q.name
+    name = ap (λ (x : Seen). x.name) (d ∙ ap (λ (x : Seen). after_save (committed x) sync) e)
+
+    meta : mid (meta_file r.name) ≡ old (meta_file r.name)
+    meta = subst (λ (n : List ℕ). mid (meta_file n) ≡ old (meta_file n)) (sym name) stays
+
+    go : (sync : Sync) → Saves r mid new sync → PutSaves r old new (Stored sync)
+    go NotDue s = s (meta_file r.name) ∙ meta
+    go Saved s = s
+    go Unsaved (inl kept) = inl (kept.0 ∙ meta)
+    go Unsaved (inr text) = inr text
 
 -- a record is staged and committed
 pub put_changes : (q : Seen) (size : ℕ) (sync : Sync) (old mid new : Files) → OnlyTwoChange old mid (data_file q.name q.staged.file) (data_file q.name (q.staged.file + 1))
@@ -149,8 +181,8 @@ to_saved P q r s sync e d p = subst P (sym (d ∙ ap (λ (x : Seen). after_save 
 
 pub holds_after : (q : Seen) (sync : Sync) (files : Files) (bodies waiting : List (List ℕ)) → Holds q files bodies waiting → Holds (after_save q sync) files bodies waiting
 holds_after q NotDue files bodies waiting h = h
-holds_after q Saved files bodies waiting h = record { list = h.list; depth = h.depth; staged = h.staged; count = h.count; within = h.within }
-holds_after q Unsaved files bodies waiting h = record { list = h.list; depth = h.depth; staged = h.staged; count = h.count; within = h.within }
+holds_after q Saved files bodies waiting h = record { list = h.list; depth = h.depth; staged = h.staged; count = h.count; within = h.within; mark = h.mark }
+holds_after q Unsaved files bodies waiting h = record { list = h.list; depth = h.depth; staged = h.staged; count = h.count; within = h.within; mark = h.mark }
 
 -- the staged records join the list
 pub holds_committed : (q : Seen) (files : Files) (bodies waiting : List (List ℕ)) → Holds q files bodies waiting → Holds (committed q) files (bodies ++ waiting) []
@@ -163,6 +195,7 @@ holds_committed q files bodies waiting h =
       staged = record { reads = arrives refl refl; inside = h.staged.inside };
       count = refl;
       within = h.within;
+      mark = tt;
     }
 
 pub stands_committed : (q : Seen) (files : Files) → SaveStands q files → SaveStands (committed q) files
@@ -182,7 +215,7 @@ pub stands_dropped : (q r : Seen) (files : Files) → r ≡ unmarked q → SaveS
 stands_dropped q r files e s = subst (λ (x : Seen). SaveStands x files) (sym e) (stands_unmarked q files s)
 
 pub holds_dropped : (q r : Seen) (files : Files) (bodies waiting : List (List ℕ)) → r ≡ unmarked q → Holds q files bodies waiting → Holds r files bodies waiting
-holds_dropped q r files bodies waiting e h = subst (λ (x : Seen). Holds x files bodies waiting) (sym e) (holds_as q q.saved None q.begun files bodies waiting h)
+holds_dropped q r files bodies waiting e h = subst (λ (x : Seen). Holds x files bodies waiting) (sym e) (holds_as q q.saved q.begun files bodies waiting h)
 
 -- a save that was due, or failed
 pub found_saved : (q : Seen) (files : Files) (bodies : List (List ℕ)) (sync : Sync) → NotDueWhere ⊥ sync → KeptWhereDone q files bodies sync → FoundUnlessFailed q files bodies sync

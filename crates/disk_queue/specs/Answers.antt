@@ -2,7 +2,7 @@
 use Rattle.std.specs.Prelude.{ℕ, ◌≡◌, ◌<◌, ◌≤◌, ◌⊎◌, List, [], ◌∷◌, ◌++◌, Some, None}
 use Rattle.nsq_outside.specs.Causes.{Rose}
 use Rattle.nsq_outside.specs.Files.{Files, SameFiles}
-use Rattle.queue_image.specs.FileNames.{meta_file, meta_temp}
+use Rattle.queue_image.specs.FileNames.{data_file, meta_file, meta_temp}
 use Rattle.queue_image.specs.Metas.{meta_text}
 use Rattle.queue_image.specs.Between.{IsSaved}
 use Rattle.queue_image.specs.Finds.{IsFound, Records}
@@ -71,18 +71,22 @@ PutDue q size (Stored sync) = NotDueWhere (IsEarly (one_more q size)) sync
 PutDue q size Fault = Unit {0}
 PutDue q size (TooLong _) = Unit {0}
 
+-- a save that failed before the metadata was written: that is as it was, and so are the data files below the one that is read
+abbrev pub IsUnsaved : Seen → Files → Files → Type 0
+IsUnsaved q old new = (new (meta_file q.name) ≡ old (meta_file q.name)) × ((k : ℕ) → k < q.positions.read_file → new (data_file q.name k) ≡ old (data_file q.name k))
+
 -- what a save does to the metadata: it writes exactly the text of the queue's depth and positions, and leaves no temporary; one that
--- failed wrote that text or left what was there; where none was due no file changes
+-- failed wrote that text, or left what was there and removed no file; where none was due no file changes
 abbrev pub Saves : Seen → Files → Files → Sync → Type 0
 Saves q old new NotDue = SameFiles old new
 Saves q old new Done = (new (meta_file q.name) ≡ Some (meta_text q.depth q.positions)) × (new (meta_temp q.name) ≡ None)
-Saves q old new Failed = (new (meta_file q.name) ≡ old (meta_file q.name)) ⊎ (new (meta_file q.name) ≡ Some (meta_text q.depth q.positions))
+Saves q old new Failed = IsUnsaved q old new ⊎ (new (meta_file q.name) ≡ Some (meta_text q.depth q.positions))
 
 -- the same of the save in a put; a put that was refused leaves the metadata
 abbrev pub PutSaves : Seen → Files → Files → Put → Type 0
 PutSaves q old new (Stored NotDue) = new (meta_file q.name) ≡ old (meta_file q.name)
 PutSaves q old new (Stored Done) = Saves q old new Done
-PutSaves q old new (Stored Failed) = Saves q old new Failed
+PutSaves q old new (Stored Failed) = (new (meta_file q.name) ≡ old (meta_file q.name)) ⊎ (new (meta_file q.name) ≡ Some (meta_text q.depth q.positions))
 PutSaves q old new Fault = new (meta_file q.name) ≡ old (meta_file q.name)
 PutSaves q old new (TooLong _) = SameFiles old new
 

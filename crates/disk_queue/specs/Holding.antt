@@ -1,25 +1,34 @@
 -- What the files of a queue hold.
-use Rattle.std.specs.Prelude.{ℕ, ◌≡◌, ◌^◌, ◌<◌, ◌≤◌, ◌⊎◌, List, Option, Some, None, length, IsTrue}
+use Rattle.std.specs.Prelude.{ℕ, ◌≡◌, ◌^◌, ◌<◌, ◌≤◌, ◌⊎◌, List, Option, Some, None, length, IfSome, IsTrue}
 use Rattle.nsq_outside.specs.Files.{Files}
-use Rattle.queue_image.specs.Places.{IsAtEnd}
+use Rattle.queue_image.specs.Places.{IsAtEnd, IsOrdered}
 use Rattle.queue_image.specs.Metas.{IsMeta}
-use Rattle.queue_image.specs.Between.{Between}
+use Rattle.queue_image.specs.Records.{HasRecord}
+use Rattle.queue_image.specs.Between.{Between, content}
 use Rattle.queue_image.specs.FileNames.{data_file, meta_file, IsOwnFile}
 use Rattle.queue_image.specs.declared.positions.Positions.{Positions}
-use Rattle.disk_queue.specs.Seen.{Seen}
+use Rattle.disk_queue.specs.Seen.{Seen, behind}
 
 -- from where the list ends to where the staged records end
 abbrev pub staged_part : Seen → Positions
 staged_part q = record { read_file = q.positions.write_file; read_at = q.positions.write_at; write_file = q.staged.file; write_at = q.staged.at }
 
+-- a record of n bytes stands at the read position, before the write position
+pub record IsNext (least limit : ℕ) (bytes : ℕ → List ℕ) (p : Positions) (n : ℕ) : Type 0 where
+  pub body : List ℕ
+  pub there : HasRecord least limit (bytes p.read_file) p.read_at body
+  pub size : n ≡ length body
+  pub order : IsOrdered (behind p n)
+
 -- the files hold the queue's list, as many records as its depth, and behind it the staged records; the numbers of these files are in
--- range
+-- range; and where a record is marked, it stands at the read position
 pub record Holds (q : Seen) (files : Files) (bodies waiting : List (List ℕ)) : Type 0 where
   pub list : Between q.options.least q.options.limit files q.name q.positions bodies
   pub depth : length bodies ≡ q.depth
   pub staged : Between q.options.least q.options.limit files q.name (staged_part q) waiting
   pub count : length waiting ≡ q.staged.count
   pub within : q.staged.file ≤ 2 ^ 40
+  pub mark : IfSome q.mark (IsNext q.options.least q.options.limit (content files q.name) q.positions)
 
 -- a file is metadata that says these positions
 pub record Says (file : Option (List ℕ)) (p : Positions) : Type 0 where

@@ -4,3 +4,10 @@ pub mod Answers
 pub mod Replaced
 pub mod Parts
 pub mod Laws
+pub mod Reading
+pub mod Emptying
+pub mod Opened
+pub mod Walked
+pub mod Planned
+pub mod Tidied
+pub mod Peeking

@@ -1,5 +1,5 @@
 -- What a queue keeps, and what the parts of its calls do.
-use Rattle.std.specs.Prelude.{ℕ, ◌≡◌, ◌≢◌, ◌+◌, ◌*◌, ◌^◌, ◌<◌, ◌≤◌, ◌⊎◌, List, [], ◌++◌, length, take, Option, Some, None, unwrap_or, if◌then◌else◌, IsTrue}
+use Rattle.std.specs.Prelude.{ℕ, ◌≡◌, ◌≢◌, ◌+◌, ◌*◌, ◌^◌, ◌<◌, ◌≤◌, ◌⊎◌, List, [], ◌++◌, length, take, Option, Some, None, unwrap_or, if◌then◌else◌, IfSome, IsTrue}
 use Rattle.nsq_outside.specs.Files.{Files, cut_to, written_at}
 use Rattle.nsq_outside.specs.declared.did.Did.{Did}
 use Rattle.nsq_outside.specs.declared.did.Did.TheVariants.{Done, Failed}
@@ -7,9 +7,11 @@ use Rattle.queue_image.specs.Places.{IsOrdered, IsInRange, IsAtEnd, rolls}
 use Rattle.queue_image.specs.FileNames.{data_file, meta_file, meta_temp}
 use Rattle.queue_image.specs.Records.{record_bytes}
 use Rattle.queue_image.specs.Metas.{meta_text}
-use Rattle.disk_queue.specs.Seen.{Seen}
+use Rattle.disk_queue.specs.Seen.{Seen, behind}
 use Rattle.disk_queue.specs.Holding.{staged_part}
+use Rattle.disk_queue.specs.Answers.{IsUnsaved}
 use Rattle.disk_queue.specs.Replaced.{OnlyTwoChange}
+use Rattle.queue_image.specs.declared.positions.Positions.{Positions}
 use Rattle.disk_queue.specs.declared.standing.Staged.{Staged}
 use Rattle.disk_queue.specs.declared.answers.Stage.{Stage}
 use Rattle.disk_queue.specs.declared.answers.Stage.TheVariants.{Staged as IsStaged, Fault as StageFault, TooLong as StageTooLong}
@@ -20,9 +22,14 @@ use Rattle.disk_queue.specs.declared.answers.Put.TheVariants.{Stored, Fault, Too
 abbrev pub distance : ℕ → ℕ → ℕ
 distance file at = file * 2 ^ 62 + at
 
+-- behind a record of n bytes at the read position reading is still in range, and not past the write position
+pub record IsAhead (p : Positions) (n : ℕ) : Type 0 where
+  pub order : IsOrdered (behind p n)
+  pub range : p.read_at + (4 + n) ≤ 2 ^ 62
+
 -- what every queue keeps: its positions are in order and in range, the staged end is not before the write position, there are no more
--- records than the places allow, so that no count overflows, the file that is read is not below the one at the last save, and a queue
--- is made empty
+-- records than the places allow, so that no count overflows, the file that is read is not below the one at the last save, a queue
+-- is made empty, a marked record ends before the write position, and the greatest size is one of four bytes
 pub record IsSound (q : Seen) : Type 0 where
   pub ordered : IsOrdered q.positions
   pub range : IsInRange q.positions
@@ -34,6 +41,8 @@ pub record IsSound (q : Seen) : Type 0 where
   pub saved_range : IsInRange q.saved.positions
   pub saved_read : q.saved.positions.read_file ≤ q.positions.read_file
   pub making : ¬ IsTrue q.saved.finished → IsAtEnd q.saved.positions
+  pub marked : IfSome q.mark (λ n. IsAhead q.positions n)
+  pub limit : q.options.limit < 2 ^ 32
 
 -- the name of a queue and the number of one of its data files
 pub record DataFile : Type 0 where
@@ -102,10 +111,10 @@ abbrev pub OnlySaveChanges : Seen → Files → Files → Type 0
 OnlySaveChanges q old new = (file : List ℕ) → file ≢ meta_file q.name → file ≢ meta_temp q.name → ((k : ℕ) → q.saved.positions.read_file ≤ k → k < q.positions.read_file → file ≢ data_file q.name k) → new file ≡ old file
 
 -- the metadata is exactly the text of the queue's depth and positions, and its temporary is gone; where that failed, the metadata is
--- that text or what was there
+-- that text, or what was there and no file was removed
 abbrev pub Rewrites : Seen → Files → Files → Did → Type 0
 Rewrites q old new Done = (new (meta_file q.name) ≡ Some (meta_text q.depth q.positions)) × (new (meta_temp q.name) ≡ None)
-Rewrites q old new Failed = (new (meta_file q.name) ≡ old (meta_file q.name)) ⊎ (new (meta_file q.name) ≡ Some (meta_text q.depth q.positions))
+Rewrites q old new Failed = IsUnsaved q old new ⊎ (new (meta_file q.name) ≡ Some (meta_text q.depth q.positions))
 
 -- no file changes in a put but the data files where writing stands and the next, the metadata, its temporary, and what a save removes;
 -- where the put is refused, none but those two data files

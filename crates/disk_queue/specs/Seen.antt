@@ -1,5 +1,5 @@
 -- What is seen of a queue, and what its calls change of it.
-use Rattle.std.specs.Prelude.{ℕ, ◌≡◌, ◌+◌, ◌-◌, ◌^◌, ◌<◌, List, Bool, true, false, min, if◌then◌else◌, Option, None, IsTrue}
+use Rattle.std.specs.Prelude.{ℕ, ◌≡◌, ◌+◌, ◌-◌, ◌^◌, ◌<◌, List, Bool, true, false, min, nat_lt, if◌then◌else◌, Option, Some, None, unwrap_or, IsTrue}
 use Rattle.queue_image.specs.Places.{rolls}
 use Rattle.queue_image.specs.declared.positions.Positions.{Positions}
 use Rattle.disk_queue.specs.declared.standing.QueueOptions.{QueueOptions}
@@ -102,6 +102,57 @@ abbrev pub after_put : Seen → ℕ → Put → Seen
 after_put q size (Stored sync) = after_save (one_more q size) sync
 after_put q size Fault = unmarked q
 after_put q size (TooLong _) = unmarked q
+
+-- the positions behind a record of n bytes at the read position
+abbrev pub behind : Positions → ℕ → Positions
+behind p n = record p { read_at = p.read_at + (4 + n) }
+
+-- reading goes on at the start of the next file
+abbrev pub next_file : Positions → Positions
+next_file p = record p { read_file = p.read_file + 1; read_at = 0 }
+
+-- the read position is the write position
+abbrev pub ended : Positions → Positions
+ended p = record p { read_file = p.write_file; read_at = p.write_at }
+
+-- the queue that reads at that place
+abbrev pub reading_at : Seen → ℕ → ℕ → Seen
+reading_at q file at = record q { positions = record (q.positions) { read_file = file; read_at = at } }
+
+-- the queue with that mark
+abbrev pub marked : Seen → ℕ → Seen
+marked q n = record q { mark = Some n }
+
+-- the queue without the record that is marked
+abbrev pub advanced : Seen → Seen
+advanced q = record q {
+  depth = q.depth - 1;
+  positions = behind q.positions (unwrap_or q.mark 0);
+  saved = record (q.saved) { since = min (q.saved.since + 1) (2 ^ 64 - 1) };
+  mark = None;
+}
+
+-- the queue without its list
+abbrev pub emptied : Seen → Seen
+emptied q = record q { depth = 0; positions = ended q.positions; mark = None }
+
+-- the queue passes over what is left of the file that is read: it reads on at the next file's start, or at the write position where
+-- that is the write file, and then its list is empty
+abbrev pub passed_over : Seen → Seen
+passed_over q = if nat_lt q.positions.read_file q.positions.write_file then record q { positions = next_file q.positions; mark = None } else emptied q
+
+-- a queue as an opening makes it: nothing is staged, and all is saved
+abbrev pub opened_queue : List ℕ → QueueOptions → ℕ → Positions → Seen
+opened_queue name options depth p = record {
+  name = name;
+  options = options;
+  depth = depth;
+  positions = p;
+  staged = record { file = p.write_file; at = p.write_at; count = 0 };
+  saved = record { positions = p; finished = true; since = 0; failed = false };
+  mark = None;
+  begun = true;
+}
 
 -- no save is due where records were committed or advanced: fewer were since the last one than a save is due after, and no other file
 -- is read or written

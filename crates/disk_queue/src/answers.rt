@@ -1,3 +1,10 @@
+ghost use Rattle.std.specs.Prelude.{◌≡◌};
+ghost use Rattle.disk_queue.specs.declared.answers.Open.TheVariants.{Memory};
+
+use crate::Queue;
+use nsq_base::Memory;
+use thiserror::Error;
+
 /// The answer of `Queue::stage`.
 #[derive(Clone, Copy, Debug, PartialEq, Eq)]
 pub enum Stage {
@@ -30,4 +37,73 @@ pub enum Put {
     Fault,
     /// The record has more bytes than this limit.
     TooLong(u32),
+}
+
+/// The answer of `Queue::peek`.
+#[derive(Clone, Copy, Debug, PartialEq, Eq)]
+pub enum Peek {
+    /// The first record has so many bytes, which stand at the start of the buffer.
+    Got(usize),
+    /// The list is empty.
+    Empty,
+    /// The folder failed, and its count of faults rose in this call.
+    Fault,
+    /// In the file of this number no record stands at this place, and this size is read there: 0 where fewer than four bytes are left.
+    /// The file is passed over.
+    Damaged(u64, u64, u32),
+}
+
+/// The answer of `Queue::take`.
+#[derive(Clone, Copy, Debug, PartialEq, Eq)]
+pub enum Take {
+    /// The first record had so many bytes, which stand at the start of the buffer, and is taken; and whether that was saved.
+    Got(usize, Sync),
+    /// The list is empty.
+    Empty,
+    /// The folder failed, and its count of faults rose in this call.
+    Fault,
+    /// As the answer of `Queue::peek`.
+    Damaged(u64, u64, u32),
+}
+
+/// The answer of `Queue::empty`.
+#[derive(Clone, Copy, Debug, PartialEq, Eq)]
+pub enum Emptied {
+    /// The list is empty, and that is saved. Files that were read may still be there where their removal failed; the next save tries
+    /// that again.
+    Done,
+    /// The folder failed, and its count of faults rose in this call. The list is as before.
+    Fault,
+}
+
+/// The answer of `Queue::delete`.
+#[derive(Drop)]
+pub enum Deleted {
+    /// An opening finds nothing. The queue's files are gone, but for those whose removal failed and for data files that forgotten records
+    /// began behind the next one.
+    Done,
+    /// The folder failed, and its count of faults rose in this call. The queue, with the list as before.
+    Fault(Queue),
+}
+
+/// Why a queue wasn't opened.
+#[derive(Clone, Copy, Debug, PartialEq, Eq, Error)]
+pub enum Open {
+    /// The folder failed, and its count of faults rose in this call.
+    #[error("disk fault")]
+    Fault,
+    /// The metadata isn't in its grammar.
+    #[error("bad metadata")]
+    BadMeta,
+    /// Want of memory.
+    #[error("out of memory")]
+    Memory,
+}
+
+impl From<Memory> for Open {
+    ghost from_gives = { λ _ e. e ≡ Memory };
+
+    fn from(_error: Memory) -> Open {
+        Open::Memory
+    }
 }

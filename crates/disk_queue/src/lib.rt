@@ -1,7 +1,7 @@
 //! A queue of records on disk: an unbounded list that a folder keeps. It writes go-diskqueue's layout (nsqio/go-diskqueue).
 //!
 //! The files always hold the list, also after a call that failed, and an opening finds it once it is saved (`queue_image` says
-//! what an opening finds). No call but `Queue::fresh` takes memory.
+//! what an opening finds). No call but `Queue::fresh` and `Queue::open` takes memory.
 #![tactic(auto)]
 
 mod answers;
@@ -10,12 +10,14 @@ pub mod laws;
 mod metadata;
 mod queue;
 mod queue_files;
+#[cfg(test)]
+mod reading_tests;
 mod replace;
 mod standing;
 #[cfg(test)]
 mod tests;
 
-pub use answers::{Put, Stage, Sync};
+pub use answers::{Deleted, Emptied, Open, Peek, Put, Stage, Sync, Take};
 pub use queue::Queue;
 pub use replace::{replace_file, switch, write_temp};
 pub use standing::QueueOptions;

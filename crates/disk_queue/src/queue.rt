@@ -9,6 +9,10 @@ ghost use Rattle.disk_queue.specs.Answers.{waiting_after, bodies_after, StaysWhe
 ghost use Rattle.disk_queue.specs.Replaced.{OnlyTwoChange};
 ghost use Rattle.disk_queue.specs.Parts.{IsSound, OnlySaveChanges, Rewrites, Gone, PutChanges, StageWrites, WritesPlace, base_for, first_base, place_for};
 
+mod emptying;
+mod opening;
+mod reading;
+
 use crate::queue_files::QueueFiles;
 use crate::standing::{LastSave, QueueOptions, Staged};
 use crate::{Put, Stage, Sync};

@@ -2,6 +2,8 @@
 
 ghost use Rattle.std.specs.Prelude.{◌≡◌, ◌^◌, ◌<◌, ◌≤◌, length};
 
+mod opening;
+
 use crate::{Put, Queue, QueueOptions, Stage, Sync, replace_file};
 use nsq_base::{Bodies, Body, Memory};
 use nsq_outside::{Did, Failing, FolderCall, MemFolder};
@@ -10,7 +12,7 @@ use std::alloc::{AllocError, Global};
 use std::test::Fail;
 
 // Two records of 40 bytes fit into a file.
-const ROLLING: QueueOptions = QueueOptions {
+pub const ROLLING: QueueOptions = QueueOptions {
     max_bytes: 100,
     sync_every: 2500,
     least: 26,
@@ -26,12 +28,12 @@ const WIDE: QueueOptions = QueueOptions {
 };
 
 // A folder without files, in which no call fails.
-fn empty_folder(alloc: Global) -> Result<MemFolder, Memory> {
+pub fn empty_folder(alloc: Global) -> Result<MemFolder, Memory> {
     MemFolder::new(alloc, Vec::new(alloc), Vec::new(alloc))
 }
 
 // A folder without files, of which the calls of a kind with the numbers from `from` on and below `to` fail.
-fn failing_folder(
+pub fn failing_folder(
     alloc: Global,
     call: FolderCall,
     from: u64,
@@ -59,7 +61,7 @@ fn record(alloc: Global, bytes: &[u8]) -> Result<Vec<u8>, AllocError>
 }
 
 // Whether a file is there and has these bytes.
-fn has(folder: &MemFolder, name: &str, bytes: &[u8]) -> bool {
+pub fn has(folder: &MemFolder, name: &str, bytes: &[u8]) -> bool {
     match folder.file(name) {
         Some(found) => found == bytes,
         None => false,
@@ -290,7 +292,7 @@ fn found(alloc: Global, folder: &MemFolder) -> Result<Found, Memory> {
 }
 
 // Whether an opening finds these records, and no bad file.
-fn finds(alloc: Global, folder: &MemFolder, expected: &Bodies) -> Result<bool, Memory> {
+pub fn finds(alloc: Global, folder: &MemFolder, expected: &Bodies) -> Result<bool, Memory> {
     match found(alloc, folder)? {
         Found::BadMeta => Ok(false),
         Found::Records(listing) => {

@@ -2,7 +2,7 @@ use Rattle.std.proofs.Common.{subst, [], ◌∷◌, length}
 use Rattle.disk_queue.specs.Holding.{OwnChange}
 use Rattle.disk_queue.specs.Parts.{OnlySaveChanges}
 use Rattle.disk_queue.proofs.Kept.{own_join}
-use Rattle.disk_queue.proofs.Saves.{put_changes}
+use Rattle.disk_queue.proofs.Saves.{put_changes, put_saves}
 use Rattle.disk_queue.proofs.queue.Queue.put.Goals as goal
 
 pub returns-in-Fault-clause-list : goal.returns-in-Fault-clause-list
@@ -28,3 +28,10 @@ returns-clause-files g c = λ told.
     let new = g.F.Folder.files c.commit.new.folder in
     put_changes c.args.self.now (length c.args.bytes.now) c.commit.result old mid new (c.in-Staged.ensures.files told)
     (subst (λ q. OnlySaveChanges q mid new) c.in-Staged.ensures.seen (c.commit.ensures.files told))
+
+pub returns-clause-metadata : goal.returns-clause-metadata
+returns-clause-metadata g c = λ told.
+    let old = g.F.Folder.files c.args.folder.now in
+    let mid = g.F.Folder.files c.stage.new.folder in
+    let new = g.F.Folder.files c.commit.new.folder in
+    put_saves c.args.self.now c.stage.new.self c.commit.new.self old mid new (length c.args.bytes.now) c.commit.result c.in-Staged.ensures.seen c.commit.ensures.seen (c.in-Staged.ensures.metadata told) (c.commit.ensures.metadata told)

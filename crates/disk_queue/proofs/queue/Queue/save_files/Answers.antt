@@ -1,6 +1,6 @@
 use Rattle.std.proofs.Common.{subst}
 use Rattle.disk_queue.specs.Parts.{OnlyNumbersChange}
-use Rattle.disk_queue.proofs.Saves.{rewritten}
+use Rattle.disk_queue.proofs.Saves.{rewritten, not_rewritten}
 use Rattle.disk_queue.proofs.queue.Queue.save_files.Goals as goal
 
 pub returns-clause-metadata : goal.returns-clause-metadata
@@ -10,3 +10,7 @@ returns-clause-metadata g c = λ told.
     let new = g.F.Folder.files c.remove.new.folder in
     let removed = subst (λ name. OnlyNumbersChange name mid new c.self.inside.saved.positions.read_file c.self.inside.positions.read_file) c.in-Done.ensures.name (c.remove.ensures.others told) in
     rewritten _ c.args.self.now old mid new c.remove.result c.self.view_is c.self.invariant.range.read_file (c.in-Done.ensures.metadata told) removed
+
+pub returns-in-Failed-clause-metadata : goal.returns-in-Failed-clause-metadata
+returns-in-Failed-clause-metadata g c = λ told.
+    not_rewritten _ c.args.self.now (g.F.Folder.files c.args.folder.now) (g.F.Folder.files c.save.new.folder) c.self.view_is c.self.invariant.range.read_file (c.in-Failed.ensures.metadata told) (c.in-Failed.ensures.others told)

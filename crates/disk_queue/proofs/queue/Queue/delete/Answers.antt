@@ -1,0 +1,17 @@
+use Rattle.disk_queue.proofs.ListDropped.{all_forgotten, all_gone, deletes_own}
+use Rattle.disk_queue.proofs.queue.Queue.delete.Goals as goal
+
+pub returns-clause-found : goal.returns-clause-found
+returns-clause-found g c = λ told.
+    all_forgotten c.args.self c.empty.new.self (g.F.Folder.files c.empty.new.folder) (g.F.Folder.files c.remove_files.new.folder) _ _ c.remove_files.ensures.sound c.in-Done.ensures.seen (c.in-Done.ensures.metadata told).0
+    (c.remove_files.ensures.deletes told)
+
+pub returns-clause-gone : goal.returns-clause-gone
+returns-clause-gone g c = λ told stands.
+    all_gone c.args.self c.empty.new.self (g.F.Folder.files c.empty.new.folder) (g.F.Folder.files c.remove_files.new.folder) (g.F.Folder.folder_faults c.args.folder.now) _ _ c.in-Done.ensures.faults c.remove_files.ensures.sound
+    c.in-Done.ensures.seen (c.in-Done.ensures.stands told stands) (c.in-Done.ensures.metadata told).1 (c.remove_files.ensures.deletes told)
+
+pub returns-clause-others : goal.returns-clause-others
+returns-clause-others g c = λ told.
+    deletes_own c.args.self c.empty.new.self (g.F.Folder.files c.args.folder.now) (g.F.Folder.files c.empty.new.folder) (g.F.Folder.files c.remove_files.new.folder) _ _ c.remove_files.ensures.sound c.in-Done.ensures.seen
+    (c.in-Done.ensures.others told) (c.remove_files.ensures.deletes told)

@@ -1,0 +1,101 @@
+use Rattle.std.proofs.Common.{◌∙◌, ◌^◌, ◌<◌, List, ℕ, sym, ap, subst, rules}
+use Rattle.disk_queue.specs.Seen.{opened_queue, Seen}
+use Rattle.disk_queue.specs.Holding.{SaveStands}
+use Rattle.disk_queue.specs.Opened.{IsOpened, IsTidied}
+use Rattle.disk_queue.specs.Tidied.{OnlyTidied, IsTidy, IsWritten, OnlyWritten}
+use Rattle.disk_queue.proofs.OpeningFinds.{same_files}
+use Rattle.disk_queue.proofs.OpeningDone.{opened_list, opened_stands, opened_tidied, tidied_own, written_own, carried}
+use Rattle.disk_queue.proofs.queue.Queue.open.Goals as goal
+
+pub returns-in-Failed-clause-others : goal.returns-in-Failed-clause-others
+returns-in-Failed-clause-others g c = λ told.
+    let f0 = g.F.Folder.files c.args.folder.now in
+    let f1 = g.F.Folder.files c.make_plan.new.folder in
+    let f4 = g.F.Folder.files c.tidy.new.folder in
+    let plan = c.in-Ok-make_plan.plan in
+    let named = c.in-Ok-make_plan.ensures.name ∙ c.in-Ok.ensures in
+    let same = same_files f0 f1 (c.in-Ok-make_plan.ensures.same told) in
+    tidied_own c.args.name.now plan f0 f4 c.in-Ok-make_plan.ensures.sound (carried (λ n f. OnlyTidied n plan f f4) c.make_plan.new.files c.args.name.now f1 f0 named same (c.in-Failed.ensures.others told))
+
+pub returns-in-Failed-write_down-clause-others : goal.returns-in-Failed-write_down-clause-others
+returns-in-Failed-write_down-clause-others g c = λ told file other.
+    let f0 = g.F.Folder.files c.args.folder.now in
+    let f1 = g.F.Folder.files c.make_plan.new.folder in
+    let f4 = g.F.Folder.files c.tidy.new.folder in
+    let f5 = g.F.Folder.files c.write_down.new.folder in
+    let plan = c.in-Ok-make_plan.plan in
+    let named = c.in-Ok-make_plan.ensures.name ∙ c.in-Ok.ensures in
+    let same = same_files f0 f1 (c.in-Ok-make_plan.ensures.same told) in
+    written_own c.args.name.now plan f4 f5 c.in-Ok-make_plan.ensures.sound
+    (subst (λ (n : List ℕ). OnlyWritten n plan f4 f5) (c.in-Done.ensures.name ∙ named) (c.in-Failed-write_down.ensures.others told)) file other
+    ∙ tidied_own c.args.name.now plan f0 f4 c.in-Ok-make_plan.ensures.sound (carried (λ n f. OnlyTidied n plan f f4) c.make_plan.new.files c.args.name.now f1 f0 named same (c.in-Done.ensures.others told)) file other
+
+pub returns-clause-others : goal.returns-clause-others
+returns-clause-others g c = λ told file other.
+    let f0 = g.F.Folder.files c.args.folder.now in
+    let f1 = g.F.Folder.files c.make_plan.new.folder in
+    let f4 = g.F.Folder.files c.tidy.new.folder in
+    let f5 = g.F.Folder.files c.write_down.new.folder in
+    let plan = c.in-Ok-make_plan.plan in
+    let named = c.in-Ok-make_plan.ensures.name ∙ c.in-Ok.ensures in
+    let same = same_files f0 f1 (c.in-Ok-make_plan.ensures.same told) in
+    written_own c.args.name.now plan f4 f5 c.in-Ok-make_plan.ensures.sound
+    (subst (λ (n : List ℕ). OnlyWritten n plan f4 f5) (c.in-Done.ensures.name ∙ named) (c.in-Done-write_down.ensures.others told)) file other
+    ∙ tidied_own c.args.name.now plan f0 f4 c.in-Ok-make_plan.ensures.sound (carried (λ n f. OnlyTidied n plan f f4) c.make_plan.new.files c.args.name.now f1 f0 named same (c.in-Done.ensures.others told)) file other
+
+pub returns-clause-list : goal.returns-clause-list
+returns-clause-list g c = λ told.
+    let name = c.args.name.now in
+    let f0 = g.F.Folder.files c.args.folder.now in
+    let f1 = g.F.Folder.files c.make_plan.new.folder in
+    let f4 = g.F.Folder.files c.tidy.new.folder in
+    let f5 = g.F.Folder.files c.write_down.new.folder in
+    let plan = c.in-Ok-make_plan.plan in
+    let named = c.in-Ok-make_plan.ensures.name ∙ c.in-Ok.ensures in
+    let all_named = c.in-Done-write_down.ensures.name ∙ c.in-Done.ensures.name ∙ named in
+    let same = same_files f0 f1 (c.in-Ok-make_plan.ensures.same told) in
+    let small : c.args.options.limit < 2 ^ 32 = search rules in
+    subst (λ (q : Seen). IsOpened q f0 f5) (sym (c.opened.ensures ∙ ap (λ (n : List ℕ). opened_queue n c.args.options plan.depth plan.positions) all_named))
+    (opened_list c.args.options name plan f0 f4 f5 small c.in-Ok-make_plan.ensures.sound (c.in-Ok-make_plan.ensures.plan told)
+    (carried (λ n f. IsTidy n plan f f4) c.make_plan.new.files name f1 f0 named same (c.in-Done.ensures.tidy told))
+    (carried (λ n f. OnlyTidied n plan f f4) c.make_plan.new.files name f1 f0 named same (c.in-Done.ensures.others told))
+    (subst (λ (n : List ℕ). IsWritten n plan f5) (c.in-Done.ensures.name ∙ named) (c.in-Done-write_down.ensures.written told))
+    (subst (λ (n : List ℕ). OnlyWritten n plan f4 f5) (c.in-Done.ensures.name ∙ named) (c.in-Done-write_down.ensures.others told)))
+
+pub returns-clause-stands : goal.returns-clause-stands
+returns-clause-stands g c = λ told.
+    let name = c.args.name.now in
+    let f0 = g.F.Folder.files c.args.folder.now in
+    let f1 = g.F.Folder.files c.make_plan.new.folder in
+    let f4 = g.F.Folder.files c.tidy.new.folder in
+    let f5 = g.F.Folder.files c.write_down.new.folder in
+    let plan = c.in-Ok-make_plan.plan in
+    let named = c.in-Ok-make_plan.ensures.name ∙ c.in-Ok.ensures in
+    let all_named = c.in-Done-write_down.ensures.name ∙ c.in-Done.ensures.name ∙ named in
+    let same = same_files f0 f1 (c.in-Ok-make_plan.ensures.same told) in
+    let small : c.args.options.limit < 2 ^ 32 = search rules in
+    subst (λ (q : Seen). SaveStands q f5) (sym (c.opened.ensures ∙ ap (λ (n : List ℕ). opened_queue n c.args.options plan.depth plan.positions) all_named))
+    (opened_stands c.args.options name plan f0 f4 f5 small c.in-Ok-make_plan.ensures.sound (c.in-Ok-make_plan.ensures.plan told)
+    (carried (λ n f. IsTidy n plan f f4) c.make_plan.new.files name f1 f0 named same (c.in-Done.ensures.tidy told))
+    (carried (λ n f. OnlyTidied n plan f f4) c.make_plan.new.files name f1 f0 named same (c.in-Done.ensures.others told))
+    (subst (λ (n : List ℕ). IsWritten n plan f5) (c.in-Done.ensures.name ∙ named) (c.in-Done-write_down.ensures.written told))
+    (subst (λ (n : List ℕ). OnlyWritten n plan f4 f5) (c.in-Done.ensures.name ∙ named) (c.in-Done-write_down.ensures.others told)))
+
+pub returns-clause-tidied : goal.returns-clause-tidied
+returns-clause-tidied g c = λ told.
+    let name = c.args.name.now in
+    let f0 = g.F.Folder.files c.args.folder.now in
+    let f1 = g.F.Folder.files c.make_plan.new.folder in
+    let f4 = g.F.Folder.files c.tidy.new.folder in
+    let f5 = g.F.Folder.files c.write_down.new.folder in
+    let plan = c.in-Ok-make_plan.plan in
+    let named = c.in-Ok-make_plan.ensures.name ∙ c.in-Ok.ensures in
+    let all_named = c.in-Done-write_down.ensures.name ∙ c.in-Done.ensures.name ∙ named in
+    let same = same_files f0 f1 (c.in-Ok-make_plan.ensures.same told) in
+    let small : c.args.options.limit < 2 ^ 32 = search rules in
+    subst (λ (q : Seen). IsTidied q f0 f5) (sym (c.opened.ensures ∙ ap (λ (n : List ℕ). opened_queue n c.args.options plan.depth plan.positions) all_named))
+    (opened_tidied c.args.options name plan f0 f4 f5 small c.in-Ok-make_plan.ensures.sound (c.in-Ok-make_plan.ensures.plan told)
+    (carried (λ n f. IsTidy n plan f f4) c.make_plan.new.files name f1 f0 named same (c.in-Done.ensures.tidy told))
+    (carried (λ n f. OnlyTidied n plan f f4) c.make_plan.new.files name f1 f0 named same (c.in-Done.ensures.others told))
+    (subst (λ (n : List ℕ). IsWritten n plan f5) (c.in-Done.ensures.name ∙ named) (c.in-Done-write_down.ensures.written told))
+    (subst (λ (n : List ℕ). OnlyWritten n plan f4 f5) (c.in-Done.ensures.name ∙ named) (c.in-Done-write_down.ensures.others told)))

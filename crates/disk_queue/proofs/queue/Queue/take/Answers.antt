@@ -1,0 +1,22 @@
+use Rattle.disk_queue.proofs.Advances.{saves_from, take_changes, take_own}
+use Rattle.disk_queue.proofs.queue.Queue.take.Goals as goal
+
+pub returns-clause-list : goal.returns-clause-list
+returns-clause-list g c = λ told bodies waiting h. c.advance.ensures.list told bodies waiting (c.in-Got.ensures.list told bodies waiting h)
+
+pub returns-clause-kept : goal.returns-clause-kept
+returns-clause-kept g c = λ told bodies waiting h. c.advance.ensures.kept told bodies waiting (c.in-Got.ensures.list told bodies waiting h)
+
+pub returns-clause-metadata : goal.returns-clause-metadata
+returns-clause-metadata g c = λ told.
+    saves_from c.advance.new.self (g.F.Folder.files c.args.folder.now) (g.F.Folder.files c.peek.new.folder) (g.F.Folder.files c.advance.new.folder) c.advance.result (c.in-Got.ensures.same told) (c.advance.ensures.metadata told)
+
+pub returns-clause-files : goal.returns-clause-files
+returns-clause-files g c = λ told.
+    take_changes c.args.self.now c.peek.new.self c.advance.new.self c.in-Got.size c.advance.result (g.F.Folder.files c.args.folder.now) (g.F.Folder.files c.peek.new.folder) (g.F.Folder.files c.advance.new.folder)
+    c.in-Got.ensures.seen c.advance.ensures.seen (c.in-Got.ensures.same told) (c.advance.ensures.files told)
+
+pub returns-clause-others : goal.returns-clause-others
+returns-clause-others g c = λ told.
+    take_own c.args.self.now c.peek.new.self (g.F.Folder.files c.args.folder.now) (g.F.Folder.files c.peek.new.folder) (g.F.Folder.files c.advance.new.folder) c.in-Got.ensures.name (c.in-Got.ensures.same told)
+    (c.advance.ensures.others told)

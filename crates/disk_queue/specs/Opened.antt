@@ -1,0 +1,73 @@
+-- What an opening of a queue makes of its files.
+use Rattle.std.specs.Prelude.{ℕ, ◌≡◌, ◌≢◌, ◌+◌, ◌^◌, ◌<◌, ◌≤◌, min, List, [], length, Some, None, IsSome, Contains}
+use Rattle.nsq_outside.specs.Causes.{Rose}
+use Rattle.nsq_outside.specs.Files.{Files, SameFiles, cut_to}
+use Rattle.queue_image.specs.FileNames.{data_file, meta_file, meta_temp, set_aside, IsFileOf}
+use Rattle.queue_image.specs.Places.{IsAtEnd}
+use Rattle.queue_image.specs.Between.{content}
+use Rattle.queue_image.specs.Finds.{IsFound, Records, BadMeta}
+use Rattle.queue_image.specs.declared.positions.Positions.{Positions}
+use Rattle.disk_queue.specs.Seen.{Seen}
+use Rattle.disk_queue.specs.Holding.{Holds, Says}
+use Rattle.disk_queue.specs.Answers.{IsKept}
+use Rattle.disk_queue.specs.declared.answers.Open.{Open}
+use Rattle.disk_queue.specs.declared.answers.Open.TheVariants.{Fault, BadMeta as IsBadMeta, Memory}
+
+-- the queue has the list that is found, and that is saved: another opening finds it and no bad file
+pub record IsOpened (q : Seen) (old new : Files) : Type 0 where
+  pub bodies : List (List ℕ)
+  pub bad : List ℕ
+  pub found : IsFound q.options.least q.options.limit old q.name (Records bodies bad)
+  pub holds : Holds q new bodies []
+  pub kept : IsKept q new bodies
+  pub ends : length (content new q.name q.positions.write_file) ≡ q.positions.write_at
+  pub nothing : bodies ≡ [] → IsAtEnd q.positions × (q.positions.write_at ≡ 0)
+
+-- the data file of that number, if there was one, has `.bad` added to its name now, in place of a file that had this name; where there was
+-- none, that one stays; only a new write file has its number
+pub record IsSetAside (name : List ℕ) (old new : Files) (write k : ℕ) : Type 0 where
+  pub moved : IsSome (old (data_file name k)) → new (set_aside (data_file name k)) ≡ old (data_file name k)
+  pub gone : k ≢ write → new (data_file name k) ≡ None
+  pub stays : old (data_file name k) ≡ None → new (set_aside (data_file name k)) ≡ old (set_aside (data_file name k))
+
+-- with metadata of these positions, where these files are bad. Set aside are those above the write file and the bad ones, and none else;
+-- those below the read file are gone, and the good ones before the write file stay. Writing goes on in the write file, cut at the write position;
+-- or where that is bad, at the start of the next file, whose number is at most 2 ^ 40
+pub record IsTidiedAt (name : List ℕ) (old new : Files) (p : Positions) (bad_files : List ℕ) (q : Positions) : Type 0 where
+  pub removed : (k : ℕ) → k < p.read_file → new (data_file name k) ≡ None
+  pub above : (k : ℕ) → p.write_file < k → k < 2 ^ 64 → IsSetAside name old new q.write_file k
+  pub bad : (k : ℕ) → Contains bad_files k → IsSetAside name old new q.write_file k
+  pub kept_aside : (k : ℕ) → k ≤ p.write_file → ¬ Contains bad_files k → new (set_aside (data_file name k)) ≡ old (set_aside (data_file name k))
+  pub good : (k : ℕ) → q.read_file ≤ k → k < p.write_file → ¬ Contains bad_files k → new (data_file name k) ≡ old (data_file name k)
+  pub same_write : ¬ Contains bad_files p.write_file → (q.write_file ≡ p.write_file) × (new (data_file name p.write_file) ≡ Some (cut_to (content old name p.write_file) q.write_at))
+  pub next_write : Contains bad_files p.write_file → (q.write_file ≡ min (p.write_file + 1) (2 ^ 40)) × (q.write_at ≡ 0)
+
+-- what becomes of the files. Without metadata every data file is set aside, and writing begins at file 0. The metadata and its temporary are
+-- never set aside, and no temporary is left
+pub record IsTidied (q : Seen) (old new : Files) : Type 0 where
+  pub without : old (meta_file q.name) ≡ None → (q.positions.write_file ≡ 0) × ((k : ℕ) → k < 2 ^ 64 → IsSetAside q.name old new 0 k)
+  pub with_meta : (p : Positions) → Says (old (meta_file q.name)) p → (bodies : List (List ℕ)) (bad_files : List ℕ)
+      → IsFound q.options.least q.options.limit old q.name (Records bodies bad_files) → IsTidiedAt q.name old new p bad_files q.positions
+  pub temp : new (meta_temp q.name) ≡ None
+  pub aside_meta : new (set_aside (meta_file q.name)) ≡ old (set_aside (meta_file q.name))
+  pub aside_temp : new (set_aside (meta_temp q.name)) ≡ old (set_aside (meta_temp q.name))
+
+-- BadMeta comes only where the metadata is not in its grammar, and then no file changed; nor did one where memory was wanting
+pub record IsBadlyFound (least limit : ℕ) (name : List ℕ) (old new : Files) : Type 0 where
+  pub found : IsFound least limit old name BadMeta
+  pub same : SameFiles old new
+
+abbrev pub RefusedWhere : ℕ → ℕ → List ℕ → Files → Files → Open → Type 0
+RefusedWhere least limit name old new Fault = Unit {0}
+RefusedWhere least limit name old new IsBadMeta = IsBadlyFound least limit name old new
+RefusedWhere least limit name old new Memory = SameFiles old new
+
+-- no file changes but those of the queue, those set aside among them
+abbrev pub FilesOfChange : List ℕ → Files → Files → Type 0
+FilesOfChange name old new = (file : List ℕ) → ¬ IsFileOf name file → new file ≡ old file
+
+-- a fault comes only with a rise
+abbrev pub OpenFails : ℕ → ℕ → Open → Type 0
+OpenFails before now Fault = Rose before now
+OpenFails before now IsBadMeta = Unit {0}
+OpenFails before now Memory = Unit {0}

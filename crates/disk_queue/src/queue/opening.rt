@@ -1,0 +1,96 @@
+ghost use Rattle.std.specs.Prelude.{◌≡◌, ◌≤◌, IsTrue, IfOk, IfErr};
+ghost use Rattle.disk_queue.specs.Seen.{opened_queue};
+ghost use Rattle.queue_image.specs.Places.{IsOrdered, IsInRange};
+ghost use Rattle.disk_queue.specs.Parts.{distance};
+ghost use Rattle.disk_queue.specs.Holding.{SaveStands};
+ghost use Rattle.disk_queue.specs.Opened.{IsOpened, IsTidied, RefusedWhere, FilesOfChange, OpenFails};
+
+mod names;
+mod plan;
+mod tidying;
+mod walking;
+
+use self::names::Names;
+use self::plan::make_plan;
+use self::tidying::{tidy, write_down};
+use super::Queue;
+use crate::queue_files::QueueFiles;
+use crate::standing::{LastSave, Staged};
+use crate::{Open, QueueOptions};
+use nsq_outside::{Did, Folder};
+use queue_image::Positions;
+use std::alloc::Global;
+
+/// Opening.
+impl Queue {
+    /// The queue that a folder has under that name: the list that `queue_image::found_queue` finds. Makes all room that the other calls
+    /// need.
+    ///
+    /// Without metadata every data file of the name gets `.bad` added to its name. With metadata those above the write file get it, and
+    /// those that are damaged, and those below the read file are removed. The write file is cut at the write position, or to nothing
+    /// where the list is empty; where it is damaged, writing goes on in a new file. All that is then saved. A name with `.bad` that is
+    /// there already is replaced.
+    pub fn open<F: Folder>(
+        alloc: Global,
+        folder: &mut F,
+        name: &str,
+        options: QueueOptions,
+    ) -> Result<Queue, Open>
+        ensures seen { IfOk result (λ q. q ≡ opened_queue name.now options q.depth q.positions) }
+        ensures list { IsTrue F.tells_files → IfOk result (λ q. IsOpened q (F.files folder.old) (F.files folder.new)) }
+        ensures stands { IsTrue F.tells_files → IfOk result (λ q. SaveStands q (F.files folder.new)) }
+        ensures tidied { IsTrue F.tells_files → IfOk result (λ q. IsTidied q (F.files folder.old) (F.files folder.new)) }
+        ensures refused { IsTrue F.tells_files → IfErr result (λ e. RefusedWhere options.least options.limit name.now (F.files folder.old) (F.files folder.new) e) }
+        ensures others { IsTrue F.tells_files → FilesOfChange name.now (F.files folder.old) (F.files folder.new) }
+        ensures faults { F.folder_faults folder.old ≤ F.folder_faults folder.new }
+        ensures cause { IfErr result (λ e. OpenFails (F.folder_faults folder.old) (F.folder_faults folder.new) e) }
+    {
+        let Ok(mut files) = QueueFiles::new(alloc, name) else {
+            return Err(Open::Memory);
+        };
+        let Ok(mut names) = Names::new(alloc, name) else {
+            return Err(Open::Memory);
+        };
+        let plan = match make_plan(alloc, folder, &mut files, name, &options) {
+            Ok(plan) => plan,
+            Err(why) => return Err(why),
+        };
+        match tidy(folder, &mut names, &mut files, &plan) {
+            Did::Done => {}
+            Did::Failed => return Err(Open::Fault),
+        }
+        match write_down(folder, &mut files, &plan) {
+            Did::Done => {}
+            Did::Failed => return Err(Open::Fault),
+        }
+        Ok(opened(files, options, plan.depth, plan.positions))
+    }
+}
+
+// A queue with a list at these positions, all of which is saved.
+fn opened(files: QueueFiles, options: QueueOptions, depth: u128, positions: Positions) -> Queue
+    requires order { IsOrdered positions }
+    requires range { IsInRange positions }
+    requires depth { depth ≤ distance positions.write_file positions.write_at }
+    ensures { result ≡ opened_queue files options depth positions }
+{
+    Queue {
+        options,
+        depth,
+        positions,
+        staged: Staged {
+            file: positions.write_file,
+            at: positions.write_at,
+            count: 0,
+        },
+        saved: LastSave {
+            positions,
+            finished: true,
+            since: 0,
+            failed: false,
+        },
+        mark: None,
+        begun: true,
+        files,
+    }
+}

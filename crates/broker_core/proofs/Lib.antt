@@ -5,4 +5,7 @@ pub mod Keeping
 pub mod Standing
 pub mod Leading
 pub mod Answering
+pub mod Whole
 pub mod Flushing
+pub mod Leaving
+pub mod Keepable

@@ -59,7 +59,7 @@ front_pair false r t o p d e a b = b
 -- the room of a name is that of the topic of the name, there or new
 found_pair : (rooms : List Room) (topics : List Topic) (name : List ℕ) → Pairwise IsRoomOf rooms topics
     → IsRoomOf (unwrap_or (find (λ r. bytes_eq name r.name) rooms) (new_room name)) (unwrap_or (find (λ t. bytes_eq name t.name) topics) (new_topic name))
-found_pair [] [] name all = record { name = refl; paused = refl; count = refl; waiting = refl }
+found_pair [] [] name all = record { name = refl; paused = refl; count = refl; waiting = refl; queued = refl }
 found_pair [] (t ∷ topics) name all = absurd all
 found_pair (r ∷ rooms) [] name all = absurd all
 found_pair (r ∷ rooms) (t ∷ topics) name all =
@@ -74,6 +74,7 @@ either_pair false r t m loose is = record {
   paused = is.paused;
   count = ap counted is.count;
   waiting = ap (λ ms. ms ++ m ∷ []) is.waiting ∙ sym (map-append (λ (w : Waiting). w.message) t.waiting (record { message = m; loose = loose } ∷ []));
+  queued = is.queued;
 }
 
 -- a message is put into a room and into its topic

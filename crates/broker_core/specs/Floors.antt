@@ -1,23 +1,26 @@
 -- What a floor holds, the states that it stands for, and what turns lead to.
-use Rattle.std.specs.Prelude.{◌≡◌, ℕ, ◌+◌, ◌-◌, ◌^◌, ◌<◌, ◌≤◌, min, max, Bool, true, false, not, ◌&&◌, IsTrue, List, [], ◌∷◌, ◌++◌, length, map, Contains, Option, Some, None}
+use Rattle.std.specs.Prelude.{◌≡◌, ℕ, ◌+◌, ◌≤◌, Bool, true, not, IsTrue, List, ◌++◌, map, Contains}
 use Rattle.nsq_base.specs.declared.options.Options.{Options}
+use Rattle.nsq_base.specs.Name.{is_ephemeral}
 use Rattle.nsq_outside.specs.Files.{Files, SameFiles}
 use Rattle.v2_frame.specs.declared.message.Message.{Message}
-use Rattle.history.specs.Legal.{History, Legal, faults_of, last_moment}
+use Rattle.history.specs.Legal.{History, Legal, faults_of}
 use Rattle.history.specs.State as state
 use Rattle.history.specs.State.{State, Waiting, has_begun, is_there}
 use Rattle.history.specs.Found.{Pairwise}
 use Rattle.history.specs.Talk.{own}
 use Rattle.broker_core.specs.declared.settings.Settings.{Settings}
 use Rattle.broker_core.specs.Moments.{IsTimed, moment_of}
-use Rattle.broker_core.specs.Calls.{has_began, is_over}
+use Rattle.broker_core.specs.Calls.{has_began}
 
--- a topic of a floor: its name, whether it is paused, how many messages were put into it, and those that wait, in order
+-- a topic of a floor: its name, whether it is paused, how many messages were put into it, those that wait, in order, and whether it has a
+-- queue on disk to which nothing was written yet
 pub record Room : Type 0 where
   pub name : List ℕ
   pub paused : Bool
   pub count : ℕ
   pub waiting : List Message
+  pub queued : Bool
 
 -- the numbers of the options that a floor uses
 abbrev pub settings_of : Options → Settings
@@ -41,14 +44,15 @@ pub record Scene : Type 0 where
   pub faults : ℕ
   pub coming : ℕ → ℕ
 
--- the room has what the topic has
+-- the room has what the topic has, and a queue where the folder keeps the topic
 pub record IsRoomOf (room : Room) (topic : state.Topic) : Type 0 where
   pub name : room.name ≡ topic.name
   pub paused : room.paused ≡ topic.paused
   pub count : room.count ≡ topic.count
   pub waiting : room.waiting ≡ map (λ (w : Waiting). w.message) topic.waiting
+  pub queued : room.queued ≡ not (is_ephemeral topic.name)
 
--- the floor stands for the state: it has the numbers of the state's options, its epoch, ids used, clients and topics, knows of a Stop, and its moment isn't before the state's
+-- the floor stands for the state: it has the numbers of the state's options, its epoch, ids used, clients and topics, knows of a Stop, and its moment isn't before the state's; it wasn't flushed yet
 pub record Stands (scene : Scene) (s : State) : Type 0 where
   pub settings : scene.holding.settings ≡ settings_of s.options
   pub epoch : scene.holding.epoch ≡ s.epoch

@@ -1,5 +1,6 @@
 -- What a flush of a floor answers, and what its topics' queues are before it.
-use Rattle.std.specs.Prelude.{◌≡◌, ℕ, ◌+◌, ◌≤◌, Bool, not, List, [], All, map, filter, length, Option, Some, None}
+use Rattle.std.specs.Prelude.{◌≡◌, ℕ, ◌+◌, ◌≤◌, Bool, true, false, not, List, [], All, map, filter, length, Option, Some, None}
+use Rattle.std.specs.List.{AllByRecursion}
 use Rattle.nsq_base.specs.Name.{is_ephemeral, IsEphemeral}
 use Rattle.nsq_outside.specs.Causes.{Rose}
 use Rattle.nsq_outside.specs.Files.{Files}
@@ -9,7 +10,8 @@ use Rattle.v2_frame.specs.declared.message.Message.{Message}
 use Rattle.history.specs.declared.entry.Act.{Act}
 use Rattle.history.specs.declared.entry.Act.TheVariants.{Did}
 use Rattle.v2_frame.specs.Written.{message_bytes}
-use Rattle.history.specs.Data.{KeptTopic}
+use Rattle.history.specs.Data.{KeptTopic, CanKeepTopic, IsKept}
+use Rattle.history.specs.Found.{Pairwise, IsRecordOf, IsFoundQueue, compared}
 use Rattle.queue_image.specs.FileNames.{meta_file, IsOwnFile}
 use Rattle.queue_image.specs.Finds.{IsFound, Records}
 use Rattle.disk_queue.specs.Seen.{Seen, fresh_queue}
@@ -79,6 +81,34 @@ abbrev pub FoundWhereDone : Files → List ℕ → List (List ℕ) → Flushed �
 FoundWhereDone files name bodies Done = IsFound 26 (26 + longest_message) files name (Records bodies [])
 FoundWhereDone files name bodies Fault = Unit {0}
 
+-- this holds behind a flush that is Done; nothing is said where one failed
+abbrev pub WhereDone : Flushed → Type 0 → Type 0
+WhereDone Done P = P
+WhereDone Fault P = Unit {0}
+
+-- a durable topic has its queue still, and an opening finds nothing in that: its metadata isn't there, or says an empty list
+abbrev pub IsUnwritten : Files → Room → Type 0
+IsUnwritten files room = ¬ IsEphemeral room.name → (room.queued ≡ true) × IsIdle (files (meta_file room.name))
+
+-- an opening finds exactly these messages in the queue of that name, in their order, and no bad file
+pub record HasExactly (files : Files) (name : List ℕ) (messages : List Message) : Type 0 where
+  pub bodies : List (List ℕ)
+  pub queue : IsFoundQueue files name (Records bodies [])
+  pub records : Pairwise IsRecordOf bodies messages
+
+-- an opening finds in a durable topic's queue exactly the messages that wait in the topic, each as often and in their order, with their
+-- attempts and without a delay
+abbrev pub IsFoundRoom : Files → Room → Type 0
+IsFoundRoom files room = ¬ IsEphemeral room.name → HasExactly files room.name (map compared room.waiting)
+
+-- a topic behind a flush: it has no queue
+abbrev pub flushed_room : Room → Room
+flushed_room room = record room { queued = false }
+
+-- the topics behind a flush
+abbrev pub flushed_rooms : List Room → List Room
+flushed_rooms rooms = map flushed_room rooms
+
 -- no file changes but those that the queue of a durable topic of this name reads and writes
 abbrev pub DurableChange : List ℕ → Files → Files → Type 0
 DurableChange name old new = (file : List ℕ) → (¬ IsEphemeral name → ¬ IsOwnFile name file) → new file ≡ old file
@@ -98,3 +128,8 @@ kept_topic room = record { name = room.name; paused = room.paused; channels = []
 -- the durable topics of a floor as the file of names keeps them, in order
 abbrev pub kept_topics : List Room → List KeptTopic
 kept_topics rooms = map kept_topic (filter is_durable rooms)
+
+-- the file of names can keep these topics, as they are
+pub record CanKeepAll (kept : List KeptTopic) : Type 0 where
+  pub topics : AllByRecursion CanKeepTopic kept
+  pub keeps : IsKept (λ (t : KeptTopic). t.name) kept kept

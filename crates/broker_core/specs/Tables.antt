@@ -15,9 +15,9 @@ use Rattle.history.specs.State.{counted, published_message}
 use Rattle.broker_core.specs.declared.settings.Settings.{Settings}
 use Rattle.broker_core.specs.Floors.{Room, Holding}
 
--- a room as it is made: not paused, with no message
+-- a room as it is made: not paused, with no message, and with a queue where the folder keeps the topic
 abbrev pub new_room : List ℕ → Room
-new_room name = record { name = name; paused = false; count = 0; waiting = [] }
+new_room name = record { name = name; paused = false; count = 0; waiting = []; queued = not (is_ephemeral name) }
 
 -- the room of this name, as it is made where there is none
 abbrev pub room_or_new : List Room → List ℕ → Room
@@ -37,7 +37,7 @@ AreRooms rooms = IsAscendingBy name_of rooms
 
 -- the room with one more message waiting at its end
 abbrev pub with_message : Room → Message → Room
-with_message room message = record { name = room.name; paused = room.paused; count = counted room.count; waiting = room.waiting ++ message ∷ [] }
+with_message room message = record room { count = counted room.count; waiting = room.waiting ++ message ∷ [] }
 
 -- the room after a message was put, where so many messages find room in memory: an ephemeral topic drops what finds no room
 abbrev pub put_in : ℕ → Room → Message → Room

@@ -1,9 +1,9 @@
-ghost use Rattle.std.specs.Prelude.{◌≡◌, ◌≢◌, ◌+◌, ◌<◌, ◌≤◌, ◌^◌, ℕ, [], length, IsTrue, false, IfOk, IfErr};
+ghost use Rattle.std.specs.Prelude.{◌≡◌, ◌≢◌, ◌+◌, ◌<◌, ◌≤◌, ◌^◌, ℕ, [], All, length, IsTrue, false, IfOk, IfErr};
 ghost use Rattle.nsq_base.specs.Options.{IsInRange};
 ghost use Rattle.nsq_outside.specs.Causes.{DidFails};
 ghost use Rattle.disk_queue.specs.Replaced.{Replaces, OnlyTwoChange};
 ghost use Rattle.broker_core.specs.Floors.{settings_of};
-ghost use Rattle.broker_core.specs.Flushes.{FlushFails, TopicsChange, kept_topics};
+ghost use Rattle.broker_core.specs.Flushes.{FlushFails, TopicsChange, WhereDone, IsUnwritten, IsFoundRoom, CanKeepAll, flushed_rooms, kept_topics};
 ghost use Rattle.broker_core.specs.Moments.{moment_of};
 ghost use Rattle.broker_core.specs.Tables.{nothing_held};
 ghost use Rattle.broker_core.specs.Turns.{IsTied};
@@ -15,6 +15,9 @@ use disk_queue::replace_file;
 use nsq_base::{Memory, Options};
 use nsq_outside::{Clock, Did, End, Folder, Journal, Kit};
 use std::alloc::Global;
+
+#[cfg(test)]
+mod tests;
 
 /// A daemon's topics and clients with its folder, its clock and its journal. One turn is one event of the history.
 #[derive(Drop)]
@@ -70,17 +73,20 @@ impl<F: Folder, C: Clock, J: Journal<Entry>> Floor<F, C, J> {
 
     /// The run's epoch, below 2^24.
     pub fn epoch(&self) -> u32
-        ensures { result ≡ self.now.table.epoch }
+        ensures value { result ≡ self.now.table.epoch }
+        ensures bound { result < 2 ^ 24 }
     {
         self.table.epoch()
     }
 
-    /// Writes what waits in each durable topic into the topic's queue, behind what was there when it was made, and saves that. A
-    /// fault in one topic keeps none of the others from being written. After it no turn is taken: a second flush writes
+    /// Writes what waits in each durable topic into the topic's queue, behind what was there when it was made, and saves that: after
+    /// Done an opening finds exactly these messages, where it found none in the queues before. No other file changes: an ephemeral
+    /// topic is written nowhere. A fault in one topic keeps none of the others from being written. After it no turn is taken: a second flush writes
     /// nothing. It takes no memory.
     pub fn flush(&mut self) -> Flushed
+        ensures found { IsTrue F.tells_files → All (IsUnwritten (F.files self.old.folder)) self.old.table.topics → WhereDone result (All (IsFoundRoom (F.files self.new.folder)) self.old.table.topics) }
         ensures others { IsTrue F.tells_files → TopicsChange self.old.table.topics (F.files self.old.folder) (F.files self.new.folder) }
-        ensures table { self.new.table ≡ self.old.table }
+        ensures table { self.new.table ≡ record (self.old.table) { topics = flushed_rooms self.old.table.topics } }
         ensures clock { self.new.clock ≡ self.old.clock }
         ensures journal { self.new.journal ≡ self.old.journal }
         ensures faults { F.folder_faults self.old.folder ≤ F.folder_faults self.new.folder }
@@ -106,7 +112,8 @@ impl<F: Folder, C: Clock, J: Journal<Entry>> Floor<F, C, J> {
 
     /// The durable topics with their pauses, in byte order, and no channels. Want of memory is the only error.
     pub fn kept(&self, alloc: Global) -> Result<Vec<KeptTopic>, Memory>
-        ensures { IfOk result (λ kept. kept.items ≡ kept_topics self.now.table.topics) }
+        ensures topics { IfOk result (λ kept. kept.items ≡ kept_topics self.now.table.topics) }
+        ensures can { IfOk result (λ kept. CanKeepAll kept.items) }
     {
         self.table.kept(alloc)
     }

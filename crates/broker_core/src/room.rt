@@ -1,8 +1,10 @@
-ghost use Rattle.std.specs.Prelude.{◌≡◌, ◌≤◌, ◌&&◌, nat_le, [], All, length, IsTrue, IfOk, OnOk, OnErr};
+ghost use Rattle.std.specs.Prelude.{◌≡◌, ◌≤◌, ◌&&◌, not, nat_le, [], All, length, is_some, IsTrue, IfOk, OnOk, OnErr};
 ghost use Rattle.nsq_base.specs.Name.{is_ephemeral};
+ghost use Rattle.v2_frame.specs.Messages.{FitsItsBytes};
+ghost use Rattle.history.specs.Data.{CanKeepTopic};
 ghost use Rattle.queue_image.specs.FileNames.{meta_file};
 ghost use Rattle.disk_queue.specs.Holding.{Holds, IsIdle, SaveStands, OwnChange};
-ghost use Rattle.broker_core.specs.Flushes.{IsShort, IsMade, IsMadeWhere, FlushFails, DurableChange, PutsAll, FoundWhereDone, bodies_of, kept_topic};
+ghost use Rattle.broker_core.specs.Flushes.{IsShort, IsMade, IsMadeWhere, FlushFails, DurableChange, PutsAll, FoundWhereDone, WhereDone, IsUnwritten, IsFoundRoom, bodies_of, flushed_room, kept_topic};
 ghost use Rattle.broker_core.specs.Tables.{new_room, put_in};
 
 use crate::{Flushed, KeptTopic, Settings};
@@ -33,15 +35,16 @@ pub struct Room {
 }
 
 impl Model for Room {
-    ghost use Rattle.std.specs.Prelude.{All};
+    ghost use Rattle.std.specs.Prelude.{All, is_some};
+    ghost use Rattle.v2_frame.specs.Messages.{FitsItsBytes};
     ghost use Rattle.broker_core.specs.Flushes.{IsShort, IsMadeWhere};
     ghost use Rattle.broker_core.specs.Floors.{Room as Seen};
 
     ghost Value = { Seen };
 
-    ghost view = { λ r. record { name = r.name; paused = r.paused; count = r.count; waiting = r.waiting.items } };
+    ghost view = { λ r. record { name = r.name; paused = r.paused; count = r.count; waiting = r.waiting.items; queued = is_some r.queue } };
 
-    ghost invariant = { λ r. (All IsShort r.waiting.items) × (IsMadeWhere r.name r.queue) };
+    ghost invariant = { λ r. (All IsShort r.waiting.items) × (IsMadeWhere r.name r.queue) × (All FitsItsBytes r.waiting.items) };
 }
 
 impl Room {
@@ -73,10 +76,13 @@ impl Room {
         self.name.ephemeral()
     }
 
-    /// It as the file of names keeps it, without channels. Takes no memory.
+    /// It as the file of names keeps it, without channels; the file can keep it so. Takes no memory.
     pub fn kept(&self, alloc: Global) -> KeptTopic
-        ensures { result ≡ kept_topic self.now }
+        ensures topic { result ≡ kept_topic self.now }
+        ensures can { CanKeepTopic result }
     {
+        // What `bytes` promises: that a topic's name is a name.
+        let _ = self.name.bytes();
         KeptTopic {
             topic: self.name,
             paused: self.paused,
@@ -87,7 +93,8 @@ impl Room {
     /// Puts a message at the end, where so many find room in memory: an ephemeral topic drops what finds no room. After
     /// Memory it is as before, and the message is dropped.
     pub fn put(&mut self, message: Message, mem_queue_size: u64) -> Result<(), Memory>
-        requires { IsShort message }
+        requires short { IsShort message }
+        requires fits { FitsItsBytes message }
         ensures ok { OnOk result (self.new ≡ put_in mem_queue_size self.old message) }
         ensures err { OnErr result (self.new ≡ self.old) }
     {
@@ -99,11 +106,13 @@ impl Room {
         Ok(())
     }
 
-    /// Writes the messages that wait into the topic's queue and saves that, where it has one: it has none afterwards. Each
-    /// is first written to `scratch`. It takes no memory.
+    /// Writes the messages that wait into the topic's queue and saves that, where it has one: it has none afterwards. After Done
+    /// an opening finds exactly these messages, where it found none before. Each is first written to `scratch`. It takes no
+    /// memory.
     pub fn flush<F: Folder>(&mut self, folder: &mut F, scratch: &mut [u8]) -> Flushed
         requires { 16777242 ≤ length scratch.old }
-        ensures seen { self.new ≡ self.old }
+        ensures seen { self.new ≡ flushed_room self.old }
+        ensures found { IsTrue F.tells_files → IsUnwritten (F.files folder.old) self.old → WhereDone result (IsFoundRoom (F.files folder.new) self.old) }
         ensures others { IsTrue F.tells_files → DurableChange self.old.name (F.files folder.old) (F.files folder.new) }
         ensures faults { F.folder_faults folder.old ≤ F.folder_faults folder.new }
         ensures cause { FlushFails (F.folder_faults folder.old) (F.folder_faults folder.new) result }
@@ -124,7 +133,8 @@ impl Room {
 
 // The queue of a topic of this name: none of an ephemeral one.
 fn queue_of(alloc: Global, name: Topic, settings: Settings) -> Result<Option<Queue>, Memory>
-    ensures { IfOk result (IsMadeWhere name) }
+    ensures made { IfOk result (IsMadeWhere name) }
+    ensures there { IfOk result (λ queue. is_some queue ≡ not (is_ephemeral name)) }
 {
     if name.ephemeral() {
         return Ok(None);
@@ -188,4 +198,17 @@ fn put_each<F: Folder>(
         }
     }
     Flushed::Done
+}
+
+#[cfg(test)]
+impl Room {
+    /// How many messages were put into it and not dropped.
+    pub fn count(&self) -> u64 {
+        self.count
+    }
+
+    /// The messages that wait, in order.
+    pub fn waiting(&self) -> &VecDeque<Message> {
+        &self.waiting
+    }
 }

@@ -1,6 +1,7 @@
-ghost use Rattle.std.specs.Prelude.{◌≡◌, ◌≤◌, [], length, IsTrue, IfOk, OnOk, OnErr};
+ghost use Rattle.std.specs.Prelude.{◌≡◌, ◌≤◌, [], All, length, IsTrue, IfOk, OnOk, OnErr};
 ghost use Rattle.nsq_base.specs.Places.{BelongsAt, IsPlaceOf};
-ghost use Rattle.broker_core.specs.Flushes.{IsShort, FlushFails, TopicsChange, kept_topics};
+ghost use Rattle.v2_frame.specs.Messages.{FitsItsBytes};
+ghost use Rattle.broker_core.specs.Flushes.{IsShort, FlushFails, TopicsChange, WhereDone, IsUnwritten, IsFoundRoom, CanKeepAll, flushed_rooms, kept_topics};
 ghost use Rattle.broker_core.specs.Tables.{new_room, name_of, room_or_new, put_room, put_in};
 
 use crate::room::Room;
@@ -43,7 +44,8 @@ impl Rooms {
     /// settings say, and an ephemeral topic drops what finds none. After Memory the topics are as before, and the message is
     /// dropped.
     pub fn put(&mut self, topic: Topic, message: Message, settings: Settings) -> Result<(), Memory>
-        requires { IsShort message }
+        requires short { IsShort message }
+        requires fits { FitsItsBytes message }
         ensures ok { OnOk result (self.new ≡ put_room self.old (put_in settings.mem_queue_size (room_or_new self.old topic) message)) }
         ensures err { OnErr result (self.new ≡ self.old) }
     {
@@ -57,7 +59,8 @@ impl Rooms {
     /// in one keeps none of the others from being written. Takes no memory.
     pub fn flush<F: Folder>(&mut self, folder: &mut F, scratch: &mut [u8]) -> Flushed
         requires { 16777242 ≤ length scratch.old }
-        ensures seen { self.new ≡ self.old }
+        ensures seen { self.new ≡ flushed_rooms self.old }
+        ensures found { IsTrue F.tells_files → All (IsUnwritten (F.files folder.old)) self.old → WhereDone result (All (IsFoundRoom (F.files folder.new)) self.old) }
         ensures others { IsTrue F.tells_files → TopicsChange self.old (F.files folder.old) (F.files folder.new) }
         ensures faults { F.folder_faults folder.old ≤ F.folder_faults folder.new }
         ensures cause { FlushFails (F.folder_faults folder.old) (F.folder_faults folder.new) result }
@@ -69,9 +72,11 @@ impl Rooms {
         flushed
     }
 
-    /// The durable topics with their pauses, in byte order, and no channels. Want of memory is the only error.
+    /// The durable topics with their pauses, in byte order, and no channels, as the file of names can keep them. Want of memory
+    /// is the only error.
     pub fn kept(&self, alloc: Global) -> Result<Vec<KeptTopic>, Memory>
-        ensures { IfOk result (λ kept. kept.items ≡ kept_topics self.now) }
+        ensures topics { IfOk result (λ kept. kept.items ≡ kept_topics self.now) }
+        ensures can { IfOk result (λ kept. CanKeepAll kept.items) }
     {
         let mut kept = Vec::new(alloc);
         for room in &self.rooms {
@@ -92,6 +97,7 @@ impl Rooms {
     ) -> Result<(), Memory>
         requires place { BelongsAt name_of self.old topic i }
         requires short { IsShort message }
+        requires fits { FitsItsBytes message }
         ensures ok { OnOk result (self.new ≡ put_room self.old (put_in settings.mem_queue_size (new_room topic) message)) }
         ensures err { OnErr result (self.new ≡ self.old) }
     {
@@ -106,5 +112,13 @@ impl Rooms {
         ensures { IsPlaceOf name_of self.now topic result }
     {
         self.rooms.binary_search_by_key(&topic, |room| room.name())
+    }
+}
+
+#[cfg(test)]
+impl Rooms {
+    /// The topics, in byte order.
+    pub fn rooms(&self) -> &[Room] {
+        &self.rooms
     }
 }

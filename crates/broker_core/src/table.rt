@@ -1,11 +1,13 @@
-ghost use Rattle.std.specs.Prelude.{◌≡◌, ◌+◌, ◌<◌, ◌≤◌, ◌^◌, min, max, length, IsTrue, IfOk, IfErr, OnOk, OnErr};
+ghost use Rattle.std.specs.Prelude.{◌≡◌, ◌+◌, ◌<◌, ◌≤◌, ◌^◌, min, max, All, length, IsTrue, IfOk, IfErr, OnOk, OnErr};
 ghost use Rattle.broker_core.specs.Calls.{longest_message};
-ghost use Rattle.broker_core.specs.Flushes.{PublishesShort, ActsShort, FlushFails, TopicsChange, kept_topics};
+ghost use Rattle.broker_core.specs.Flushes.{PublishesShort, ActsShort, FlushFails, TopicsChange, WhereDone, IsUnwritten, IsFoundRoom, CanKeepAll, flushed_rooms, kept_topics};
 ghost use Rattle.broker_core.specs.Tables.{has, nothing_held, has_id, publishes, reply_to, obeys, Joined, Left, OnlyClients, Changes};
 ghost use Rattle.broker_core.specs.Turns.{IsActOf, HasNoAct, turned_by};
 ghost use Rattle.broker_core.specs.declared.call.Call.TheVariants as call;
 
 use crate::replies::{answer_to, error, ok_frame, refusal};
+#[cfg(test)]
+use crate::room::Room;
 use crate::rooms::Rooms;
 use crate::{Act, Call, Flushed, KeptTopic, Settings, Turned};
 use nsq_base::{Body, Memory, MsgId, Topic};
@@ -63,7 +65,8 @@ impl Table {
 
     /// The run's epoch, below 2^24.
     pub fn epoch(&self) -> u32
-        ensures { result ≡ self.now.epoch }
+        ensures value { result ≡ self.now.epoch }
+        ensures bound { result < 2 ^ 24 }
     {
         self.epoch
     }
@@ -145,7 +148,8 @@ impl Table {
     /// in one keeps none of the others from being written. Takes no memory.
     pub fn flush<F: Folder>(&mut self, folder: &mut F, scratch: &mut [u8]) -> Flushed
         requires { 16777242 ≤ length scratch.old }
-        ensures seen { self.new ≡ self.old }
+        ensures seen { self.new ≡ record self.old { topics = flushed_rooms self.old.topics } }
+        ensures found { IsTrue F.tells_files → All (IsUnwritten (F.files folder.old)) self.old.topics → WhereDone result (All (IsFoundRoom (F.files folder.new)) self.old.topics) }
         ensures others { IsTrue F.tells_files → TopicsChange self.old.topics (F.files folder.old) (F.files folder.new) }
         ensures faults { F.folder_faults folder.old ≤ F.folder_faults folder.new }
         ensures cause { FlushFails (F.folder_faults folder.old) (F.folder_faults folder.new) result }
@@ -155,7 +159,8 @@ impl Table {
 
     /// The durable topics with their pauses, in byte order, and no channels. Want of memory is the only error.
     pub fn kept(&self, alloc: Global) -> Result<Vec<KeptTopic>, Memory>
-        ensures { IfOk result (λ kept. kept.items ≡ kept_topics self.now.topics) }
+        ensures topics { IfOk result (λ kept. kept.items ≡ kept_topics self.now.topics) }
+        ensures can { IfOk result (λ kept. CanKeepAll kept.items) }
     {
         self.topics.kept(alloc)
     }
@@ -292,5 +297,18 @@ impl Table {
         self.topics.put(topic, message, self.settings)?;
         self.ids_used += 1;
         Ok(())
+    }
+}
+
+#[cfg(test)]
+impl Table {
+    /// The topics, in byte order.
+    pub fn rooms(&self) -> &[Room] {
+        self.topics.rooms()
+    }
+
+    /// Uses all ids but the last one.
+    pub fn spend_ids(&mut self) {
+        self.ids_used = MOST_IDS - 1;
     }
 }

@@ -1,5 +1,5 @@
 -- What the listing of a folder says of its files.
-use Rattle.std.proofs.Common.{◌≡◌, ◌≢◌, ℕ, ◌<◌, List, [], ◌∷◌, ◌++◌, length, map, refl, sym, ◌∙◌, ap, subst, arith, Option, Some, None, String, string_bytes, Contains}
+use Rattle.std.proofs.Common.{◌≡◌, ◌≢◌, ℕ, List, [], ◌∷◌, ◌++◌, length, map, refl, sym, ◌∙◌, ap, subst, arith, Option, Some, None, String, string_bytes, Contains}
 use Rattle.std.specs.Prelude.{IsSome}
 use Rattle.std.specs.declared.alloc.Global.{Global}
 use Rattle.nsq_outside.specs.Files.{Files, SameFiles, AppendsListing}

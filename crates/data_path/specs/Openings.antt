@@ -1,7 +1,8 @@
 -- What an opening does to a folder, and why it is refused.
-use Rattle.std.specs.Prelude.{◌≡◌, ◌≢◌, ℕ, Bool, IsTrue, List, [], Option, Some, None, IsSome, codes}
+use Rattle.std.specs.Prelude.{◌≡◌, ◌≢◌, ℕ, Bool, IsTrue, List, [], Some, None, IsSome, codes}
 use Rattle.nsq_outside.specs.Causes.{Rose}
 use Rattle.nsq_outside.specs.Files.{Files, SameFiles}
+use Rattle.queue_image.specs.FileNames.{meta_file}
 use Rattle.history.specs.Data.{data_name, names_text}
 use Rattle.history.specs.Found.{Found}
 use Rattle.data_path.specs.Texts.{kept_of}
@@ -15,6 +16,10 @@ nothing_found = record { epoch = 0; topics = [] }
 -- there is no file
 abbrev pub HasNoFile : Files → Type 0
 HasNoFile files = (name : List ℕ) → files name ≡ None
+
+-- no queue has metadata: an opening finds nothing in any
+abbrev pub HasNoQueue : Files → Type 0
+HasNoQueue files = (name : List ℕ) → files (meta_file name) ≡ None
 
 -- what the file of names is called while it is written
 abbrev pub temp_name : List ℕ

@@ -1,5 +1,14 @@
-ghost use Rattle.std.specs.Prelude.{◌≡◌, ◌≤◌};
-ghost use Rattle.data_path.specs.Closings.{ShutFails, shut_end};
+ghost use Rattle.std.specs.Prelude.{◌≡◌, ◌≤◌, All, IsTrue};
+ghost use Rattle.nsq_outside.specs.Files.{SameFiles};
+ghost use Rattle.disk_queue.specs.Replaced.{OnlyTwoChange};
+ghost use Rattle.history.specs.Data.{data_name};
+ghost use Rattle.history.specs.State.{State};
+ghost use Rattle.broker_core.specs.Floors.{Stands};
+ghost use Rattle.broker_core.specs.Flushes.{IsUnwritten, kept_topics};
+ghost use Rattle.broker_core.specs.Turns.{scene};
+ghost use Rattle.data_path.specs.Closings.{ShutFails, ShutChanges, WhereClean, WhereMemory, KeepsNames, KeepsAll, Leaves, shut_end};
+ghost use Rattle.data_path.specs.Openings.{HasNoQueue, temp_name};
+ghost use Rattle.data_path.specs.Texts.{kept_of};
 
 use crate::names::write_names;
 use crate::opening::{NAMES, NAMES_TEMP};
@@ -23,13 +32,20 @@ pub enum ShutEnd {
 }
 
 /// Writes the messages that are left into the queues' files, then the file of the durable names, and gives the kit back. The
-/// messages take no memory. Clock and journal are as they were.
+/// messages take no memory; a text of names of more than 16 MiB is want of memory. Clock and journal are as they were.
+///
+/// After Clean the file of names has exactly the text of `write_names` for the run's epoch and the durable topics. An opening
+/// finds all that the run left, where no queue of the folder had metadata before. After Memory the file of names is as it was.
 pub fn shut<F: Folder, C: Clock, J: Journal<Entry>>(
     alloc: Global,
     floor: Floor<F, C, J>,
 ) -> (ShutEnd, Kit<F, C, J>)
     ensures clock { result.1.clock ≡ floor.clock }
     ensures journal { result.1.journal ≡ floor.journal }
+    ensures names { IsTrue F.tells_files → WhereClean result.0 (KeepsNames (F.files result.1.folder) (kept_of floor.table.epoch (kept_topics floor.table.topics))) }
+    ensures left { IsTrue F.tells_files → HasNoQueue (F.files floor.folder) → (s : State) → Stands (scene floor.table (J.notes floor.journal) (F.files floor.folder) (F.folder_faults floor.folder) (C.coming floor.clock)) s → WhereClean result.0 (Leaves s (F.files result.1.folder)) }
+    ensures memory { IsTrue F.tells_files → WhereMemory result.0 (F.files result.1.folder data_name ≡ F.files floor.folder data_name) }
+    ensures others { IsTrue F.tells_files → ShutChanges floor.table.topics (F.files floor.folder) (F.files result.1.folder) }
     ensures faults { F.folder_faults floor.folder ≤ F.folder_faults result.1.folder }
     ensures cause { ShutFails (F.folder_faults floor.folder) (F.folder_faults result.1.folder) result.0 }
 {
@@ -45,6 +61,10 @@ fn write_down<F: Folder, C: Clock, J: Journal<Entry>>(
 ) -> ShutEnd
     ensures clock { floor.new.clock ≡ floor.old.clock }
     ensures journal { floor.new.journal ≡ floor.old.journal }
+    ensures names { IsTrue F.tells_files → WhereClean result (KeepsNames (F.files floor.new.folder) (kept_of floor.old.table.epoch (kept_topics floor.old.table.topics))) }
+    ensures keeps { IsTrue F.tells_files → All (IsUnwritten (F.files floor.old.folder)) floor.old.table.topics → WhereClean result (KeepsAll floor.old.table.epoch floor.old.table.topics (F.files floor.new.folder)) }
+    ensures memory { IsTrue F.tells_files → WhereMemory result (F.files floor.new.folder data_name ≡ F.files floor.old.folder data_name) }
+    ensures others { IsTrue F.tells_files → ShutChanges floor.old.table.topics (F.files floor.old.folder) (F.files floor.new.folder) }
     ensures faults { F.folder_faults floor.old.folder ≤ F.folder_faults floor.new.folder }
     ensures cause { ShutFails (F.folder_faults floor.old.folder) (F.folder_faults floor.new.folder) result }
 {
@@ -60,6 +80,9 @@ fn save<F: Folder, C: Clock, J: Journal<Entry>>(
 ) -> ShutEnd
     ensures clock { floor.new.clock ≡ floor.old.clock }
     ensures journal { floor.new.journal ≡ floor.old.journal }
+    ensures names { IsTrue F.tells_files → WhereClean result (KeepsNames (F.files floor.new.folder) (kept_of floor.old.table.epoch (kept_topics floor.old.table.topics))) }
+    ensures memory { IsTrue F.tells_files → WhereMemory result (SameFiles (F.files floor.old.folder) (F.files floor.new.folder)) }
+    ensures others { IsTrue F.tells_files → OnlyTwoChange (F.files floor.old.folder) (F.files floor.new.folder) data_name temp_name }
     ensures faults { F.folder_faults floor.old.folder ≤ F.folder_faults floor.new.folder }
     ensures cause { ShutFails (F.folder_faults floor.old.folder) (F.folder_faults floor.new.folder) result }
 {
@@ -86,3 +109,6 @@ fn end_of(saved: ShutEnd, flushed: Flushed) -> ShutEnd
         (ShutEnd::Clean, Flushed::Done) => ShutEnd::Clean,
     }
 }
+
+#[cfg(test)]
+mod tests;

@@ -5,7 +5,7 @@ ghost use Rattle.history.specs.Found.{IsFound, Names, start};
 ghost use Rattle.broker_core.specs.Floors.{Stands};
 ghost use Rattle.broker_core.specs.Moments.{moment_of};
 ghost use Rattle.broker_core.specs.Turns.{scene};
-ghost use Rattle.data_path.specs.Openings.{nothing_found, Begins, IsWhy};
+ghost use Rattle.data_path.specs.Openings.{nothing_found, Begins, HasNoQueue, IsWhy};
 
 use crate::names::write_names;
 use broker_core::{Entry, Floor};
@@ -59,6 +59,7 @@ pub fn open<F: Folder, C: Clock, J: Journal<Entry>>(
     ensures moment { IfOk result (λ floor. IsTrue C.tells_readings → floor.table.moment ≡ moment_of (C.coming kit.clock) 1) }
     ensures coming { IfOk result (λ floor. IsTrue C.tells_readings → ((n : ℕ) → C.coming floor.clock n ≡ C.coming kit.clock (n + 1))) }
     ensures begins { IfOk result (λ floor. IsTrue F.tells_files → Begins (F.files kit.folder) (F.files floor.folder)) }
+    ensures no_queue { IfOk result (λ floor. IsTrue F.tells_files → HasNoQueue (F.files floor.folder)) }
     ensures journal { IfOk result (λ floor. floor.journal ≡ kit.journal) }
     ensures faults { IfOk result (λ floor. F.folder_faults kit.folder ≤ F.folder_faults floor.folder) }
     ensures why { IfErr result (λ refused. IsWhy refused.why F.tells_files (F.files kit.folder) (F.files refused.kit.folder) (F.folder_faults kit.folder) (F.folder_faults refused.kit.folder)) }

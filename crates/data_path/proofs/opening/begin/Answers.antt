@@ -1,4 +1,4 @@
-use Rattle.std.proofs.Common.{◌≡◌, ◌∙◌, ap, sym, arith, Some, []}
+use Rattle.std.proofs.Common.{◌∙◌, ap, arith, Some}
 use Rattle.std.proofs.lemmas.Grind.{common_steps}
 use Rattle.data_path.proofs.Opened.{none_listed, some_listed}
 use Rattle.data_path.proofs.opening.begin.Goals as goal

@@ -1,12 +1,28 @@
 -- Turns of several connections, one after another.
-use Rattle.std.proofs.Common.{◌≡◌, ℕ, [], ◌++◌, Bool, sym, ◌∙◌, ap, refl, append_assoc}
+use Rattle.std.proofs.Common.{ℕ, List, [], ◌∷◌, subst, ◌++◌, Bool, sym, ◌∙◌, ap, refl, append_assoc}
+use Rattle.std.specs.Prelude.{All}
 use Rattle.std.proofs.lemmas.List.{append-nil}
+use Rattle.std.proofs.lemmas.List.Elements.{All-nil, All-cons, All-head, All-tail}
+use Rattle.nsq_base.specs.Name.{IsEphemeral}
+use Rattle.queue_image.specs.FileNames.{IsOwnFile}
 use Rattle.history.specs.Legal.{none}
-use Rattle.history.specs.State.{State}
-use Rattle.broker_core.specs.Floors.{Scene, LedTo, Leads}
+use Rattle.history.specs.Found.{Pairwise}
+use Rattle.history.specs.State.{State, Topic}
+use Rattle.broker_core.specs.Floors.{Room, IsRoomOf, Scene, LedTo, Leads}
 use Rattle.broker_core.specs.Following.{legal_follow, faults_follow, times_follow}
 use Rattle.broker_core.specs.Moments.{starts}
 use Rattle.nsqd.specs.Went.{WentTo, Went}
+
+-- a file that is none of a state's queues is none of those of the floor that stands for it
+pub rooms_other : (name : List ℕ) (rooms : List Room) (topics : List Topic) → Pairwise IsRoomOf rooms topics → All (λ (t : Topic). ¬ IsEphemeral t.name → ¬ IsOwnFile t.name name) topics
+    → All (λ (r : Room). ¬ IsEphemeral r.name → ¬ IsOwnFile r.name name) rooms
+rooms_other name [] [] p a = All-nil (λ (r : Room). ¬ IsEphemeral r.name → ¬ IsOwnFile r.name name)
+rooms_other name [] (t ∷ ts) p a = absurd p
+rooms_other name (r ∷ rs) [] p a = absurd p
+rooms_other name (r ∷ rs) (t ∷ ts) p a =
+    All-cons (λ (r : Room). ¬ IsEphemeral r.name → ¬ IsOwnFile r.name name) r rs
+    (subst (λ x. ¬ IsEphemeral x → ¬ IsOwnFile x name) (sym p.0.name) (All-head (λ (t : Topic). ¬ IsEphemeral t.name → ¬ IsOwnFile t.name name) t ts a))
+    (rooms_other name rs ts p.1 (All-tail (λ (t : Topic). ¬ IsEphemeral t.name → ¬ IsOwnFile t.name name) t ts a))
 
 -- no turn was made
 pub went_nowhere : (tells_notes tells_files tells_readings : Bool) (a : Scene) → Went tells_notes tells_files tells_readings a a

@@ -1,3 +1,7 @@
+pub mod Causes
 pub mod Serving
+pub mod Stopping
 pub mod Going
+pub mod Asking
 pub mod Running
+pub mod Closing

@@ -1,6 +1,5 @@
 -- What stays true of the callers that were served while the history grows, and how one more is served.
 use Rattle.std.proofs.Common.{ℕ, ◌≡◌, ◌≢◌, ◌≤◌, ◌<◌, ◌+◌, ◌++◌, ◌∷◌, [], List, Bool, true, false, ◌==◌, if◌then◌else◌, refl, sym, ◌∙◌, ap, subst, arith, length, length-append, append_assoc, map}
-use Rattle.std.specs.Prelude.{filter}
 use Rattle.std.proofs.lemmas.Bool.{eqb-true}
 use Rattle.std.proofs.lemmas.List.{append-nil, map-append}
 use Rattle.std.proofs.lemmas.List.Elements.{filter-append}
@@ -15,10 +14,10 @@ use Rattle.history.specs.declared.entry.Ended.{Ended}
 use Rattle.history.specs.declared.entry.Ended.TheVariants.{EndOfInput, Closed, ReadFault, WriteFault, Memory}
 use Rattle.history.specs.declared.entry.Entry.{Entry}
 use Rattle.history.specs.Legal.{History, is_stop}
-use Rattle.history.specs.Talk.{own, is_gone, has_gone, stops_before_gone, IsTalk, IsTalkIn, Allows, bytes_of}
+use Rattle.history.specs.Talk.{own, is_gone, has_gone, stops_before_gone, IsTalk, IsTalkIn, Allows}
 use Rattle.broker_core.specs.Floors.{AreOf}
 use Rattle.session.specs.Sessions.{HasCause}
-use Rattle.nsqd.specs.Served.{Views, IsServedTcp, IsUntouched, IsServed, AreServed, UpTo, HasServed, OnlyCallersChange}
+use Rattle.nsqd.specs.Served.{Views, IsServedTcp, IsServed, AreServed, UpTo, HasServed, OnlyCallersChange}
 
 -- an equation of numbers that is tested false
 apart : (m n : ℕ) → m ≢ n → (m == n) ≡ false
@@ -141,7 +140,7 @@ module _ {K : Type 0} (seen : Views K) (limits : Limits) where
   one_stays h es k Tcp bytes conn o s =
       record { ended = s.ended; talk = talk_stays limits k h es (seen.pieces conn) (seen.written conn) s.ended o s.talk; cause = s.cause; stream = s.stream }
   one_stays h es k Http bytes conn o s =
-      record { no_entry = own_stays k h es o ∙ s.no_entry; nothing_read = s.nothing_read; nothing_written = s.nothing_written; no_read_fault = s.no_read_fault; no_write_fault = s.no_write_fault; stream = s.stream }
+      record { no_entry = own_stays k h es o ∙ s.no_entry; nothing_read = s.nothing_read; not_ended = s.not_ended; nothing_written = s.nothing_written; no_read_fault = s.no_read_fault; no_write_fault = s.no_write_fault; stream = s.stream }
 
   all_stay : (h es : History) (first : ℕ) (cs : List (Kind × List ℕ)) (xs : List (ℕ × K)) → ((k : ℕ) → first ≤ k → k < first + length cs → own k es ≡ []) → AreServed seen limits h first cs xs → AreServed seen limits (h ++ es) first cs xs
   all_stay h es first [] [] o s = tt

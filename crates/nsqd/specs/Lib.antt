@@ -2,5 +2,7 @@ pub mod SysHosts
 pub mod Words
 pub mod Served
 pub mod Went
+pub mod Sights
+pub mod Asked
 pub mod Endings
 pub mod Runs

@@ -1,11 +1,12 @@
 -- What is said of the callers that a run served.
-use Rattle.std.specs.Prelude.{◌≡◌, ℕ, ◌+◌, ◌≤◌, Bool, IsTrue, List, [], ◌∷◌, ◌++◌, length, map}
+use Rattle.std.specs.Prelude.{◌≡◌, ◌⊎◌, ℕ, ◌+◌, ◌-◌, ◌^◌, ◌≤◌, Bool, true, false, IsTrue, List, [], ◌∷◌, ◌++◌, length, map}
+use Rattle.nsq_outside.specs.Causes.{Rose}
 use Rattle.nsq_outside.specs.Hosts.{HostContent}
 use Rattle.nsq_outside.specs.declared.host.Kind.{Kind}
 use Rattle.nsq_outside.specs.declared.host.Kind.TheVariants.{Tcp, Http}
 use Rattle.v2_frame.specs.declared.fault.Limits.{Limits}
 use Rattle.history.specs.declared.entry.Ended.{Ended}
-use Rattle.history.specs.Legal.{History}
+use Rattle.history.specs.Legal.{History, stops_of}
 use Rattle.history.specs.Talk.{IsTalkIn, Allows, own, bytes_of}
 
 -- what is seen of a connection: the pieces read, the bytes still to come, whether it ended, the bytes written, and how often a read and a write failed
@@ -37,6 +38,7 @@ pub record IsServedTcp {K : Type 0} (seen : Views K) (limits : Limits) (h : Hist
 pub record IsUntouched {K : Type 0} (seen : Views K) (h : History) (number : ℕ) (bytes : List ℕ) (conn : K) : Type 0 where
   pub no_entry : own number h ≡ []
   pub nothing_read : seen.pieces conn ≡ []
+  pub not_ended : seen.ended conn ≡ false
   pub nothing_written : seen.written conn ≡ []
   pub no_read_fault : seen.read_faults conn ≡ 0
   pub no_write_fault : seen.write_faults conn ≡ 0
@@ -69,6 +71,30 @@ pub record HasServed {K : Type 0} (seen : Views K) (limits : Limits) (number : �
   pub returned : new.back ≡ old.back ++ back
   pub served : AreServed seen limits h 1 callers back
   pub up_to : UpTo number h
+
+-- why no further caller is served: nobody will call any more, the listeners failed, or as many called as there are numbers
+pub data WhyOver {K : Type 0} (number accept accept' : ℕ) (new : HostContent K) : Type 0 where
+  halted : new.halted ≡ true → WhyOver number accept accept' new
+  failed : Rose accept accept' → WhyOver number accept accept' new
+  numbers_spent : number ≡ 2 ^ 64 - 1 → WhyOver number accept accept' new
+
+-- no entry is the daemon's, and none is a Stop
+pub record OfCallers (h : History) : Type 0 where
+  pub not_of_daemon : own 0 h ≡ []
+  pub no_stop : stops_of h ≡ 0
+
+-- nobody will call any more, or as many called as there are numbers
+abbrev pub IsHalted : {K : Type 0} → (number : ℕ) → HostContent K → Type 0
+IsHalted number new = (new.halted ≡ true) ⊎ (number ≡ 2 ^ 64 - 1)
+
+-- callers were served until there was no further one; where that was said to be no fault, it was none, and where it was said to be one, the host hadn't
+-- halted
+pub record ServedAll {K : Type 0} (seen : Views K) (limits : Limits) (clean failed : Type 0) (accept accept' : ℕ) (h : History) (old new : HostContent K) : Type 0 where
+  pub number : ℕ
+  pub served : HasServed seen limits number h old new
+  pub why : WhyOver number accept accept' new
+  pub where_clean : clean → IsHalted number new
+  pub where_failed : failed → new.halted ≡ old.halted
 
 -- nothing but the callers changed: what was asked, printed and told is as it was
 pub record OnlyCallersChange {K : Type 0} (old new : HostContent K) : Type 0 where

@@ -1,5 +1,5 @@
 -- What turns of several connections lead to.
-use Rattle.std.specs.Prelude.{◌≡◌, ℕ, ◌+◌, Bool, IsTrue, ◌++◌}
+use Rattle.std.specs.Prelude.{◌≡◌, ℕ, Bool, IsTrue, ◌++◌}
 use Rattle.nsq_outside.specs.Files.{SameFiles}
 use Rattle.history.specs.Legal.{History, Legal, faults_of}
 use Rattle.history.specs.State.{State}

@@ -6,9 +6,9 @@ ghost use Rattle.history.specs.Talk.{IsTalkIn, own, bytes_of};
 ghost use Rattle.broker_core.specs.Floors.{Stands};
 ghost use Rattle.broker_core.specs.Turns.{scene};
 ghost use Rattle.session.specs.Sessions.{AreAllowed, HasCause};
-ghost use Rattle.nsqd.specs.Served.{views, AllTell, IsServed, HasServed, OnlyCallersChange};
+ghost use Rattle.nsqd.specs.Served.{views, AllTell, IsServed, OfCallers, ServedAll, OnlyCallersChange};
 ghost use Rattle.nsqd.specs.Went.{Went};
-ghost use Rattle.nsqd.specs.declared.callers.LoopEnd.TheVariants.{Failed};
+ghost use Rattle.nsqd.specs.declared.callers.LoopEnd.TheVariants.{Halted, Failed};
 
 use broker_core::{Ended, Entry, Floor, FloorDesk, Turner};
 use nsq_outside::{Accept, Conn, Host, Kind};
@@ -41,7 +41,8 @@ pub fn serve_callers<R: Wait, H: Host<Entry>>(
     requires stands { IsTrue H.Journal.tells_notes → (s : State) × Stands (scene floor.old.table (H.Journal.notes floor.old.journal) (H.Folder.files floor.old.folder) (H.Folder.folder_faults floor.old.folder) (H.Clock.coming floor.old.clock)) s }
     ensures went { Went H.Journal.tells_notes H.Folder.tells_files H.Clock.tells_readings (scene floor.old.table (H.Journal.notes floor.old.journal) (H.Folder.files floor.old.folder) (H.Folder.folder_faults floor.old.folder) (H.Clock.coming floor.old.clock)) (scene floor.new.table (H.Journal.notes floor.new.journal) (H.Folder.files floor.new.folder) (H.Folder.folder_faults floor.new.folder) (H.Clock.coming floor.new.clock)) }
     ensures served { AllTell H.tells H.Conn.tells_pieces H.Conn.tells_written H.Journal.tells_notes
-        → (number : ℕ) × HasServed (views H.Conn.pieces H.Conn.left H.Conn.ended H.Conn.written H.Conn.read_faults H.Conn.write_faults) limits number (H.Journal.notes floor.new.journal) (H.content host.old) (H.content host.new) }
+        → ServedAll (views H.Conn.pieces H.Conn.left H.Conn.ended H.Conn.written H.Conn.read_faults H.Conn.write_faults) limits (result ≡ Halted) (result ≡ Failed) (H.state host.old).accept_faults (H.state host.new).accept_faults (H.Journal.notes floor.new.journal) (H.content host.old) (H.content host.new) }
+    ensures callers { AllTell H.tells H.Conn.tells_pieces H.Conn.tells_written H.Journal.tells_notes → OfCallers (H.Journal.notes floor.new.journal) }
     ensures rest { IsTrue H.tells → OnlyCallersChange (H.content host.old) (H.content host.new) }
     ensures state { OnlyAcceptFaults (H.state host.old) (H.state host.new) }
     ensures cause { result ≡ Failed → Rose (H.state host.old).accept_faults (H.state host.new).accept_faults }
@@ -63,7 +64,7 @@ pub fn serve_callers<R: Wait, H: Host<Entry>>(
             Accept::Failed => return LoopEnd::Failed,
         }
     }
-    LoopEnd::Halted
+    unreachable!()
 }
 
 /// Serves a caller of the TCP protocol. Nothing is read from a caller of HTTP or written to it: HTTP isn't built yet.

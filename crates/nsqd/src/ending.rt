@@ -4,8 +4,10 @@ ghost use Rattle.nsqd.specs.Endings.{status_of, line_of};
 /// How a run ended.
 #[derive(Clone, Copy, Debug, PartialEq, Eq)]
 pub enum Ending {
-    /// A clean stop, or the version was printed.
+    /// A clean stop.
     Clean,
+    /// The version was printed.
+    Printed,
     /// The words ask for nothing that is known.
     BadOptions,
     /// The data path holds files: restarts aren't built yet.
@@ -27,7 +29,7 @@ pub fn status(ending: Ending) -> u8
     ensures { result ≡ status_of ending }
 {
     match ending {
-        Ending::Clean => 0,
+        Ending::Clean | Ending::Printed => 0,
         Ending::BadOptions => 1,
         Ending::NotEmpty | Ending::OpeningFault => 2,
         Ending::StopFault => 3,
@@ -42,7 +44,7 @@ pub fn line(ending: Ending) -> Option<&'static [u8]>
     ensures { option_map (λ line. line.now) result ≡ line_of ending }
 {
     match ending {
-        Ending::Clean => None,
+        Ending::Clean | Ending::Printed => None,
         Ending::BadOptions => Some(b"nsqd: bad options"),
         Ending::NotEmpty => Some(b"nsqd: data path: not empty"),
         Ending::OpeningFault => Some(b"nsqd: data path: disk fault"),

@@ -1,17 +1,19 @@
-ghost use Rattle.std.specs.Prelude.{◌≡◌, ◌≢◌, ◌<◌, ◌↔◌, ℕ, [], false, true, IsTrue, IsSome, IfSome};
+ghost use Rattle.std.specs.Prelude.{◌≡◌, ◌<◌, ◌≤◌, ◌⊎◌, ◌↔◌, [], false, true, IsTrue, IsSome};
 ghost use Rattle.nsq_base.specs.Options.{IsInRange, default_options};
 ghost use Rattle.nsq_base.specs.Text.{IsText};
 ghost use Rattle.nsq_outside.specs.Causes.{DidFails};
-ghost use Rattle.nsq_outside.specs.Hosts.{OnlyAcceptFaults, OnlyPrintFaults, OnlyTellFaults};
+ghost use Rattle.nsq_outside.specs.Hosts.{Starts, OnlyAcceptFaults, OnlyPrintFaults, OnlyTellFaults};
 ghost use Rattle.history.specs.State.{State};
 ghost use Rattle.history.specs.Legal.{stops_of};
+ghost use Rattle.history.specs.Talk.{own};
 ghost use Rattle.broker_core.specs.Floors.{Stands};
 ghost use Rattle.broker_core.specs.Turns.{scene};
-ghost use Rattle.nsqd.specs.Endings.{status_of, IsCaused, IsCausedBy, ending_of, refusal_of};
-ghost use Rattle.nsqd.specs.Runs.{AllTold, EndsWell, NoCaller, HasWorked, Runs, limits_of};
-ghost use Rattle.nsqd.specs.Served.{views, AllTell, HasServed};
-ghost use Rattle.nsqd.specs.Words.{IsUnknown};
-ghost use Rattle.nsqd.specs.declared.ending.Ending.TheVariants.{BadOptions};
+ghost use Rattle.nsqd.specs.Asked.{HasAsked, HasStarted, PrintsVersion, HasPrinted};
+ghost use Rattle.nsqd.specs.Endings.{status_of, line_of, is_plain, IsAsked, IsCaused, HasEnded, TellsLine, EndsServed, EndsPrinting, says_stopping, AddsStop, ending_of, refusal_of};
+ghost use Rattle.nsqd.specs.Runs.{AllTold, EndsWell, StopsLast, HasWorked, Runs, IsComplete, IsNotEmpty, limits_of};
+ghost use Rattle.nsqd.specs.Served.{views, AllTell, ServedAll, OnlyCallersChange};
+ghost use Rattle.nsqd.specs.Sights.{counts_of, sight, Between};
+ghost use Rattle.nsqd.specs.Words.{Words, AskToServe, AskForVersion, IsUnknown};
 
 use crate::callers::{LoopEnd, serve_callers};
 use crate::ending::{Ending, line, status};
@@ -39,10 +41,18 @@ pub fn nsqd_run<R: Wait, H: Host<Entry>>(
     requires { IsSome (H.state host.old).kit }
     ensures home { IsSome (H.state host.new).kit }
     ensures unknown { (result ≡ 1) ↔ IsUnknown words.now }
-    ensures cause { IfSome (H.state host.old).kit (λ before. IfSome (H.state host.new).kit (λ after. IsCausedBy result (H.Folder.folder_faults before.folder) (H.Folder.folder_faults after.folder) (H.state host.old).accept_faults (H.state host.new).accept_faults (H.state host.old).print_faults (H.state host.new).print_faults)) }
+    ensures version { AskForVersion words.now → (result ≡ 0) ⊎ (result ≡ 6) }
+    ensures printed { IsTrue H.tells → HasPrinted words.now result (H.content host.old).printed (H.content host.new).printed }
+    ensures started { IsTrue H.tells → HasStarted words.now default_options result (H.content host.old) (H.content host.new) }
+    ensures cause { Between (H.state host.old).kit (H.state host.new).kit (λ before after. HasEnded H.tells H.Folder.tells_files words.now result
+        (sight H.Journal.notes H.Folder.files H.Clock.coming H.Folder.folder_faults before (H.state host.old) (H.content host.old)) (sight H.Journal.notes H.Folder.files H.Clock.coming H.Folder.folder_faults after (H.state host.new) (H.content host.new))) }
+    ensures complete { IsTrue H.Folder.tells_files → AskToServe words.now → Between (H.state host.old).kit (H.state host.new).kit (λ before after. IsComplete result
+        (sight H.Journal.notes H.Folder.files H.Clock.coming H.Folder.folder_faults before (H.state host.old) (H.content host.old)) (sight H.Journal.notes H.Folder.files H.Clock.coming H.Folder.folder_faults after (H.state host.new) (H.content host.new))) }
+    ensures not_empty { IsTrue H.Folder.tells_files → AskToServe words.now → Between (H.state host.old).kit (H.state host.new).kit (λ before after. IsNotEmpty result
+        (sight H.Journal.notes H.Folder.files H.Clock.coming H.Folder.folder_faults before (H.state host.old) (H.content host.old)) (sight H.Journal.notes H.Folder.files H.Clock.coming H.Folder.folder_faults after (H.state host.new) (H.content host.new))) }
     ensures run { AllTold H.tells H.Conn.tells_pieces H.Conn.tells_written H.Journal.tells_notes H.Folder.tells_files H.Clock.tells_readings
-        → IfSome (H.state host.old).kit (λ before. IfSome (H.state host.new).kit (λ after.
-        Runs H.Journal.notes H.Folder.files H.Clock.coming (views H.Conn.pieces H.Conn.left H.Conn.ended H.Conn.written H.Conn.read_faults H.Conn.write_faults) default_options before after (H.content host.old) (H.content host.new))) }
+        → Between (H.state host.old).kit (H.state host.new).kit (λ before after. Runs (views H.Conn.pieces H.Conn.left H.Conn.ended H.Conn.written H.Conn.read_faults H.Conn.write_faults) words.now default_options result before after
+        (sight H.Journal.notes H.Folder.files H.Clock.coming H.Folder.folder_faults before (H.state host.old) (H.content host.old)) (sight H.Journal.notes H.Folder.files H.Clock.coming H.Folder.folder_faults after (H.state host.new) (H.content host.new))) }
 {
     let ending = obey(rt, alloc, words, host);
     close(rt, host, ending)
@@ -52,10 +62,15 @@ pub fn nsqd_run<R: Wait, H: Host<Entry>>(
 fn obey<R: Wait, H: Host<Entry>>(rt: &R, alloc: Global, words: &[String], host: &mut H) -> Ending
     requires { IsSome (H.state host.old).kit }
     ensures home { IsSome (H.state host.new).kit }
-    ensures unknown { (result ≡ BadOptions) ↔ IsUnknown words.now }
-    ensures cause { IfSome (H.state host.old).kit (λ before. IfSome (H.state host.new).kit (λ after. IsCaused result (H.Folder.folder_faults before.folder) (H.Folder.folder_faults after.folder) (H.state host.old).accept_faults (H.state host.new).accept_faults (H.state host.old).print_faults (H.state host.new).print_faults)) }
+    ensures asked { IsAsked words.now result }
+    ensures printed { IsTrue H.tells → HasPrinted words.now (status_of result) (H.content host.old).printed (H.content host.new).printed }
+    ensures lines { IsTrue H.tells → (H.content host.new).lines ≡ (H.content host.old).lines }
+    ensures started { IsTrue H.tells → HasStarted words.now default_options (status_of result) (H.content host.old) (H.content host.new) }
+    ensures tell { (H.state host.new).tell_faults ≡ (H.state host.old).tell_faults }
+    ensures cause { Between (H.state host.old).kit (H.state host.new).kit (λ before after. IsCaused result H.Folder.tells_files (H.Folder.files before.folder) (counts_of H.Folder.folder_faults before.folder (H.state host.old)) (counts_of H.Folder.folder_faults after.folder (H.state host.new))) }
     ensures run { AllTold H.tells H.Conn.tells_pieces H.Conn.tells_written H.Journal.tells_notes H.Folder.tells_files H.Clock.tells_readings
-        → IfSome (H.state host.old).kit (λ before. IfSome (H.state host.new).kit (λ after. Runs H.Journal.notes H.Folder.files H.Clock.coming (views H.Conn.pieces H.Conn.left H.Conn.ended H.Conn.written H.Conn.read_faults H.Conn.write_faults) default_options before after (H.content host.old) (H.content host.new))) }
+        → Between (H.state host.old).kit (H.state host.new).kit (λ before after. Runs (views H.Conn.pieces H.Conn.left H.Conn.ended H.Conn.written H.Conn.read_faults H.Conn.write_faults) words.now default_options (status_of result) before after
+        (sight H.Journal.notes H.Folder.files H.Clock.coming H.Folder.folder_faults before (H.state host.old) (H.content host.old)) (sight H.Journal.notes H.Folder.files H.Clock.coming H.Folder.folder_faults after (H.state host.new) (H.content host.new))) }
 {
     match request_of(words) {
         Request::Version => print_version(rt, host),
@@ -68,24 +83,32 @@ fn obey<R: Wait, H: Host<Entry>>(rt: &R, alloc: Global, words: &[String], host: 
 pub fn close<R: Wait, H: Host<Entry>>(rt: &R, host: &mut H, ending: Ending) -> u8
     ensures status { result ≡ status_of ending }
     ensures state { OnlyTellFaults (H.state host.old) (H.state host.new) }
-    ensures callers { IsTrue H.tells → NoCaller (H.content host.old) (H.content host.new) }
+    ensures content { IsTrue H.tells → TellsLine (line_of ending) (H.content host.old) (H.content host.new) (H.state host.old).tell_faults (H.state host.new).tell_faults }
+{
+    tell_line(rt, host, ending);
+    status(ending)
+}
+
+/// Tells the line of an ending, where one is.
+fn tell_line<R: Wait, H: Host<Entry>>(rt: &R, host: &mut H, ending: Ending)
+    ensures state { OnlyTellFaults (H.state host.old) (H.state host.new) }
+    ensures content { IsTrue H.tells → TellsLine (line_of ending) (H.content host.old) (H.content host.new) (H.state host.old).tell_faults (H.state host.new).tell_faults }
 {
     match line(ending) {
         Some(text) => host.tell(rt, text),
         None => {}
     }
-    status(ending)
 }
 
 /// Prints the program's name and version.
 fn print_version<R: Wait, H: Host<Entry>>(rt: &R, host: &mut H) -> Ending
-    ensures known { result ≢ BadOptions }
-    ensures cause { (folder folder' accept accept' : ℕ) → IsCaused result folder folder' accept accept' (H.state host.old).print_faults (H.state host.new).print_faults }
+    ensures ends { EndsPrinting result (H.state host.old).print_faults (H.state host.new).print_faults }
+    ensures printed { IsTrue H.tells → PrintsVersion (status_of result) (H.content host.old).printed (H.content host.new).printed }
     ensures state { OnlyPrintFaults (H.state host.old) (H.state host.new) }
-    ensures callers { IsTrue H.tells → NoCaller (H.content host.old) (H.content host.new) }
+    ensures rest { IsTrue H.tells → H.content host.new ≡ record (H.content host.old) { printed = (H.content host.new).printed } }
 {
     match host.print(rt, VERSION) {
-        Did::Done => Ending::Clean,
+        Did::Done => Ending::Printed,
         Did::Failed => Ending::OutputFault,
     }
 }
@@ -94,10 +117,13 @@ fn print_version<R: Wait, H: Host<Entry>>(rt: &R, host: &mut H) -> Ending
 fn serve_by_default<R: Wait, H: Host<Entry>>(rt: &R, alloc: Global, host: &mut H) -> Ending
     requires home { IsSome (H.state host.old).kit }
     ensures home { IsSome (H.state host.new).kit }
-    ensures known { result ≢ BadOptions }
-    ensures cause { IfSome (H.state host.old).kit (λ before. IfSome (H.state host.new).kit (λ after. IsCaused result (H.Folder.folder_faults before.folder) (H.Folder.folder_faults after.folder) (H.state host.old).accept_faults (H.state host.new).accept_faults (H.state host.old).print_faults (H.state host.new).print_faults)) }
+    ensures plain { IsTrue (is_plain result) }
+    ensures asked { IsTrue H.tells → HasAsked default_options (status_of result) (H.content host.old) (H.content host.new) }
+    ensures tell { (H.state host.new).tell_faults ≡ (H.state host.old).tell_faults }
+    ensures cause { Between (H.state host.old).kit (H.state host.new).kit (λ before after. IsCaused result H.Folder.tells_files (H.Folder.files before.folder) (counts_of H.Folder.folder_faults before.folder (H.state host.old)) (counts_of H.Folder.folder_faults after.folder (H.state host.new))) }
     ensures run { AllTold H.tells H.Conn.tells_pieces H.Conn.tells_written H.Journal.tells_notes H.Folder.tells_files H.Clock.tells_readings
-        → IfSome (H.state host.old).kit (λ before. IfSome (H.state host.new).kit (λ after. Runs H.Journal.notes H.Folder.files H.Clock.coming (views H.Conn.pieces H.Conn.left H.Conn.ended H.Conn.written H.Conn.read_faults H.Conn.write_faults) default_options before after (H.content host.old) (H.content host.new))) }
+        → (words : Words) → AskToServe words → Between (H.state host.old).kit (H.state host.new).kit (λ before after. Runs (views H.Conn.pieces H.Conn.left H.Conn.ended H.Conn.written H.Conn.read_faults H.Conn.write_faults) words default_options (status_of result) before after
+        (sight H.Journal.notes H.Folder.files H.Clock.coming H.Folder.folder_faults before (H.state host.old) (H.content host.old)) (sight H.Journal.notes H.Folder.files H.Clock.coming H.Folder.folder_faults after (H.state host.new) (H.content host.new))) }
 {
     match Options::defaults(alloc) {
         Ok(options) => serve(rt, alloc, &options, host),
@@ -115,18 +141,23 @@ pub fn serve<R: Wait, H: Host<Entry>>(
     requires home { IsSome (H.state host.old).kit }
     requires options { IsInRange options.now }
     ensures home { IsSome (H.state host.new).kit }
-    ensures known { result ≢ BadOptions }
-    ensures cause { IfSome (H.state host.old).kit (λ before. IfSome (H.state host.new).kit (λ after. IsCaused result (H.Folder.folder_faults before.folder) (H.Folder.folder_faults after.folder) (H.state host.old).accept_faults (H.state host.new).accept_faults (H.state host.old).print_faults (H.state host.new).print_faults)) }
+    ensures plain { IsTrue (is_plain result) }
+    ensures asked { IsTrue H.tells → HasAsked options.now (status_of result) (H.content host.old) (H.content host.new) }
+    ensures tell { (H.state host.new).tell_faults ≡ (H.state host.old).tell_faults }
+    ensures cause { Between (H.state host.old).kit (H.state host.new).kit (λ before after. IsCaused result H.Folder.tells_files (H.Folder.files before.folder) (counts_of H.Folder.folder_faults before.folder (H.state host.old)) (counts_of H.Folder.folder_faults after.folder (H.state host.new))) }
     ensures run { AllTold H.tells H.Conn.tells_pieces H.Conn.tells_written H.Journal.tells_notes H.Folder.tells_files H.Clock.tells_readings
-        → IfSome (H.state host.old).kit (λ before. IfSome (H.state host.new).kit (λ after. Runs H.Journal.notes H.Folder.files H.Clock.coming (views H.Conn.pieces H.Conn.left H.Conn.ended H.Conn.written H.Conn.read_faults H.Conn.write_faults) options.now before after (H.content host.old) (H.content host.new))) }
+        → (words : Words) → AskToServe words → Between (H.state host.old).kit (H.state host.new).kit (λ before after. Runs (views H.Conn.pieces H.Conn.left H.Conn.ended H.Conn.written H.Conn.read_faults H.Conn.write_faults) words options.now (status_of result) before after
+        (sight H.Journal.notes H.Folder.files H.Clock.coming H.Folder.folder_faults before (H.state host.old) (H.content host.old)) (sight H.Journal.notes H.Folder.files H.Clock.coming H.Folder.folder_faults after (H.state host.new) (H.content host.new))) }
 {
-    if let Did::Failed = start(rt, options, host) {
-        return Ending::AcceptFailed;
+    match start(rt, options, host) {
+        Did::Failed => Ending::AcceptFailed,
+        Did::Done => {
+            let kit = host.lend();
+            let (ending, kit) = work(rt, alloc, options, host, kit);
+            host.restore(kit);
+            ending
+        }
     }
-    let kit = host.lend();
-    let (ending, kit) = work(rt, alloc, options, host, kit);
-    host.restore(kit);
-    ending
 }
 
 /// Starts the host with the addresses and the data path of the options.
@@ -134,7 +165,7 @@ fn start<R: Wait, H: Host<Entry>>(rt: &R, options: &Options, host: &mut H) -> Di
     requires options { IsInRange options.now }
     ensures state { OnlyAcceptFaults (H.state host.old) (H.state host.new) }
     ensures cause { DidFails (H.state host.old).accept_faults (H.state host.new).accept_faults result }
-    ensures callers { IsTrue H.tells → NoCaller (H.content host.old) (H.content host.new) }
+    ensures content { IsTrue H.tells → Starts (H.content host.old) (H.content host.new) options.now.tcp_address options.now.http_address options.now.data_path result }
 {
     let tcp = text_of(&options.tcp_address);
     let http = text_of(&options.http_address);
@@ -164,11 +195,13 @@ fn work<R: Wait, H: Host<Entry>>(
     requires options { IsInRange options.now }
     requires aside { H.Journal.is_aside kit.journal ≡ false }
     requires empty { IsTrue H.Journal.tells_notes → H.Journal.notes kit.journal ≡ [] }
-    ensures known { result.0 ≢ BadOptions }
+    ensures plain { IsTrue (is_plain result.0) }
     ensures worked { AllTold H.tells H.Conn.tells_pieces H.Conn.tells_written H.Journal.tells_notes H.Folder.tells_files H.Clock.tells_readings
-        → HasWorked (views H.Conn.pieces H.Conn.left H.Conn.ended H.Conn.written H.Conn.read_faults H.Conn.write_faults) options.now (H.Folder.files kit.folder) (H.Clock.coming kit.clock) (H.Clock.coming result.1.clock) (H.Journal.notes result.1.journal) (H.content host.old) (H.content host.new) }
+        → HasWorked (views H.Conn.pieces H.Conn.left H.Conn.ended H.Conn.written H.Conn.read_faults H.Conn.write_faults) options.now (status_of result.0)
+        (sight H.Journal.notes H.Folder.files H.Clock.coming H.Folder.folder_faults kit (H.state host.old) (H.content host.old)) (sight H.Journal.notes H.Folder.files H.Clock.coming H.Folder.folder_faults result.1 (H.state host.new) (H.content host.new)) }
+    ensures rest { IsTrue H.tells → OnlyCallersChange (H.content host.old) (H.content host.new) }
     ensures state { OnlyAcceptFaults (H.state host.old) (H.state host.new) }
-    ensures cause { (print print' : ℕ) → IsCaused result.0 (H.Folder.folder_faults kit.folder) (H.Folder.folder_faults result.1.folder) (H.state host.old).accept_faults (H.state host.new).accept_faults print print' }
+    ensures cause { IsCaused result.0 H.Folder.tells_files (H.Folder.files kit.folder) (counts_of H.Folder.folder_faults kit.folder (H.state host.old)) (counts_of H.Folder.folder_faults result.1.folder (H.state host.new)) }
 {
     match open(alloc, kit, options) {
         Ok(floor) => run(rt, alloc, options, host, floor),
@@ -190,12 +223,15 @@ fn run<R: Wait, H: Host<Entry>>(
     requires options { IsInRange options.now }
     requires empty { IsTrue H.Journal.tells_notes → H.Journal.notes floor.journal ≡ [] }
     requires stands { IsTrue H.Journal.tells_notes → (s : State) × Stands (scene floor.table (H.Journal.notes floor.journal) (H.Folder.files floor.folder) (H.Folder.folder_faults floor.folder) (H.Clock.coming floor.clock)) s }
-    ensures known { result.0 ≢ BadOptions }
-    ensures ends { EndsWell H.Journal.tells_notes H.Folder.tells_files H.Clock.tells_readings (scene floor.table (H.Journal.notes floor.journal) (H.Folder.files floor.folder) (H.Folder.folder_faults floor.folder) (H.Clock.coming floor.clock)) (H.Journal.notes result.1.journal) (H.Clock.coming result.1.clock) }
+    ensures ends { EndsWell H.Journal.tells_notes H.Folder.tells_files H.Clock.tells_readings (scene floor.table (H.Journal.notes floor.journal) (H.Folder.files floor.folder) (H.Folder.folder_faults floor.folder) (H.Clock.coming floor.clock))
+        (status_of result.0) (H.Folder.files result.1.folder) (H.Journal.notes result.1.journal) (H.Clock.coming result.1.clock) }
+    ensures stop { AllTell H.tells H.Conn.tells_pieces H.Conn.tells_written H.Journal.tells_notes → StopsLast (status_of result.0) (H.Journal.notes result.1.journal) }
     ensures served { AllTell H.tells H.Conn.tells_pieces H.Conn.tells_written H.Journal.tells_notes
-        → (number : ℕ) × HasServed (views H.Conn.pieces H.Conn.left H.Conn.ended H.Conn.written H.Conn.read_faults H.Conn.write_faults) (limits_of options.now) number (H.Journal.notes result.1.journal) (H.content host.old) (H.content host.new) }
+        → ServedAll (views H.Conn.pieces H.Conn.left H.Conn.ended H.Conn.written H.Conn.read_faults H.Conn.write_faults) (limits_of options.now) (status_of result.0 ≡ 0) (status_of result.0 ≡ 4) (H.state host.old).accept_faults (H.state host.new).accept_faults (H.Journal.notes result.1.journal) (H.content host.old) (H.content host.new) }
+    ensures rest { IsTrue H.tells → OnlyCallersChange (H.content host.old) (H.content host.new) }
     ensures state { OnlyAcceptFaults (H.state host.old) (H.state host.new) }
-    ensures cause { (print print' : ℕ) → IsCaused result.0 (H.Folder.folder_faults floor.folder) (H.Folder.folder_faults result.1.folder) (H.state host.old).accept_faults (H.state host.new).accept_faults print print' }
+    ensures faults { H.Folder.folder_faults floor.folder ≤ H.Folder.folder_faults result.1.folder }
+    ensures cause { EndsServed result.0 (counts_of H.Folder.folder_faults floor.folder (H.state host.old)) (counts_of H.Folder.folder_faults result.1.folder (H.state host.new)) }
 {
     let mut floor = floor;
     let limits = Limits {
@@ -211,15 +247,38 @@ fn run<R: Wait, H: Host<Entry>>(
 /// Notes the Stop of the daemon. Where memory is wanting it is tried once more. Whether it was noted.
 fn stop<T: Turner>(alloc: Global, floor: &mut T) -> bool
     ensures leads { T.leads 0 floor.old floor.new }
+    ensures adds { IsTrue T.tells → AddsStop (own 0 (T.notes floor.old)) (own 0 (T.notes floor.new)) result }
     ensures noted { result ≡ true → IsTrue T.tells → 0 < stops_of (T.notes floor.new) }
 {
-    if let Turned::Stopping = floor.take_turn(alloc, 0, Call::Stop) {
+    if stop_once(alloc, floor) {
         return true;
     }
-    if let Turned::Stopping = floor.take_turn(alloc, 0, Call::Stop) {
-        return true;
+    stop_once(alloc, floor)
+}
+
+/// Makes one turn for the Stop. Whether the daemon stops.
+fn stop_once<T: Turner>(alloc: Global, floor: &mut T) -> bool
+    ensures leads { T.leads 0 floor.old floor.new }
+    ensures adds { IsTrue T.tells → AddsStop (own 0 (T.notes floor.old)) (own 0 (T.notes floor.new)) result }
+    ensures noted { result ≡ true → IsTrue T.tells → 0 < stops_of (T.notes floor.new) }
+{
+    let turned = floor.take_turn(alloc, 0, Call::Stop);
+    is_stopping(&turned)
+}
+
+/// Whether a turn's answer is that the daemon stops.
+fn is_stopping(turned: &Turned) -> bool
+    ensures { result ≡ says_stopping turned.now }
+{
+    match turned {
+        Turned::Stopping => true,
+        Turned::Begun
+        | Turned::Reply(_, _)
+        | Turned::Quiet
+        | Turned::Ended
+        | Turned::Strange
+        | Turned::Memory => false,
     }
-    false
 }
 
 /// How a run ends: of want of memory, a fault of the folder at the stop and a fault of the listeners the first counts.

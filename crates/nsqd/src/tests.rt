@@ -1,6 +1,8 @@
 ghost use Rattle.std.specs.Prelude.{◌<◌, length, IfOk, IsSome};
 ghost use Rattle.nsq_outside.specs.MemHosts.{state_of};
 
+mod histories;
+
 use crate::run::nsqd_run;
 use history::Entry;
 use nsq_base::{Body, Memory};
@@ -12,11 +14,16 @@ use std::process::Abort;
 use std::sync::Wait;
 use std::test::Fail;
 
-/// A caller: what it speaks, its bytes, and in pieces of how many they come.
+mod cuts;
+mod loopback;
+mod rows;
+
+/// A caller: what it speaks, its bytes in two parts, and in pieces of how many each part comes.
 #[derive(Clone, Copy)]
 struct Caller<'a> {
     kind: Kind,
     bytes: &'a [u8],
+    more: &'a [u8],
     size: usize,
 }
 
@@ -25,7 +32,8 @@ fn tcp(bytes: &[u8]) -> Caller<'_> {
     Caller {
         kind: Kind::Tcp,
         bytes,
-        size: 1 << 20,
+        more: b"",
+        size: 1 << 24,
     }
 }
 
@@ -71,14 +79,25 @@ impl Outcome {
     }
 }
 
-/// The pieces of a caller.
+/// The pieces of a caller, none of which is empty.
 fn pieces_of(alloc: Global, caller: Caller<'_>) -> Result<Vec<Piece>, Memory> {
     let mut pieces = Vec::new(alloc);
-    let size = caller.size.max(1);
-    for piece in caller.bytes.chunks(size) {
+    add_pieces(alloc, caller.bytes, caller.size, &mut pieces)?;
+    add_pieces(alloc, caller.more, caller.size, &mut pieces)?;
+    Ok(pieces)
+}
+
+/// Adds the pieces of so many bytes.
+fn add_pieces(
+    alloc: Global,
+    bytes: &[u8],
+    size: usize,
+    pieces: &mut Vec<Piece>,
+) -> Result<(), Memory> {
+    for piece in bytes.chunks(size.max(1)) {
         pieces.push(Piece::Bytes(Body::copy(alloc, piece)?))?;
     }
-    Ok(pieces)
+    Ok(())
 }
 
 /// A host with these callers and a folder, some of whose calls fail.
@@ -196,6 +215,7 @@ fn a_publish_in_single_bytes(rt: HostRuntime) -> Result<(), Fail> {
     let caller = Caller {
         kind: Kind::Tcp,
         bytes: PUBLISH,
+        more: b"",
         size: 1,
     };
     let outcome = run(&rt, rt.alloc(), &[caller])?;
@@ -233,30 +253,11 @@ fn a_body_that_is_cut_off(rt: HostRuntime) -> Result<(), Fail> {
 }
 
 #[test]
-fn a_batch_is_not_built_yet(rt: HostRuntime) -> Result<(), Fail> {
-    let bytes = b"  V2MPUB t\n\0\0\0\x0a\0\0\0\x01\0\0\0\x02hiNOP\n";
-    let outcome = run(&rt, rt.alloc(), &[tcp(bytes)])?;
-    check_none(&rt, &outcome, NOT_BUILT)
-}
-
-#[test]
-fn a_batch_whose_last_size_is_too_large(rt: HostRuntime) -> Result<(), Fail> {
-    let bytes = b"  V2MPUB t\n\0\0\0\x10\0\0\0\x02\0\0\0\x02hi\0\0\0\x03ho";
-    let outcome = run(&rt, rt.alloc(), &[tcp(bytes)])?;
-    check_none(&rt, &outcome, b"\0\0\0\x17\0\0\0\x01E_BAD_BODY bad body")
-}
-
-#[test]
-fn nothing_is_answered_to_a_nop(rt: HostRuntime) -> Result<(), Fail> {
-    let outcome = run(&rt, rt.alloc(), &[tcp(b"  V2NOP\nPUB t\n\0\0\0\x02hi")])?;
-    check_one(&rt, &outcome)
-}
-
-#[test]
 fn callers_have_their_numbers(rt: HostRuntime) -> Result<(), Fail> {
     let http = Caller {
         kind: Kind::Http,
         bytes: b"GET /ping HTTP/1.1\r\n\r\n",
+        more: b"",
         size: 100,
     };
     let other = tcp(b"  V2PUB u\n\0\0\0\x02hoPUB t\n\0\0\0\x02ha");
@@ -308,6 +309,16 @@ fn a_folder_that_fails_at_the_opening(rt: HostRuntime) -> Result<(), Fail> {
     let outcome = run_failing(&rt, rt.alloc(), &[tcp(PUBLISH)], &fails)?;
     assert_eq!(rt; outcome.status, 2);
     assert_eq!(rt; outcome.line(), b"nsqd: data path: disk fault".as_slice());
+    Ok(())
+}
+
+#[test]
+fn a_folder_that_cannot_be_written(rt: HostRuntime) -> Result<(), Fail> {
+    let fails = [from(FolderCall::WriteAt, 0)];
+    let outcome = run_failing(&rt, rt.alloc(), &[tcp(PUBLISH)], &fails)?;
+    assert_eq!(rt; outcome.status, 2);
+    assert_eq!(rt; outcome.line(), b"nsqd: data path: disk fault".as_slice());
+    assert!(rt; outcome.host.back().is_empty());
     Ok(())
 }
 

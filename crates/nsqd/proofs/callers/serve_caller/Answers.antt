@@ -1,4 +1,4 @@
-use Rattle.std.proofs.Common.{◌≡◌, ◌++◌, ◌∙◌, ap}
+use Rattle.std.proofs.Common.{◌++◌, ◌∙◌, ap}
 use Rattle.history.specs.Talk.{bytes_of}
 use Rattle.nsqd.proofs.Serving.{cause_allows, tcp_served}
 use Rattle.nsqd.proofs.callers.serve_caller.Goals as goal

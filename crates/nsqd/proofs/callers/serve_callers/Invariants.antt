@@ -1,6 +1,6 @@
-use Rattle.std.proofs.Common.{◌≡◌, IsTrue}
+use Rattle.std.proofs.Common.{IsTrue, ◌≡◌}
 use Rattle.nsq_outside.specs.Hosts.{OnlyAcceptFaults}
-use Rattle.nsqd.specs.Served.{views, AllTell, HasServed, OnlyCallersChange, UpTo}
+use Rattle.nsqd.specs.Served.{views, AllTell, HasServed, OfCallers, OnlyCallersChange, UpTo}
 use Rattle.nsqd.specs.Went.{Went}
 use Rattle.broker_core.specs.Turns.{scene}
 use Rattle.nsqd.proofs.callers.serve_callers.Given as goal
@@ -13,6 +13,8 @@ invariant-callers g l = record {
   up_to : IsTrue g.H.Journal.Journal.tells_notes → UpTo l.number (g.H.Journal.Journal.notes l.floor.journal);
   served : AllTell g.H.Dialer.tells g.H.Conn.Source.tells_pieces g.H.Conn.Sink.tells_written g.H.Journal.Journal.tells_notes
       → HasServed (views g.H.Conn.Source.pieces g.H.Conn.Source.left g.H.Conn.Source.ended g.H.Conn.Sink.written g.H.Conn.Source.read_faults g.H.Conn.Sink.write_faults) l.limits l.number (g.H.Journal.Journal.notes l.floor.journal) (g.H.Host.content l.initial.host) (g.H.Host.content l.host);
+  callers : AllTell g.H.Dialer.tells g.H.Conn.Source.tells_pieces g.H.Conn.Sink.tells_written g.H.Journal.Journal.tells_notes → OfCallers (g.H.Journal.Journal.notes l.floor.journal);
+  halted : IsTrue g.H.Dialer.tells → (g.H.Host.content l.host).halted ≡ (g.H.Host.content l.initial.host).halted;
   rest : IsTrue g.H.Dialer.tells → OnlyCallersChange (g.H.Host.content l.initial.host) (g.H.Host.content l.host);
   state : OnlyAcceptFaults (g.H.Host.state l.initial.host) (g.H.Host.state l.host);
 }

@@ -79,9 +79,9 @@ impl<F: Folder, C: Clock, J: Journal<Entry>> Floor<F, C, J> {
         self.table.epoch()
     }
 
-    /// Writes what waits in each durable topic into the topic's queue, behind what was there when it was made, and saves that: after
-    /// Done an opening finds exactly these messages, where it found none in the queues before. No other file changes: an ephemeral
-    /// topic is written nowhere. A fault in one topic keeps none of the others from being written. After it no turn is taken: a second flush writes
+    /// Writes what waits in each durable topic into the topic's queue, which begins anew with its file 0, and saves that: after Done an
+    /// opening finds exactly these messages, where it found none in the queues before. No other file changes: an ephemeral topic is
+    /// written nowhere. A fault in one topic keeps none of the others from being written. After it no turn is taken: a second flush writes
     /// nothing. It takes no memory.
     pub fn flush(&mut self) -> Flushed
         ensures found { IsTrue F.tells_files → All (IsUnwritten (F.files self.old.folder)) self.old.table.topics → WhereDone result (All (IsFoundRoom (F.files self.new.folder)) self.old.table.topics) }

@@ -13,8 +13,8 @@ use Rattle.disk_queue.specs.declared.answers.Put.{Put}
 use Rattle.disk_queue.specs.declared.answers.Put.TheVariants.{Stored, Fault, TooLong}
 
 -- a queue: its name, its options, the number of its records, where it reads and writes, the records that are staged, what is known
--- of its last save, the length of the record that a peek gave, where that is still the first one, and whether a record was staged since
--- it was made
+-- of its last save, the length of the record that a peek gave, where that is still the first one, and whether it was opened or a record was
+-- staged since it was made
 pub record Seen : Type 0 where
   pub name : List ℕ
   pub options : QueueOptions
@@ -59,7 +59,7 @@ staged_after q size stage.Staged = staged_more q size
 staged_after q size stage.Fault = q.staged
 staged_after q size (stage.TooLong _) = q.staged
 
--- whether one was ever staged then
+-- whether it was opened or one was ever staged then
 abbrev pub begun_after : Seen → Stage → Bool
 begun_after q stage.Staged = true
 begun_after q stage.Fault = q.begun

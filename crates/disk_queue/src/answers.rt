@@ -79,8 +79,8 @@ pub enum Emptied {
 /// The answer of `Queue::delete`.
 #[derive(Drop)]
 pub enum Deleted {
-    /// An opening finds nothing. The queue's files are gone, but for those whose removal failed and for data files that forgotten records
-    /// began behind the next one.
+    /// An opening finds nothing. The queue's files are gone, but for data files that forgotten records began behind the next one and,
+    /// where a removal failed, for that file and those that were to go after it: behind the first failure no removal is tried.
     Done,
     /// The folder failed, and its count of faults rose in this call. The queue, with the list as before.
     Fault(Queue),

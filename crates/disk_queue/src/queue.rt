@@ -35,7 +35,7 @@ pub struct Queue {
     saved: LastSave,
     // How many bytes the record has that a peek gave, where that is still the first one.
     mark: Option<u32>,
-    // Whether a record was staged since the queue was made. Before that the file is cut where writing begins.
+    // Whether the queue was opened, or a record was staged since it was made. Before that the file is cut where writing begins.
     begun: bool,
     files: QueueFiles,
 }

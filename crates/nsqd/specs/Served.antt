@@ -87,8 +87,8 @@ pub record OfCallers (h : History) : Type 0 where
 abbrev pub IsHalted : {K : Type 0} → (number : ℕ) → HostContent K → Type 0
 IsHalted number new = (new.halted ≡ true) ⊎ (number ≡ 2 ^ 64 - 1)
 
--- callers were served until there was no further one; where that was said to be no fault, it was none, and where it was said to be one, the host hadn't
--- halted
+-- callers were served until there was no further one; where that was said to be no fault, it was none, and where it was said to be one, the host
+-- didn't halt meanwhile
 pub record ServedAll {K : Type 0} (seen : Views K) (limits : Limits) (clean failed : Type 0) (accept accept' : ℕ) (h : History) (old new : HostContent K) : Type 0 where
   pub number : ℕ
   pub served : HasServed seen limits number h old new

@@ -26,8 +26,8 @@ impl Queue {
     /// The queue that a folder has under that name: the list that `queue_image::found_queue` finds. Makes all room that the other calls
     /// need.
     ///
-    /// Without metadata every data file of the name gets `.bad` added to its name. With metadata those above the write file get it, and
-    /// those that are damaged, and those below the read file are removed. The write file is cut at the write position, or to nothing
+    /// Without metadata every data file of the name gets `.bad` added to its name. With metadata those above the write file and those that
+    /// are damaged get it; those below the read file are removed. The write file is cut at the write position, or to nothing
     /// where the list is empty; where it is damaged, writing goes on in a new file. All that is then saved. A name with `.bad` that is
     /// there already is replaced.
     pub fn open<F: Folder>(

@@ -16,6 +16,14 @@ use Rattle.due_heap.proofs.Soundness.{root_first, shows_node, inserted, removed,
 pub written : {A : Type 0} (n : ℕ) (new items : List A) → length new ≡ n → take n (new ++ drop (length new) items) ≡ new
 written n new items p = ap (λ (k : ℕ). take k (new ++ drop (length new) items)) (sym p) ∙ take-append_seam new (drop (length new) items)
 
+-- where some room is left, the heap's end is a free slot
+pub room_left : (order : List Node) (count spare : ℕ) → length order - count ≡ spare → 0 < spare → count < length order
+room_left order count spare e h = omega arith
+
+-- the slot that is read there
+pub free_slot : (order : List Node) {count : ℕ} {x : Node} → count < length order → x ≡ slice_index_or order count x → x.slot ≡ (node_at order count).slot
+free_slot order {count} {x} room e = ap (λ (n : Node). n.slot) (e ∙ get_or_default order count x no_node room)
+
 equal : (a b : ℕ) → a ≡ b → eqb a b ≡ true
 equal a b h = grind (arith, nat_tests)
 

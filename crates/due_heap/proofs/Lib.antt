@@ -2,4 +2,5 @@ pub mod Rising
 pub mod Listing
 pub mod Soundness
 pub mod Calls
+pub mod Exchanging
 pub mod Taking

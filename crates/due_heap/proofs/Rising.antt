@@ -71,7 +71,7 @@ not_after_trans {a} {b} {c} h k = record {
 pub not_after_itself : (a : Node) → NotAfter a a
 not_after_itself a = record { due = omega arith; number = λ e. omega arith; slot = λ e m. omega arith }
 
-by : {a b x y : Node} → a ≡ x → b ≡ y → NotAfter x y → NotAfter a b
+pub by : {a b x y : Node} → a ≡ x → b ≡ y → NotAfter x y → NotAfter a b
 by p q h = rw (p, q) h
 
 pub which : {A : Type 0} (a b : ℕ) → (a ≡ b → A) → (a ≢ b → A) → A

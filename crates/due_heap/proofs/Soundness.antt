@@ -7,7 +7,7 @@ use Rattle.std.proofs.Math.Seq.{get_or-append_seam}
 use Rattle.std.proofs.lemmas.Bool.{cases_lt}
 use Rattle.due_heap.specs.declared.node.Node.{Node}
 use Rattle.due_heap.specs.declared.slots.Held.{Held}
-use Rattle.due_heap.specs.Layout.{node_at, place_of, node_of, NotAfter, no_node, Matched, IsHeap, Attached, Detached, Shows, IsSound, listed}
+use Rattle.due_heap.specs.Layout.{node_at, place_of, node_of, NotAfter, no_node, Matched, IsHeap, Attached, Detached, Shows, IsSound, SlotsAdded, listed}
 use Rattle.due_heap.proofs.Rising.{which, not_after_trans, not_after_itself}
 use Rattle.due_heap.proofs.Listing.{length-filled, length-freed, listed_more, in_slots}
 
@@ -38,7 +38,7 @@ module _ {T : Type 0} where
   free_behind count made s place node None h w = refl
   free_behind count made s place node (Some g) h w = absurd (omega (arith, w.0))
 
-  module _ (order order' : List Node) (places places' : List ℕ) (slots slots' : List (Option (Held T))) (n made : ℕ) (node : Node) (s : IsSound order places slots n made) (e : length order ≡ n) (e' : length order' ≡ suc n) (long : length places' ≡ suc n) (slots_long : length slots' ≡ suc n) (node_slot : node.slot ≡ n)
+  module _ (order order' : List Node) (places places' : List ℕ) (slots slots' : List (Option (Held T))) (n count made : ℕ) (node : Node) (s : IsSound order places slots count made) (e : length order ≡ n) (e' : length order' ≡ suc n) (long : length places' ≡ suc n) (slots_long : length slots' ≡ suc n) (node_slot : node.slot ≡ n)
       (at : (i : ℕ) → i < n → node_at order' i ≡ node_at order i) (last : node_at order' n ≡ node)
       (place_at : (i : ℕ) → i < n → place_of places' i ≡ place_of places i) (place_last : place_of places' n ≡ n)
       (slot_at : (i : ℕ) → i < n → slice_index_or slots' i None ≡ slice_index_or slots i None) (slot_last : slice_index_or slots' n None ≡ None) (entries : listed 0 slots' ≡ listed 0 slots) where
@@ -68,22 +68,25 @@ module _ {T : Type 0} where
           (λ u. ap (λ (x : Node). x.slot) (of_same i (omega arith)) ∙ s.matched.there i (omega arith));
     }
 
-    heap_more : IsHeap order' n
-    heap_more p c a b f = rw (at p (omega arith), at c (omega arith)) (s.heap p c a b f)
+    within_more : count ≤ n
+    within_more = omega (arith, s.within)
 
-    pub sound_more : IsSound order' places' slots' n made
+    heap_more : IsHeap order' count
+    heap_more p c a b f = rw (at p (omega (arith, within_more)), at c (omega (arith, within_more))) (s.heap p c a b f)
+
+    pub sound_more : IsSound order' places' slots' count made
     sound_more = record {
       matched = matched_more;
       as_long = omega arith;
-      within = omega arith;
+      within = omega (arith, within_more);
       heap = heap_more;
       counted = ap length entries ∙ s.counted;
       fits = s.fits;
       shown = λ i h. which i n
           (λ q. let o : slice_index_or slots' i None ≡ None = ap (λ (j : ℕ). slice_index_or slots' j None) q ∙ slot_last in
           let z : place_of places' i ≡ n = ap (place_of places') q ∙ place_last in
-          rw o (omega arith))
-          (λ u. shows_same n made i (of_same i (omega arith)) (place_at i (omega arith)) (slot_at i (omega arith)) (s.shown i (omega arith)));
+          rw o (omega (arith, within_more)))
+          (λ u. shows_same count made i (of_same i (omega arith)) (place_at i (omega arith)) (slot_at i (omega arith)) (s.shown i (omega arith)));
     }
 
   -- insert
@@ -164,12 +167,12 @@ module _ {T : Type 0} where
           shows_same last made i (d.nodes i old) refl o (yet_shown last made i (place_of places i) (place_of places' i) (node_of order places i) (d.inside i old v) (d.outside i old) (slice_index_or slots i None) (s.shown i old)));
     }
 
-  pub sound_pushed : {order order' : List Node} {places places' : List ℕ} {slots slots' : List (Option (Held T))} {n made : ℕ} → IsSound order places slots n made → length order ≡ n → order' ≡ order ++ record { due = 0; number = 0; slot = n } ∷ [] → places' ≡ places ++ n ∷ [] → slots' ≡ slots ++ None ∷ [] → IsSound order' places' slots' n made
-  sound_pushed {order} {order'} {places} {places'} {slots} {slots'} {n} {made} s e a b d =
+  pub sound_pushed : {order order' : List Node} {places places' : List ℕ} {slots slots' : List (Option (Held T))} {n count made : ℕ} → IsSound order places slots count made → length order ≡ n → order' ≡ order ++ record { due = 0; number = 0; slot = n } ∷ [] → places' ≡ places ++ n ∷ [] → slots' ≡ slots ++ None ∷ [] → IsSound order' places' slots' count made
+  sound_pushed {order} {order'} {places} {places'} {slots} {slots'} {n} {count} {made} s e a b d =
       let new : Node = record { due = 0; number = 0; slot = n } in
       let pl : length places ≡ n = s.matched.same_length ∙ e in
       let sl : length slots ≡ n = s.as_long ∙ e in
-      sound_more order order' places places' slots slots' n made new s e
+      sound_more order order' places places' slots slots' n count made new s e
       (ap length a ∙ (let z = length-append order (new ∷ []) in omega arith))
       (ap length b ∙ (let z = length-append places (n ∷ []) in omega arith))
       (ap length d ∙ (let z = length-append slots (None ∷ []) in omega arith))
@@ -184,3 +187,31 @@ module _ {T : Type 0} where
     where
       at_end : {A : Type 0} (l : List A) (x d : A) (n : ℕ) → length l ≡ n → slice_index_or (l ++ x ∷ []) n d ≡ x
       at_end l x d n e = ap (λ (k : ℕ). slice_index_or (l ++ x ∷ []) k d) (sym e) ∙ get_or-append_seam l x [] d
+
+  -- one more free slot
+  pub one_added : {order order' : List Node} {places places' : List ℕ} {slots slots' : List (Option (Held T))} {n : ℕ} → length order ≡ n → length places ≡ length order → length slots ≡ length order → order' ≡ order ++ record { due = 0; number = 0; slot = n } ∷ [] → places' ≡ places ++ n ∷ [] → slots' ≡ slots ++ None ∷ [] → SlotsAdded 1 order places slots order' places' slots'
+  one_added {order} {order'} {places} {places'} {slots} {slots'} {n} e p q a b d = record {
+    order_longer = ap length a ∙ length-append order (record { due = 0; number = 0; slot = n } ∷ []);
+    places_longer = ap length b ∙ length-append places (n ∷ []);
+    slots_longer = ap length d ∙ length-append slots (None ∷ []);
+    same = ap (listed 0) d ∙ listed_more 0 slots;
+    sound = λ count made s. sound_pushed s e a b d;
+  }
+
+  pub none_added : (order : List Node) (places : List ℕ) (slots : List (Option (Held T))) → SlotsAdded 0 order places slots order places slots
+  none_added order places slots = record {
+    order_longer = omega arith;
+    places_longer = omega arith;
+    slots_longer = omega arith;
+    same = refl;
+    sound = λ count made s. s;
+  }
+
+  pub then_added : {a b c : List Node} {p q r : List ℕ} {x y z : List (Option (Held T))} {n m k : ℕ} → SlotsAdded n a p x b q y → SlotsAdded m b q y c r z → k ≡ n + m → SlotsAdded k a p x c r z
+  then_added {a} {b} {c} {p} {q} {r} {x} {y} {z} {n} {m} {k} h g e = record {
+    order_longer = omega (arith, h.order_longer, g.order_longer);
+    places_longer = omega (arith, h.places_longer, g.places_longer);
+    slots_longer = omega (arith, h.slots_longer, g.slots_longer);
+    same = g.same ∙ h.same;
+    sound = λ count made s. g.sound count made (h.sound count made s);
+  }

@@ -122,3 +122,11 @@ module _ {T : Type 0} where
     pub counted : length (listed 0 slots) ≡ count
     pub fits : made < 2 ^ 64
     pub shown : (s : ℕ) → s < length order → Shows count made s (node_of order places s) (place_of places s) (slice_index_or slots s None)
+
+  -- so many free slots stand behind all others
+  pub record SlotsAdded (more : ℕ) (order : List Node) (places : List ℕ) (slots : List (Option (Held T))) (order' : List Node) (places' : List ℕ) (slots' : List (Option (Held T))) : Type 0 where
+    pub order_longer : length order' ≡ length order + more
+    pub places_longer : length places' ≡ length places + more
+    pub slots_longer : length slots' ≡ length slots + more
+    pub same : listed 0 slots' ≡ listed 0 slots
+    pub sound : (count made : ℕ) → IsSound order places slots count made → IsSound order' places' slots' count made

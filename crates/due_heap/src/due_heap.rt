@@ -4,7 +4,7 @@ ghost use Rattle.due_heap.specs.Heap.{FewSteps, OthersStay, TakesFirst, TakesOut
 use crate::key::Key;
 use crate::node::Node;
 use crate::order::{attach, detach};
-use crate::slots::{Held, fill, find, make_slot, vacate};
+use crate::slots::{Held, fill, find, make_slots, vacate};
 use nsq_base::{Memory, Steps};
 use std::alloc::Global;
 use std::marker::Model;
@@ -13,7 +13,7 @@ use std::sync::ledger::Ledger;
 /// Items that wait, each until a due moment of its own.
 ///
 /// A moment is any number of any unit, as long as all are of one. Of items that are due at one moment the one inserted earliest
-/// comes first, up to the 2^64-th insertion.
+/// comes first, where they were inserted before the heap's 2^64-th insertion.
 #[derive(Drop)]
 pub struct DueHeap<T> {
     // The first `count` are the heap. Behind them stand the slots that are free.
@@ -28,7 +28,7 @@ pub struct DueHeap<T> {
 }
 
 impl<T> Model for DueHeap<T> {
-    ghost use Rattle.std.specs.Prelude.{◌-◌, min, vec_capacity};
+    ghost use Rattle.std.specs.Prelude.{◌-◌, length};
     ghost use Rattle.due_heap.specs.Heap.{Heap, heap_code};
 
     ghost Value = { Heap T };
@@ -40,7 +40,7 @@ impl<T> Model for DueHeap<T> {
     ghost view = { λ h. record {
       entries = listed 0 h.slots.items;
       made = h.made;
-      spare = min (vec_capacity h.order) (min (vec_capacity h.places) (vec_capacity h.slots)) - h.count;
+      spare = length h.order.items - h.count;
     } };
 
     ghost invariant = { λ h. IsSound h.order.items h.places.items h.slots.items h.count h.made };
@@ -62,6 +62,8 @@ impl<T> DueHeap<T> {
     }
 
     /// Makes room, so that `n` more items go in without memory. After Memory nothing is lost, neither items nor room.
+    ///
+    /// All the room that it makes is written at once, so its time grows with that, and the insertions that follow are short.
     pub fn reserve(&mut self, n: usize) -> Result<(), Memory>
         ensures room { OnOk result (n ≤ self.new.spare) }
         ensures enough { n ≤ self.old.spare → IsOk result }
@@ -72,6 +74,7 @@ impl<T> DueHeap<T> {
         self.order.reserve(more)?;
         self.places.reserve(more)?;
         self.slots.reserve(more)?;
+        make_slots(&mut self.order, &mut self.places, &mut self.slots, more);
         Ok(())
     }
 
@@ -93,10 +96,12 @@ impl<T> DueHeap<T> {
         ensures steps { FewSteps (length self.old.entries) steps.old steps.new }
     {
         let place = self.count;
-        make_slot(&mut self.order, &mut self.places, &mut self.slots, place);
         let number = self.made;
-        let slot = attach(&mut self.order, &mut self.places, place, due, number, steps);
+        let slot = self.order[place].slot;
+        // The slot first: its memory may be far, and the heap is put in order while it comes.
         fill(&mut self.slots, slot, Held { due, number, item });
+        let node = Node { due, number, slot };
+        attach(&mut self.order, &mut self.places, place, node, steps);
         self.count = place + 1;
         self.made = number.saturating_add(1);
         Key { slot, number }
@@ -114,11 +119,12 @@ impl<T> DueHeap<T> {
         ensures spare { self.old.spare + 1 ≤ self.new.spare }
         ensures steps { FewSteps (length self.old.entries) steps.old steps.new }
     {
+        // The slot first, as in `insert`.
+        let held = vacate(&mut self.slots, key.slot);
         let place = self.places[key.slot];
         let last = self.count - 1;
         detach(&mut self.order, &mut self.places, last, place, steps);
         self.count = last;
-        let held = vacate(&mut self.slots, key.slot);
         held.item
     }
 

@@ -20,24 +20,26 @@ fn is_before(a: Node, b: Node) -> bool
     a.slot < b.slot
 }
 
-// Exchanges the nodes at two places, which moves two items.
+// Exchanges the nodes at two places, which the caller has read. It moves two items.
 fn exchange<L: Ledger>(
     order: &mut [Node],
     places: &mut [usize],
     i: usize,
+    from_i: Node,
     j: usize,
+    from_j: Node,
     steps: &mut Steps<L>,
 )
     requires matched { Matched order.old places.old }
     requires i_in { i < length order.old }
     requires j_in { j < length order.old }
+    requires at_i { from_i ≡ node_at order.old i }
+    requires at_j { from_j ≡ node_at order.old j }
     ensures exchanged { Exchanged order.old order.new i j }
     ensures matched { Matched order.new places.new }
     ensures moved { (n : ℕ) → i < n → j < n → Moved n order.old places.old order.new places.new }
     ensures steps { steps.new ≡ steps.old + 2 }
 {
-    let from_i = order[i];
-    let from_j = order[j];
     order[i] = from_j;
     order[j] = from_i;
     places[from_j.slot] = i;
@@ -64,13 +66,15 @@ fn rise<L: Ledger>(
     ensures moved { Moved n order.old places.old order.new places.new }
     ensures steps { FewSwaps n steps.old steps.new }
 {
+    let node = order[start];
     let mut j = start;
     while j > 0 {
         let parent = (j - 1) / 2;
-        if !is_before(order[j], order[parent]) {
+        let above = order[parent];
+        if !is_before(node, above) {
             return;
         }
-        exchange(order, places, parent, j, steps);
+        exchange(order, places, parent, above, j, node, steps);
         j = parent;
     }
 }
@@ -114,13 +118,15 @@ fn sink<L: Ledger>(
     ensures moved { Moved n order.old places.old order.new places.new }
     ensures steps { FewSwaps n steps.old steps.new }
 {
+    let node = order[start];
     let mut j = start;
     while j < n / 2 {
         let child = first_child(order, n, j);
-        if !is_before(order[child], order[j]) {
+        let below = order[child];
+        if !is_before(below, node) {
             return;
         }
-        exchange(order, places, j, child, steps);
+        exchange(order, places, j, node, child, below, steps);
         j = child;
     }
 }
@@ -149,29 +155,26 @@ fn settle<L: Ledger>(
     }
 }
 
-// Puts an item into the free slot at the end of a heap of `place` nodes, and tells the slot.
+// Puts the node of a new item at the end of a heap of `place` nodes. Its slot is the free one that stands there.
 pub(crate) fn attach<L: Ledger>(
     order: &mut [Node],
     places: &mut [usize],
     place: usize,
-    due: u64,
-    number: u64,
+    node: Node,
     steps: &mut Steps<L>,
-) -> usize
+)
     requires matched { Matched order.old places.old }
     requires in_range { place < length order.old }
     requires heap { IsHeap order.old place }
-    ensures slot { result ≡ (node_at order.old place).slot }
+    requires slot { node.slot ≡ (node_at order.old place).slot }
     ensures matched { Matched order.new places.new }
     ensures heap { IsHeap order.new (place + 1) }
-    ensures attached { Attached place result due number order.old places.old order.new places.new }
+    ensures attached { Attached place node.slot node.due node.number order.old places.old order.new places.new }
     ensures steps { FewSteps place steps.old steps.new }
 {
-    let slot = order[place].slot;
-    order[place] = Node { due, number, slot };
+    order[place] = node;
     steps.tick();
     rise(order, places, place + 1, place, steps);
-    slot
 }
 
 // Takes the node at a place out of a heap of one more than `last`: its slot is then free.
@@ -194,6 +197,8 @@ pub(crate) fn detach<L: Ledger>(
     if place == last {
         return;
     }
-    exchange(order, places, place, last, steps);
+    let gone = order[place];
+    let moved = order[last];
+    exchange(order, places, place, gone, last, moved, steps);
     settle(order, places, last, place, steps);
 }

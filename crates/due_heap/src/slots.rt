@@ -1,5 +1,5 @@
-ghost use Rattle.std.specs.Prelude.{◌≡◌, ℕ, ◌<◌, ◌≤◌, length, vec_capacity, slice_index_or, slice_set, Some, None, IsSome, option_copied};
-ghost use Rattle.due_heap.specs.Layout.{IsSound, item_at, listed};
+ghost use Rattle.std.specs.Prelude.{◌≡◌, ◌+◌, ◌<◌, ◌≤◌, length, vec_capacity, slice_index_or, slice_set, Some, None, IsSome, option_copied};
+ghost use Rattle.due_heap.specs.Layout.{SlotsAdded, item_at};
 
 use crate::key::Key;
 use crate::node::Node;
@@ -13,36 +13,47 @@ pub(crate) struct Held<T> {
     pub(crate) item: T,
 }
 
-// Adds a slot where none is free. It takes no memory.
-pub(crate) fn make_slot<T>(
-    order: &mut Vec<Node>,
-    places: &mut Vec<usize>,
-    slots: &mut Vec<Option<Held<T>>>,
-    count: usize,
-)
-    requires order_room { count < vec_capacity order.old }
-    requires places_room { count < vec_capacity places.old }
-    requires slots_room { count < vec_capacity slots.old }
-    requires within { count ≤ length order.old.items }
+// Adds a free slot behind all others. It takes no memory.
+fn make_slot<T>(order: &mut Vec<Node>, places: &mut Vec<usize>, slots: &mut Vec<Option<Held<T>>>)
+    requires order_room { length order.old.items < vec_capacity order.old }
+    requires places_room { length order.old.items < vec_capacity places.old }
+    requires slots_room { length order.old.items < vec_capacity slots.old }
     requires places_length { length places.old.items ≡ length order.old.items }
     requires slots_length { length slots.old.items ≡ length order.old.items }
-    ensures free { count < length order.new.items }
-    ensures listed { listed 0 slots.new.items ≡ listed 0 slots.old.items }
-    ensures sound { (made : ℕ) → IsSound order.old.items places.old.items slots.old.items count made → IsSound order.new.items places.new.items slots.new.items count made }
+    ensures added { SlotsAdded 1 order.old.items places.old.items slots.old.items order.new.items places.new.items slots.new.items }
     ensures order_stays { vec_capacity order.new ≡ vec_capacity order.old }
     ensures places_stays { vec_capacity places.new ≡ vec_capacity places.old }
     ensures slots_stays { vec_capacity slots.new ≡ vec_capacity slots.old }
 {
-    if count < order.len() {
-        return;
-    }
+    let slot = order.len();
     order.push_reserved(Node {
         due: 0,
         number: 0,
-        slot: count,
+        slot,
     });
-    places.push_reserved(count);
+    places.push_reserved(slot);
     slots.push_reserved(None);
+}
+
+// Adds so many free slots behind all others. It takes no memory.
+pub(crate) fn make_slots<T>(
+    order: &mut Vec<Node>,
+    places: &mut Vec<usize>,
+    slots: &mut Vec<Option<Held<T>>>,
+    more: usize,
+)
+    requires order_room { length order.old.items + more ≤ vec_capacity order.old }
+    requires places_room { length order.old.items + more ≤ vec_capacity places.old }
+    requires slots_room { length order.old.items + more ≤ vec_capacity slots.old }
+    requires places_length { length places.old.items ≡ length order.old.items }
+    requires slots_length { length slots.old.items ≡ length order.old.items }
+    ensures { SlotsAdded more order.old.items places.old.items slots.old.items order.new.items places.new.items slots.new.items }
+{
+    let mut added = 0;
+    while added < more {
+        make_slot(order, places, slots);
+        added += 1;
+    }
 }
 
 // Puts an item into a free slot.

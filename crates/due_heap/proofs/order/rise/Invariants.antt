@@ -1,5 +1,5 @@
 use Rattle.std.proofs.Common.{◌≡◌, ◌<◌, length}
-use Rattle.due_heap.specs.Layout.{Matched, IsHeapBut, AboveChildren, Moved}
+use Rattle.due_heap.specs.Layout.{node_at, Matched, IsHeapBut, AboveChildren, Moved}
 use Rattle.due_heap.proofs.Rising.{Climbed}
 use Rattle.due_heap.proofs.order.rise.Given as goal
 
@@ -9,6 +9,7 @@ invariant-loop-j g l =
       matched : Matched l.order l.places;
       long : length l.order ≡ length l.fn.order;
       in_range : l.j < l.n;
+      here : l.node ≡ node_at l.order l.j;
       but : IsHeapBut l.order l.n l.j;
       above : AboveChildren l.order l.n l.j l.j;
       moved : Moved l.n l.fn.order l.fn.places l.order l.places;

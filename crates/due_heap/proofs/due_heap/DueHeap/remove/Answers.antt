@@ -21,61 +21,61 @@ pub vacate-held-requires-clause-range : goal.vacate-held-requires-clause-range
 vacate-held-requires-clause-range g c =
     let at = held_at c.args.key c.self.inside.slots.items c.args.self.now.entries (ap (λ (h : Heap g.row.T.Denot). h.entries) c.self.view_is) c.requires in
     let w = (slot_there c.self.invariant at).0 in
-    rw c.deref_mut-3.ensures.value w
+    rw c.deref_mut.ensures.value w
 
 pub vacate-held-requires-clause-taken : goal.vacate-held-requires-clause-taken
 vacate-held-requires-clause-taken g c =
     let at = held_at c.args.key c.self.inside.slots.items c.args.self.now.entries (ap (λ (h : Heap g.row.T.Denot). h.entries) c.self.view_is) c.requires in
-    rw (c.deref_mut-3.ensures.value, at.is) (search rules)
+    rw (c.deref_mut.ensures.value, at.is) (search rules)
 
 pub invariant_of-self : goal.invariant_of-self
 invariant_of-self g c =
     let at = held_at c.args.key c.self.inside.slots.items c.args.self.now.entries (ap (λ (h : Heap g.row.T.Denot). h.entries) c.self.view_is) c.requires in
     let w = place_in_heap c.self.invariant at in
     let d = c.detach.ensures in
-    let o : length c.detach.new.order ≡ c.self.inside.order.len = d.detached.same_length ∙ c.deref_mut.ensures.len in
-    let p : length c.detach.new.places ≡ c.self.inside.places.len = d.matched.same_length ∙ (d.detached.same_length ∙ (ap length c.deref_mut.ensures.value ∙ (sym c.self.invariant.matched.same_length ∙ (sym (ap length c.deref_mut-2.ensures.value) ∙ c.deref_mut-2.ensures.len)))) in
-    let s : length c.vacate-held.new.slots ≡ c.self.inside.slots.len = ap length c.vacate-held.ensures.rest ∙ (length-set _ _ _ ∙ c.deref_mut-3.ensures.len) in
+    let o : length c.detach.new.order ≡ c.self.inside.order.len = d.detached.same_length ∙ c.deref_mut-2.ensures.len in
+    let p : length c.detach.new.places ≡ c.self.inside.places.len = d.matched.same_length ∙ (d.detached.same_length ∙ (ap length c.deref_mut-2.ensures.value ∙ (sym c.self.invariant.matched.same_length ∙ (sym (ap length c.deref_mut-3.ensures.value) ∙ c.deref_mut-3.ensures.len)))) in
+    let s : length c.vacate-held.new.slots ≡ c.self.inside.slots.len = ap length c.vacate-held.ensures.rest ∙ (length-set _ _ _ ∙ c.deref_mut.ensures.len) in
     rw (written c.self.inside.order.len c.detach.new.order c.self.inside.order.items o, written c.self.inside.places.len c.detach.new.places c.self.inside.places.items p, written c.self.inside.slots.len c.vacate-held.new.slots c.self.inside.slots.items s)
-    (remove_sound c.deref_mut.ensures.value c.deref_mut-2.ensures.value c.deref_mut-3.ensures.value c.self.invariant at (omega arith) (place_read c.self.invariant at c.index-place.ensures) d.matched d.heap d.detached c.vacate-held.ensures.rest)
+    (remove_sound c.deref_mut-2.ensures.value c.deref_mut-3.ensures.value c.deref_mut.ensures.value c.self.invariant at (omega arith) (place_read c.self.invariant at c.index-place.ensures) d.matched d.heap d.detached c.vacate-held.ensures.rest)
 
 pub returns-clause-item : goal.returns-clause-item
 returns-clause-item g c =
     let old : listed 0 c.self.inside.slots.items ≡ c.args.self.now.entries = ap (λ (h : Heap g.row.T.Denot). h.entries) c.self.view_is in
     let at = held_at c.args.key c.self.inside.slots.items c.args.self.now.entries old c.requires in
     ap (λ l. option_map (λ (e : Entry g.row.T.Denot). e.item) (entry_of c.args.key l)) (sym old)
-    ∙ item_there c.args.key c.self.inside.slots.items c.vacate-held.result at (ap (λ l. slice_index_or l c.args.key.slot None) (sym c.deref_mut-3.ensures.value) ∙ c.vacate-held.ensures.held)
+    ∙ item_there c.args.key c.self.inside.slots.items c.vacate-held.result at (ap (λ l. slice_index_or l c.args.key.slot None) (sym c.deref_mut.ensures.value) ∙ c.vacate-held.ensures.held)
 
 pub returns-clause-rest : goal.returns-clause-rest
 returns-clause-rest g c =
     let old : listed 0 c.self.inside.slots.items ≡ c.args.self.now.entries = ap (λ (h : Heap g.row.T.Denot). h.entries) c.self.view_is in
     let at = held_at c.args.key c.self.inside.slots.items c.args.self.now.entries old c.requires in
-    let s : length c.vacate-held.new.slots ≡ c.self.inside.slots.len = ap length c.vacate-held.ensures.rest ∙ (length-set _ _ _ ∙ c.deref_mut-3.ensures.len) in
-    rw (written c.self.inside.slots.len c.vacate-held.new.slots c.self.inside.slots.items s, c.vacate-held.ensures.rest, c.deref_mut-3.ensures.value)
+    let s : length c.vacate-held.new.slots ≡ c.self.inside.slots.len = ap length c.vacate-held.ensures.rest ∙ (length-set _ _ _ ∙ c.deref_mut.ensures.len) in
+    rw (written c.self.inside.slots.len c.vacate-held.new.slots c.self.inside.slots.items s, c.vacate-held.ensures.rest, c.deref_mut.ensures.value)
     (rest_of c.args.key c.self.inside.slots.items at ∙ ap (without c.args.key) old)
 
 pub returns-clause-one : goal.returns-clause-one
 returns-clause-one g c =
     let old : listed 0 c.self.inside.slots.items ≡ c.args.self.now.entries = ap (λ (h : Heap g.row.T.Denot). h.entries) c.self.view_is in
     let at = held_at c.args.key c.self.inside.slots.items c.args.self.now.entries old c.requires in
-    let s : length c.vacate-held.new.slots ≡ c.self.inside.slots.len = ap length c.vacate-held.ensures.rest ∙ (length-set _ _ _ ∙ c.deref_mut-3.ensures.len) in
-    rw (written c.self.inside.slots.len c.vacate-held.new.slots c.self.inside.slots.items s, c.vacate-held.ensures.rest, c.deref_mut-3.ensures.value)
-    (goes_out c.args.key c.self.inside.slots.items c.vacate-held.result c.args.self.now.entries (listed 0 (slice_set c.self.inside.slots.items c.args.key.slot None)) at (ap (λ l. slice_index_or l c.args.key.slot None) (sym c.deref_mut-3.ensures.value) ∙ c.vacate-held.ensures.held) old (rest_of c.args.key c.self.inside.slots.items at ∙ ap (without c.args.key) old))
+    let s : length c.vacate-held.new.slots ≡ c.self.inside.slots.len = ap length c.vacate-held.ensures.rest ∙ (length-set _ _ _ ∙ c.deref_mut.ensures.len) in
+    rw (written c.self.inside.slots.len c.vacate-held.new.slots c.self.inside.slots.items s, c.vacate-held.ensures.rest, c.deref_mut.ensures.value)
+    (goes_out c.args.key c.self.inside.slots.items c.vacate-held.result c.args.self.now.entries (listed 0 (slice_set c.self.inside.slots.items c.args.key.slot None)) at (ap (λ l. slice_index_or l c.args.key.slot None) (sym c.deref_mut.ensures.value) ∙ c.vacate-held.ensures.held) old (rest_of c.args.key c.self.inside.slots.items at ∙ ap (without c.args.key) old))
 
 pub returns-clause-dead : goal.returns-clause-dead
 returns-clause-dead g c =
     let old : listed 0 c.self.inside.slots.items ≡ c.args.self.now.entries = ap (λ (h : Heap g.row.T.Denot). h.entries) c.self.view_is in
     let at = held_at c.args.key c.self.inside.slots.items c.args.self.now.entries old c.requires in
-    let s : length c.vacate-held.new.slots ≡ c.self.inside.slots.len = ap length c.vacate-held.ensures.rest ∙ (length-set _ _ _ ∙ c.deref_mut-3.ensures.len) in
-    rw (written c.self.inside.slots.len c.vacate-held.new.slots c.self.inside.slots.items s, c.vacate-held.ensures.rest, c.deref_mut-3.ensures.value)
+    let s : length c.vacate-held.new.slots ≡ c.self.inside.slots.len = ap length c.vacate-held.ensures.rest ∙ (length-set _ _ _ ∙ c.deref_mut.ensures.len) in
+    rw (written c.self.inside.slots.len c.vacate-held.new.slots c.self.inside.slots.items s, c.vacate-held.ensures.rest, c.deref_mut.ensures.value)
     (ap (entry_of c.args.key) (rest_of c.args.key c.self.inside.slots.items at ∙ ap (without c.args.key) old) ∙ is_dead c.args.key c.args.self.now.entries)
 
 pub returns-clause-others : goal.returns-clause-others
 returns-clause-others g c other u =
     let old : listed 0 c.self.inside.slots.items ≡ c.args.self.now.entries = ap (λ (h : Heap g.row.T.Denot). h.entries) c.self.view_is in
     let at = held_at c.args.key c.self.inside.slots.items c.args.self.now.entries old c.requires in
-    let s : length c.vacate-held.new.slots ≡ c.self.inside.slots.len = ap length c.vacate-held.ensures.rest ∙ (length-set _ _ _ ∙ c.deref_mut-3.ensures.len) in
-    rw (written c.self.inside.slots.len c.vacate-held.new.slots c.self.inside.slots.items s, c.vacate-held.ensures.rest, c.deref_mut-3.ensures.value)
+    let s : length c.vacate-held.new.slots ≡ c.self.inside.slots.len = ap length c.vacate-held.ensures.rest ∙ (length-set _ _ _ ∙ c.deref_mut.ensures.len) in
+    rw (written c.self.inside.slots.len c.vacate-held.new.slots c.self.inside.slots.items s, c.vacate-held.ensures.rest, c.deref_mut.ensures.value)
     (ap (entry_of other) (rest_of c.args.key c.self.inside.slots.items at ∙ ap (without c.args.key) old) ∙ others_stay c.args.key c.args.self.now.entries other u)
 
 pub returns-clause-steps : goal.returns-clause-steps

@@ -1,0 +1,99 @@
+-- What an exchange of two nodes keeps of the layout.
+use Rattle.std.proofs.Common.{◌≡◌, ◌≢◌, ℕ, ◌<◌, List, length, length-set, slice_set, sym, ap, ◌∙◌, arith}
+use Rattle.std.proofs.lemmas.List.{get_or-set_same, get_or-set_other}
+use Rattle.due_heap.specs.declared.node.Node.{Node}
+use Rattle.due_heap.specs.Layout.{no_node, node_at, place_of, node_of, Matched}
+use Rattle.due_heap.proofs.Rising.{which}
+
+abbrev pub nodes_set : List Node → ℕ → ℕ → List Node
+nodes_set order i j = slice_set (slice_set order i (node_at order j)) j (node_at order i)
+
+abbrev pub places_set : List Node → List ℕ → ℕ → ℕ → List ℕ
+places_set order places i j = slice_set (slice_set places (node_at order j).slot i) (node_at order i).slot j
+
+module _ (order : List Node) (places : List ℕ) (i j : ℕ) (m : Matched order places) (i_in : i < length order) (j_in : j < length order) where
+  nodes_long : length (nodes_set order i j) ≡ length order
+  nodes_long = length-set (slice_set order i (node_at order j)) j (node_at order i) ∙ length-set order i (node_at order j)
+
+  places_long : length (places_set order places i j) ≡ length places
+  places_long = length-set (slice_set places (node_at order j).slot i) (node_at order i).slot j ∙ length-set places (node_at order j).slot i
+
+  node_j : node_at (nodes_set order i j) j ≡ node_at order i
+  node_j = get_or-set_same (slice_set order i (node_at order j)) j (node_at order i) no_node (omega (arith, length-set order i (node_at order j)))
+
+  node_i : node_at (nodes_set order i j) i ≡ node_at order j
+  node_i = which i j
+      (λ e. ap (node_at (nodes_set order i j)) e ∙ node_j ∙ ap (node_at order) e)
+      (λ u. get_or-set_other (slice_set order i (node_at order j)) j i (node_at order i) no_node u ∙ get_or-set_same order i (node_at order j) no_node i_in)
+
+  node_other : (k : ℕ) → k ≢ i → k ≢ j → node_at (nodes_set order i j) k ≡ node_at order k
+  node_other k u v = get_or-set_other (slice_set order i (node_at order j)) j k (node_at order i) no_node v ∙ get_or-set_other order i k (node_at order j) no_node u
+
+  slot_of_i : (node_at order i).slot < length places
+  slot_of_i = omega (arith, m.slot_in i i_in, m.same_length)
+
+  slot_of_j : (node_at order j).slot < length places
+  slot_of_j = omega (arith, m.slot_in j j_in, m.same_length)
+
+  same_place : (node_at order j).slot ≡ (node_at order i).slot → j ≡ i
+  same_place e = sym (m.back j j_in) ∙ ap (place_of places) e ∙ m.back i i_in
+
+  place_i : place_of (places_set order places i j) (node_at order i).slot ≡ j
+  place_i = get_or-set_same (slice_set places (node_at order j).slot i) (node_at order i).slot j 0 (omega (arith, slot_of_i, length-set places (node_at order j).slot i))
+
+  place_j : place_of (places_set order places i j) (node_at order j).slot ≡ i
+  place_j = which (node_at order j).slot (node_at order i).slot
+      (λ e. ap (place_of (places_set order places i j)) e ∙ place_i ∙ same_place e)
+      (λ u. get_or-set_other (slice_set places (node_at order j).slot i) (node_at order i).slot (node_at order j).slot j 0 u ∙ get_or-set_same places (node_at order j).slot i 0 slot_of_j)
+
+  place_other : (s : ℕ) → s ≢ (node_at order i).slot → s ≢ (node_at order j).slot → place_of (places_set order places i j) s ≡ place_of places s
+  place_other s u v = get_or-set_other (slice_set places (node_at order j).slot i) (node_at order i).slot s j 0 u ∙ get_or-set_other places (node_at order j).slot s i 0 v
+
+  slot_at : (k l : ℕ) → node_at (nodes_set order i j) k ≡ node_at order l → (node_at (nodes_set order i j) k).slot ≡ (node_at order l).slot
+  slot_at k l e = ap (λ (n : Node). n.slot) e
+
+  not_slot : (k l : ℕ) → k < length order → l < length order → k ≢ l → (node_at order k).slot ≢ (node_at order l).slot
+  not_slot k l h g u e = u (sym (m.back k h) ∙ ap (place_of places) e ∙ m.back l g)
+
+  not_place : (s l : ℕ) → s < length order → s ≢ (node_at order l).slot → place_of places s ≢ l
+  not_place s l h u e = u (sym (m.there s h) ∙ ap (λ (k : ℕ). (node_at order k).slot) e)
+
+  same_node : (k l : ℕ) → k ≡ l → node_at (nodes_set order i j) k ≡ node_at (nodes_set order i j) l
+  same_node k l e = ap (node_at (nodes_set order i j)) e
+
+  new_slot_in : (k : ℕ) → k < length order → (node_at (nodes_set order i j) k).slot < length order
+  new_slot_in k h = which k i
+      (λ e. let z = slot_at k j (same_node k i e ∙ node_i) in let y = m.slot_in j j_in in omega arith)
+      (λ u. which k j
+      (λ e. let z = slot_at k i (same_node k j e ∙ node_j) in let y = m.slot_in i i_in in omega arith)
+      (λ v. let z = slot_at k k (node_other k u v) in let y = m.slot_in k h in omega arith))
+
+  new_back : (k : ℕ) → k < length order → place_of (places_set order places i j) (node_at (nodes_set order i j) k).slot ≡ k
+  new_back k h = which k i
+      (λ e. ap (place_of (places_set order places i j)) (slot_at k j (same_node k i e ∙ node_i)) ∙ place_j ∙ sym e)
+      (λ u. which k j
+      (λ e. ap (place_of (places_set order places i j)) (slot_at k i (same_node k j e ∙ node_j)) ∙ place_i ∙ sym e)
+      (λ v. ap (place_of (places_set order places i j)) (slot_at k k (node_other k u v)) ∙ place_other (node_at order k).slot (not_slot k i h i_in u) (not_slot k j h j_in v) ∙ m.back k h))
+
+  new_place_in : (s : ℕ) → s < length order → place_of (places_set order places i j) s < length order
+  new_place_in s h = which s (node_at order i).slot
+      (λ e. let z = ap (place_of (places_set order places i j)) e ∙ place_i in omega arith)
+      (λ u. which s (node_at order j).slot
+      (λ e. let z = ap (place_of (places_set order places i j)) e ∙ place_j in omega arith)
+      (λ v. let z = place_other s u v in let y = m.place_in s h in omega arith))
+
+  new_there : (s : ℕ) → s < length order → (node_of (nodes_set order i j) (places_set order places i j) s).slot ≡ s
+  new_there s h = which s (node_at order i).slot
+      (λ e. slot_at (place_of (places_set order places i j) s) i (same_node (place_of (places_set order places i j) s) j (ap (place_of (places_set order places i j)) e ∙ place_i) ∙ node_j) ∙ sym e)
+      (λ u. which s (node_at order j).slot
+      (λ e. slot_at (place_of (places_set order places i j) s) j (same_node (place_of (places_set order places i j) s) i (ap (place_of (places_set order places i j)) e ∙ place_j) ∙ node_i) ∙ sym e)
+      (λ v. slot_at (place_of (places_set order places i j) s) (place_of places s) (same_node (place_of (places_set order places i j) s) (place_of places s) (place_other s u v) ∙ node_other (place_of places s) (not_place s i h u) (not_place s j h v)) ∙ m.there s h))
+
+  pub matched_exchanged : Matched (nodes_set order i j) (places_set order places i j)
+  matched_exchanged = record {
+    same_length = places_long ∙ m.same_length ∙ sym nodes_long;
+    slot_in = λ k h. let z = new_slot_in k (omega (arith, nodes_long)) in omega (arith, nodes_long);
+    back = λ k h. new_back k (omega (arith, nodes_long));
+    place_in = λ s h. let z = new_place_in s (omega (arith, nodes_long)) in omega (arith, nodes_long);
+    there = λ s h. new_there s (omega (arith, nodes_long));
+  }

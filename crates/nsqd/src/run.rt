@@ -306,3 +306,6 @@ fn refusal(why: Why) -> Ending
         Why::Memory => Ending::Memory,
     }
 }
+
+#[cfg(test)]
+mod tests;

@@ -17,6 +17,7 @@ use std::test::Fail;
 mod cuts;
 mod loopback;
 mod rows;
+mod wanting;
 
 /// A caller: what it speaks, its bytes in two parts, and in pieces of how many each part comes.
 #[derive(Clone, Copy)]

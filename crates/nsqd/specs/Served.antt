@@ -1,7 +1,7 @@
 -- What is said of the callers that a run served.
 use Rattle.std.specs.Prelude.{◌≡◌, ◌⊎◌, ℕ, ◌+◌, ◌-◌, ◌^◌, ◌≤◌, Bool, true, false, IsTrue, List, [], ◌∷◌, ◌++◌, length, map}
 use Rattle.nsq_outside.specs.Causes.{Rose}
-use Rattle.nsq_outside.specs.Hosts.{HostContent}
+use Rattle.nsq_outside.specs.Hosts.{HostContent, HostState}
 use Rattle.nsq_outside.specs.declared.host.Kind.{Kind}
 use Rattle.nsq_outside.specs.declared.host.Kind.TheVariants.{Tcp, Http}
 use Rattle.v2_frame.specs.declared.fault.Limits.{Limits}
@@ -95,6 +95,15 @@ pub record ServedAll {K : Type 0} (seen : Views K) (limits : Limits) (clean fail
   pub why : WhyOver number accept accept' new
   pub where_clean : clean → IsHalted number new
   pub where_failed : failed → new.halted ≡ old.halted
+
+-- the listeners failed last: from some value of the host on their count rose, and nobody was given or handed back meanwhile. So it rose in the start,
+-- before all callers, or behind the last of them. What runs a host of any type can name no value of it but those that the host passed
+pub record ListenersFailedLast {H F C J K : Type 0} (state : H → HostState F C J) (content : H → HostContent K) (old new : H) : Type 0 where
+  pub at : H
+  pub from_entry : (state old).accept_faults ≤ (state at).accept_faults
+  pub rose : Rose (state at).accept_faults (state new).accept_faults
+  pub given : (content new).given ≡ (content at).given
+  pub back : (content new).back ≡ (content at).back
 
 -- nothing but the callers changed: what was asked, printed and told is as it was
 pub record OnlyCallersChange {K : Type 0} (old new : HostContent K) : Type 0 where

@@ -6,7 +6,7 @@ ghost use Rattle.history.specs.Talk.{IsTalkIn, own, bytes_of};
 ghost use Rattle.broker_core.specs.Floors.{Stands};
 ghost use Rattle.broker_core.specs.Turns.{scene};
 ghost use Rattle.session.specs.Sessions.{AreAllowed, HasCause};
-ghost use Rattle.nsqd.specs.Served.{views, AllTell, IsServed, OfCallers, ServedAll, OnlyCallersChange};
+ghost use Rattle.nsqd.specs.Served.{views, AllTell, IsServed, OfCallers, ServedAll, ListenersFailedLast, OnlyCallersChange};
 ghost use Rattle.nsqd.specs.Went.{Went};
 ghost use Rattle.nsqd.specs.declared.callers.LoopEnd.TheVariants.{Halted, Failed};
 
@@ -46,6 +46,7 @@ pub fn serve_callers<R: Wait, H: Host<Entry>>(
     ensures rest { IsTrue H.tells → OnlyCallersChange (H.content host.old) (H.content host.new) }
     ensures state { OnlyAcceptFaults (H.state host.old) (H.state host.new) }
     ensures cause { result ≡ Failed → Rose (H.state host.old).accept_faults (H.state host.new).accept_faults }
+    ensures listeners { IsTrue H.tells → result ≡ Failed → ListenersFailedLast H.state H.content host.old host.new }
 {
     let mut number: u64 = 0;
     'callers: for _ in rt.forever() {

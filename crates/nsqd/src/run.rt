@@ -11,7 +11,7 @@ ghost use Rattle.broker_core.specs.Turns.{scene};
 ghost use Rattle.nsqd.specs.Asked.{HasAsked, HasStarted, PrintsVersion, HasPrinted};
 ghost use Rattle.nsqd.specs.Endings.{status_of, line_of, is_plain, IsAsked, IsCaused, HasEnded, TellsLine, EndsServed, EndsPrinting, says_stopping, AddsStop, ending_of, refusal_of};
 ghost use Rattle.nsqd.specs.Runs.{AllTold, EndsWell, StopsLast, HasWorked, Runs, IsComplete, IsNotEmpty, limits_of};
-ghost use Rattle.nsqd.specs.Served.{views, AllTell, ServedAll, OnlyCallersChange};
+ghost use Rattle.nsqd.specs.Served.{views, AllTell, ServedAll, ListenersFailedLast, OnlyCallersChange};
 ghost use Rattle.nsqd.specs.Sights.{counts_of, sight, Between};
 ghost use Rattle.nsqd.specs.Words.{Words, AskToServe, AskForVersion, IsUnknown};
 
@@ -32,6 +32,9 @@ const VERSION: &[u8] = b"nsqd 1.0.0\n";
 
 /// Does all that the program does: reads the words, the program's name first, and prints its version, or serves until nobody
 /// calls any more and stops. It returns the status, and tells the line that goes with it.
+///
+/// Status 4, the fault of the listeners, comes only where their count rose in the start or behind the last caller: a fault behind
+/// which further callers came is no cause of it.
 pub fn nsqd_run<R: Wait, H: Host<Entry>>(
     rt: &R,
     alloc: Global,
@@ -53,6 +56,7 @@ pub fn nsqd_run<R: Wait, H: Host<Entry>>(
     ensures run { AllTold H.tells H.Conn.tells_pieces H.Conn.tells_written H.Journal.tells_notes H.Folder.tells_files H.Clock.tells_readings
         → Between (H.state host.old).kit (H.state host.new).kit (λ before after. Runs (views H.Conn.pieces H.Conn.left H.Conn.ended H.Conn.written H.Conn.read_faults H.Conn.write_faults) words.now default_options result before after
         (sight H.Journal.notes H.Folder.files H.Clock.coming H.Folder.folder_faults before (H.state host.old) (H.content host.old)) (sight H.Journal.notes H.Folder.files H.Clock.coming H.Folder.folder_faults after (H.state host.new) (H.content host.new))) }
+    ensures listeners { IsTrue H.tells → result ≡ 4 → ListenersFailedLast H.state H.content host.old host.new }
 {
     let ending = obey(rt, alloc, words, host);
     close(rt, host, ending)
@@ -71,6 +75,7 @@ fn obey<R: Wait, H: Host<Entry>>(rt: &R, alloc: Global, words: &[String], host: 
     ensures run { AllTold H.tells H.Conn.tells_pieces H.Conn.tells_written H.Journal.tells_notes H.Folder.tells_files H.Clock.tells_readings
         → Between (H.state host.old).kit (H.state host.new).kit (λ before after. Runs (views H.Conn.pieces H.Conn.left H.Conn.ended H.Conn.written H.Conn.read_faults H.Conn.write_faults) words.now default_options (status_of result) before after
         (sight H.Journal.notes H.Folder.files H.Clock.coming H.Folder.folder_faults before (H.state host.old) (H.content host.old)) (sight H.Journal.notes H.Folder.files H.Clock.coming H.Folder.folder_faults after (H.state host.new) (H.content host.new))) }
+    ensures listeners { IsTrue H.tells → status_of result ≡ 4 → ListenersFailedLast H.state H.content host.old host.new }
 {
     match request_of(words) {
         Request::Version => print_version(rt, host),
@@ -124,6 +129,7 @@ fn serve_by_default<R: Wait, H: Host<Entry>>(rt: &R, alloc: Global, host: &mut H
     ensures run { AllTold H.tells H.Conn.tells_pieces H.Conn.tells_written H.Journal.tells_notes H.Folder.tells_files H.Clock.tells_readings
         → (words : Words) → AskToServe words → Between (H.state host.old).kit (H.state host.new).kit (λ before after. Runs (views H.Conn.pieces H.Conn.left H.Conn.ended H.Conn.written H.Conn.read_faults H.Conn.write_faults) words default_options (status_of result) before after
         (sight H.Journal.notes H.Folder.files H.Clock.coming H.Folder.folder_faults before (H.state host.old) (H.content host.old)) (sight H.Journal.notes H.Folder.files H.Clock.coming H.Folder.folder_faults after (H.state host.new) (H.content host.new))) }
+    ensures listeners { IsTrue H.tells → status_of result ≡ 4 → ListenersFailedLast H.state H.content host.old host.new }
 {
     match Options::defaults(alloc) {
         Ok(options) => serve(rt, alloc, &options, host),
@@ -148,6 +154,7 @@ pub fn serve<R: Wait, H: Host<Entry>>(
     ensures run { AllTold H.tells H.Conn.tells_pieces H.Conn.tells_written H.Journal.tells_notes H.Folder.tells_files H.Clock.tells_readings
         → (words : Words) → AskToServe words → Between (H.state host.old).kit (H.state host.new).kit (λ before after. Runs (views H.Conn.pieces H.Conn.left H.Conn.ended H.Conn.written H.Conn.read_faults H.Conn.write_faults) words options.now (status_of result) before after
         (sight H.Journal.notes H.Folder.files H.Clock.coming H.Folder.folder_faults before (H.state host.old) (H.content host.old)) (sight H.Journal.notes H.Folder.files H.Clock.coming H.Folder.folder_faults after (H.state host.new) (H.content host.new))) }
+    ensures listeners { IsTrue H.tells → status_of result ≡ 4 → ListenersFailedLast H.state H.content host.old host.new }
 {
     match start(rt, options, host) {
         Did::Failed => Ending::AcceptFailed,
@@ -202,6 +209,7 @@ fn work<R: Wait, H: Host<Entry>>(
     ensures rest { IsTrue H.tells → OnlyCallersChange (H.content host.old) (H.content host.new) }
     ensures state { OnlyAcceptFaults (H.state host.old) (H.state host.new) }
     ensures cause { IsCaused result.0 H.Folder.tells_files (H.Folder.files kit.folder) (counts_of H.Folder.folder_faults kit.folder (H.state host.old)) (counts_of H.Folder.folder_faults result.1.folder (H.state host.new)) }
+    ensures listeners { IsTrue H.tells → status_of result.0 ≡ 4 → ListenersFailedLast H.state H.content host.old host.new }
 {
     match open(alloc, kit, options) {
         Ok(floor) => run(rt, alloc, options, host, floor),
@@ -232,6 +240,7 @@ fn run<R: Wait, H: Host<Entry>>(
     ensures state { OnlyAcceptFaults (H.state host.old) (H.state host.new) }
     ensures faults { H.Folder.folder_faults floor.folder ≤ H.Folder.folder_faults result.1.folder }
     ensures cause { EndsServed result.0 (counts_of H.Folder.folder_faults floor.folder (H.state host.old)) (counts_of H.Folder.folder_faults result.1.folder (H.state host.new)) }
+    ensures listeners { IsTrue H.tells → status_of result.0 ≡ 4 → ListenersFailedLast H.state H.content host.old host.new }
 {
     let mut floor = floor;
     let limits = Limits {

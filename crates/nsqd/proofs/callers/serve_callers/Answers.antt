@@ -79,3 +79,14 @@ returns-in-Failed-clause-served g c = λ told.
       where_clean = λ is. absurd (failed_not_halted is);
       where_failed = λ is. ap (λ (x : HostContent _). x.halted) same ∙ c.callers.invariant.halted told.0;
     }
+
+pub returns-in-Failed-clause-listeners : goal.returns-in-Failed-clause-listeners
+returns-in-Failed-clause-listeners g c = λ told is.
+    let same = c.in-Failed.ensures.content told in
+    record {
+      at = c.callers.host;
+      from_entry = c.callers.invariant.state.0;
+      rose = c.in-Failed.ensures.cause;
+      given = ap (λ (x : HostContent _). x.given) same;
+      back = ap (λ (x : HostContent _). x.back) same;
+    }

@@ -1,5 +1,8 @@
+use Rattle.std.proofs.Common.{◌∙◌, ap, sym, arith}
+use Rattle.nsq_outside.specs.Hosts.{HostState}
 use Rattle.nsqd.proofs.Asking.{tells_keeps, printed_told}
 use Rattle.nsqd.proofs.Closing.{close_ended, close_complete, close_not_empty, close_runs, started_closed, unknown_closed, version_closed}
+use Rattle.nsqd.proofs.Failing.{failed_wider}
 use Rattle.nsqd.proofs.run.nsqd_run.Goals as goal
 
 pub returns-clause-unknown : goal.returns-clause-unknown
@@ -37,3 +40,10 @@ returns-clause-run g c = λ told.
     close_runs g.H.Journal.Journal.notes g.H.Folder.Folder.files g.H.Clock.Clock.coming g.H.Folder.Folder.folder_faults _ c.args.words.now _ c.obey-ending.result c.close.result (g.H.Host.state c.args.host.now) (g.H.Host.state c.obey-ending.new.host) (g.H.Host.state c.close.new.host)
     (g.H.Host.content c.args.host.now) (g.H.Host.content c.obey-ending.new.host) (g.H.Host.content c.close.new.host) c.close.ensures.status c.close.ensures.state
     (tells_keeps _ (g.H.Host.content c.obey-ending.new.host) (g.H.Host.content c.close.new.host) _ _ (c.close.ensures.content told.host)) (c.obey-ending.ensures.run told)
+
+pub returns-clause-listeners : goal.returns-clause-listeners
+returns-clause-listeners g c = λ told is.
+    let keeps = tells_keeps _ (g.H.Host.content c.obey-ending.new.host) (g.H.Host.content c.close.new.host) _ _ (c.close.ensures.content told) in
+    let accept = ap (λ (x : HostState _ _ _). x.accept_faults) c.close.ensures.state.1 in
+    failed_wider g.H.Host.state g.H.Host.content c.args.host.now c.args.host.now c.obey-ending.new.host c.close.new.host (omega arith) (c.obey-ending.ensures.listeners told (sym c.close.ensures.status ∙ is)) (omega (arith, accept))
+    keeps.callers.given keeps.callers.back

@@ -1,10 +1,11 @@
-use Rattle.std.proofs.Common.{inl, inr, refl, ap}
+use Rattle.std.proofs.Common.{inl, inr, refl, ap, arith}
 use Rattle.nsq_outside.specs.Hosts.{HostContent, HostState}
 use Rattle.nsqd.specs.declared.ending.Ending.TheVariants.{BadOptions}
 use Rattle.nsqd.proofs.Asking.{asked_started, not_started, version_printed, nothing_printed}
 use Rattle.nsqd.proofs.Causes.{printing_caused, printing_asked, printing_status, plain_asked, not_both}
 use Rattle.nsqd.proofs.Closing.{home_runs, home_caused}
 use Rattle.nsqd.proofs.Running.{same_callers, printed_callers}
+use Rattle.nsqd.proofs.Failing.{printing_unfailed}
 use Rattle.nsqd.proofs.run.obey.Goals as goal
 
 pub returns-in-Version-clause-asked : goal.returns-in-Version-clause-asked
@@ -64,3 +65,9 @@ returns-in-Unknown-clause-cause g c = home_caused g.H.Folder.Folder.files g.H.Fo
 pub returns-in-Unknown-clause-run : goal.returns-in-Unknown-clause-run
 returns-in-Unknown-clause-run g c = λ told.
     home_runs g.H.Journal.Journal.notes g.H.Folder.Folder.files g.H.Clock.Clock.coming g.H.Folder.Folder.folder_faults _ c.args.words.now _ _ (g.H.Host.state c.args.host.now) (g.H.Host.state c.args.host.now) (g.H.Host.content c.args.host.now) (g.H.Host.content c.args.host.now) refl (same_callers _ _ refl) (λ serves. absurd ((c.request_of.ensures.unknown.0 c.in-Unknown.is).0 serves)) (λ d. inr (inl refl))
+
+pub returns-in-Version-clause-listeners : goal.returns-in-Version-clause-listeners
+returns-in-Version-clause-listeners g c = λ told is. absurd (printing_unfailed c.print_version.result _ _ c.print_version.ensures.ends is)
+
+pub returns-in-Unknown-clause-listeners : goal.returns-in-Unknown-clause-listeners
+returns-in-Unknown-clause-listeners g c = λ told is. absurd (omega (arith, is))

@@ -60,3 +60,7 @@ returns-clause-stop g c = λ told.
     subst (λ x. StopsLast (status_of c.ending_after.result) x) (sym (ap g.H.Journal.Journal.notes c.shut-shutting.ensures.journal))
     (stops_last c.serve_callers-looped.result c.stop-stopped.result c.shut-shutting.result.0 c.ending_after.result (g.H.Journal.Journal.notes c.serve_callers-looped.new.floor.journal) (g.H.Journal.Journal.notes c.stop-stopped.new.floor.journal)
     led.added c.ending_after.ensures (c.serve_callers-looped.ensures.callers told) led.whole led.of (c.stop-stopped.ensures.adds told.3) (λ is. c.stop-stopped.ensures.noted is told.3))
+
+pub returns-clause-listeners : goal.returns-clause-listeners
+returns-clause-listeners g c = λ told is.
+    c.serve_callers-looped.ensures.listeners told (fault_failed c.serve_callers-looped.result c.stop-stopped.result c.shut-shutting.result.0 c.ending_after.result c.ending_after.ensures is)

@@ -1,9 +1,10 @@
 use Rattle.std.proofs.Common.{inl, refl, ap, ◌∙◌, arith}
-use Rattle.nsq_outside.specs.Hosts.{HostState}
+use Rattle.nsq_outside.specs.Hosts.{HostContent, HostState}
 use Rattle.nsqd.specs.declared.ending.Ending.TheVariants.{AcceptFailed}
 use Rattle.nsqd.proofs.Asking.{starts_keep, failed_asked, done_keep, done_starts, done_asked}
 use Rattle.nsqd.proofs.Closing.{home_runs, home_caused}
 use Rattle.nsqd.proofs.Running.{lent_caused, lent_runs}
+use Rattle.nsqd.proofs.Failing.{failed_wider}
 use Rattle.nsqd.proofs.run.serve.Goals as goal
 
 pub returns-in-Failed-clause-asked : goal.returns-in-Failed-clause-asked
@@ -45,3 +46,16 @@ returns-in-Done-clause-run g c = λ told words asks.
     (done_keep c.args.options.now (g.H.Host.content c.args.host.now) (g.H.Host.content c.start.new.host) (c.in-Done.ensures.content told.host)) c.lend-kit.ensures.content c.restore.ensures.content (c.work-ending.ensures.worked told) asks
     (done_starts c.args.options.now (g.H.Host.content c.args.host.now) (g.H.Host.content c.start.new.host) (g.H.Host.content c.lend-kit.new.self) (g.H.Host.content c.work-ending.new.host) (g.H.Host.content c.restore.new.self)
     (c.in-Done.ensures.content told.host) c.lend-kit.ensures.content (c.work-ending.ensures.rest told.host) c.restore.ensures.content)
+
+pub returns-in-Failed-clause-listeners : goal.returns-in-Failed-clause-listeners
+returns-in-Failed-clause-listeners g c = λ told is.
+    let keeps = starts_keep c.args.options.now (g.H.Host.content c.args.host.now) (g.H.Host.content c.start.new.host) (c.in-Failed.ensures.content told) in
+    record { at = c.args.host.now; from_entry = omega arith; rose = c.in-Failed.ensures.cause; given = keeps.given; back = keeps.back }
+
+pub returns-in-Done-clause-listeners : goal.returns-in-Done-clause-listeners
+returns-in-Done-clause-listeners g c = λ told is.
+    let started = c.start.ensures.state.0 in
+    let lent = ap (λ (x : HostState _ _ _). x.accept_faults) c.lend-kit.ensures.state in
+    let restored = ap (λ (x : HostState _ _ _). x.accept_faults) c.restore.ensures.state in
+    failed_wider g.H.Host.state g.H.Host.content c.args.host.now c.lend-kit.new.self c.work-ending.new.host c.restore.new.self (omega (arith, started, lent)) (c.work-ending.ensures.listeners told is) (omega (arith, restored))
+    (ap (λ (x : HostContent _). x.given) c.restore.ensures.content) (ap (λ (x : HostContent _). x.back) c.restore.ensures.content)

@@ -19,3 +19,6 @@ pub returns-in-Ok-clause-run : goal.returns-in-Ok-clause-run
 returns-in-Ok-clause-run g c = λ told words asks.
     options_runs g.H.Journal.Journal.notes g.H.Folder.Folder.files g.H.Clock.Clock.coming g.H.Folder.Folder.folder_faults _ words _ _ _ (g.H.Host.state c.args.host.now) (g.H.Host.state c.serve.new.host) (g.H.Host.content c.args.host.now) (g.H.Host.content c.serve.new.host)
     c.in-Ok.ensures.value (c.serve.ensures.run told words asks)
+
+pub returns-in-Err-clause-listeners : goal.returns-in-Err-clause-listeners
+returns-in-Err-clause-listeners g c = λ told is. absurd (omega (arith, is))

@@ -5,6 +5,7 @@ use Rattle.nsqd.specs.Endings.{status_of, is_plain, IsCaused}
 use Rattle.nsqd.specs.Sights.{counts_of, sight}
 use Rattle.nsqd.proofs.Causes.{served_plain, served_caused, refused_plain, refused_caused, refused_files, refused_status}
 use Rattle.nsqd.proofs.Running.{has_run, same_callers}
+use Rattle.nsqd.proofs.Failing.{refused_unfailed}
 use Rattle.nsqd.proofs.run.work.Goals as goal
 
 pub returns-in-Ok-clause-plain : goal.returns-in-Ok-clause-plain
@@ -49,3 +50,6 @@ returns-in-Err-clause-cause g c =
     let files = g.H.Folder.Folder.files c.args.kit.folder in
     subst (λ x. IsCaused x g.H.Folder.Folder.tells_files files before after) (sym c.refusal.ensures)
     (refused_caused c.in-Err.refused.why g.H.Folder.Folder.tells_files files (g.H.Folder.Folder.files c.in-Err.refused.kit.folder) before after c.in-Err.ensures.why)
+
+pub returns-in-Err-clause-listeners : goal.returns-in-Err-clause-listeners
+returns-in-Err-clause-listeners g c = λ told is. absurd (refused_unfailed c.in-Err.refused.why c.refusal.result c.refusal.ensures is)

@@ -1,0 +1,4 @@
+pub mod Putting
+pub mod Drawing
+pub mod Saving
+pub mod Opening

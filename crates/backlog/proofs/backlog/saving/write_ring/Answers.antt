@@ -1,0 +1,69 @@
+use Rattle.std.proofs.Common.{◌≡◌, length, take, sym, ap, refl, arith}
+use Rattle.disk_queue.specs.declared.standing.QueueOptions.{QueueOptions}
+use Rattle.backlog.specs.Seen.{FitsLimit}
+use Rattle.backlog.proofs.Drawing.{ring_empty}
+use Rattle.backlog.proofs.Saving.{moving_more, moving_refused, not_stored, put_rose, moved, first_left, short_left, record_long, left_over}
+use Rattle.backlog.proofs.backlog.saving.write_ring.Goals as goal
+
+pub returns-in-Fault : goal.returns-in-Fault
+returns-in-Fault g c =
+    let files = g.F.Folder.files in
+    let count = g.F.Folder.folder_faults in
+    let tells = g.F.Folder.tells_files in
+    let items = c.args.ring.now.items in
+    let n = c.loop.counter in
+    let m = c.in-Some.message.now in
+    let before = c.loop.invariant.moving in
+    let bytes = take c.write_record-size.result c.write_record-size.new.scratch in
+    let long = record_long c.write_record-size.new.scratch c.write_record-size.result m c.write_record-size.ensures.size c.write_record-size.ensures.within in
+    let short : FitsLimit m = short_left items n m c.requires.short (first_left items c.args.ring.now.capacity c.loop.ring n m before.left (sym c.in-Some.ensures)) in
+    let limit : c.loop.queue.options.limit ≡ c.args.queue.now.options.limit = ap (λ (o : QueueOptions). o.limit) before.longer.same.options in
+    let refused = not_stored c.put.result c.in-Fault.is in
+    let after = moved tells items c.args.ring.now.capacity c.loop.ring c.args.queue.now c.put.new.self (files c.args.folder.now) (files c.put.new.folder) n
+    (moving_refused tells items c.args.ring.now.capacity c.loop.ring c.args.queue.now c.loop.queue c.put.new.self (files c.args.folder.now) (files c.loop.folder) (files c.put.new.folder) n (length bytes) bytes
+    c.put.result before refused c.put.ensures.seen c.put.ensures.list c.put.ensures.stands c.put.ensures.others) in
+    record {
+      within = omega (arith, after.within, c.loop.invariant.moving.within, left_over items c.args.ring.now.capacity c.loop.ring n before.left);
+      ring = after.left;
+      all = tt;
+      queue = after.longer;
+      none_now = c.put.ensures.none_now;
+      list = after.list;
+      stands = after.stands;
+      others = after.others;
+      faults = omega (arith, c.loop.invariant.faults, c.put.ensures.faults);
+      cause = put_rose (count c.args.folder.now) (count c.loop.folder) (count c.put.new.folder) c.loop.queue.options.limit (length bytes) c.put.result c.loop.invariant.faults
+          (omega (arith, c.requires.options.limit, limit, short, long)) c.put.ensures.too_long c.put.ensures.cause refused;
+    }
+
+pub loop-preserved : goal.loop-preserved
+loop-preserved g c =
+    let files = g.F.Folder.files in
+    let tells = g.F.Folder.tells_files in
+    let items = c.args.ring.now.items in
+    let n = c.loop.counter in
+    let m = c.in-Some.message.now in
+    let bytes = take c.write_record-size.result c.write_record-size.new.scratch in
+    record {
+      moving = moving_more tells items c.args.ring.now.capacity c.loop.ring c.pop_front-written.new.self c.args.queue.now c.loop.queue c.put.new.self (files c.args.folder.now) (files c.loop.folder) (files c.put.new.folder)
+          n (length bytes) m bytes c.in-Stored.field-0 c.loop.invariant.moving (sym c.in-Some.ensures) c.pop_front-written.ensures.items c.write_record-size.ensures.fits c.write_record-size.ensures.bytes c.in-Stored.ensures.seen
+          c.in-Stored.ensures.none_now c.in-Stored.ensures.list c.in-Stored.ensures.stands c.in-Stored.ensures.others;
+      end = c.loop.invariant.end;
+      scratch = omega (arith, c.write_record-size.ensures.same, c.loop.invariant.scratch);
+      faults = omega (arith, c.loop.invariant.faults, c.put.ensures.faults);
+    }
+
+pub returns-after-loop-clause-list : goal.returns-after-loop-clause-list
+returns-after-loop-clause-list g c =
+    let files = g.F.Folder.files in
+    let before = moved g.F.Folder.tells_files c.args.ring.now.items c.args.ring.now.capacity c.loop.ring c.args.queue.now c.loop.queue (files c.args.folder.now) (files c.loop.folder) c.loop.counter c.loop.invariant.moving in
+    before.list
+
+pub returns-in_default-clause-all : goal.returns-in_default-clause-all
+returns-in_default-clause-all g c = ring_empty c.loop.ring.items _ c.in_default.ensures refl
+
+pub returns-in_default-clause-list : goal.returns-in_default-clause-list
+returns-in_default-clause-list g c =
+    let files = g.F.Folder.files in
+    let before = moved g.F.Folder.tells_files c.args.ring.now.items c.args.ring.now.capacity c.loop.ring c.args.queue.now c.loop.queue (files c.args.folder.now) (files c.loop.folder) c.loop.counter c.loop.invariant.moving in
+    before.list

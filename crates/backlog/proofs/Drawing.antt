@@ -31,12 +31,12 @@ pub same_disk : (q r : Queue) (old new : Files) (disk : List Message) → ((bodi
     → HoldsAll q old disk → HoldsAll r new disk
 same_disk q r old new disk step h = record { list = step (map message_bytes disk) [] h.list; stored = h.stored }
 
--- no file changed
+-- where no file changed, none but the queue's own did
 pub unchanged : (queue : Option Queue) (files : Files) → DiskChanges queue files files
 unchanged None files = λ file. refl
 unchanged (Some q) files = λ file h. refl
 
--- and there is no message on disk where there is no queue
+-- without a queue no message is on disk, so settling leaves none
 pub none_settled : (lent : Lent) (queue : Option Queue) (files : Files) (disk : List Message) → queue ≡ None → OnDisk queue files disk → OnDisk queue files (disk_settled lent disk)
 none_settled Nothing queue files disk none h = h
 none_settled OfRing queue files disk none h = h

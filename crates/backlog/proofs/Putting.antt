@@ -10,7 +10,7 @@ use Rattle.nsq_outside.specs.Files.{Files}
 use Rattle.v2_frame.specs.declared.message.Message.{Message}
 use Rattle.v2_frame.specs.Messages.{FitsItsBytes}
 use Rattle.v2_frame.specs.Written.{message_bytes}
-use Rattle.disk_queue.specs.Seen.{Seen as Queue, after_stage, after_save, committed, forgotten, begun_after, IsEarly}
+use Rattle.disk_queue.specs.Seen.{Seen as Queue, after_stage, forgotten, begun_after}
 use Rattle.disk_queue.specs.Holding.{Holds, SaveStands, OwnChange}
 use Rattle.disk_queue.specs.Answers.{bodies_after, StageFails, StageTooLong}
 use Rattle.disk_queue.specs.declared.answers.Stage.{Stage}

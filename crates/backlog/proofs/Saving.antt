@@ -1,7 +1,7 @@
 -- Moving the ring's messages to the queue, and saving.
 use Rattle.std.proofs.Common.{ℕ, ◌≡◌, ◌≢◌, ◌+◌, ◌-◌, ◌≤◌, ◌<◌, ◌⊎◌, inl, inr, List, [], ◌∷◌, ◌++◌, length, take, drop, map, Bool, true, false, IsTrue, Some, refl, sym, ap, subst, ◌∙◌, arith, append_assoc, get_or, if◌then◌else◌}
 use Rattle.std.specs.List.{slice_get, All}
-use Rattle.std.proofs.lemmas.List.{map-append, drop-drop, length-drop, take_more, get_or-drop, append-nil, length-take-le, take_all}
+use Rattle.std.proofs.lemmas.List.{map-append, drop-drop, length-drop, take_more, get_or-drop, length-take-le, take_all}
 use Rattle.std.proofs.lemmas.List.Elements.{All-append, All-cons, All-nil, All-head, All-drop}
 use Rattle.std.proofs.lemmas.Option.{slice_get_within, get_or_from_slice_get}
 use Rattle.circular_buffer.specs.Buffer.{Buffer, buffer}
@@ -38,25 +38,11 @@ pub record Moving (tells : Bool) (items : List Message) (capacity : ℕ) (ring :
   pub stands : IsTrue tells → SaveStands q old → SaveStands r new
   pub others : IsTrue tells → OwnChange q.name old new
 
-none_behind : (q : Queue) (files : Files) (disk : List Message) → HoldsAll q files disk → HoldsAll q files (disk ++ [])
-none_behind q files disk h = subst (λ (x : List Message). HoldsAll q files x) (sym (append-nil disk)) h
-
-pub moving_none : (tells : Bool) (ring : Buffer Message) (q : Queue) (files : Files) → q.staged.count ≡ 0 → Moving tells ring.items ring.capacity ring q q files files 0
-moving_none tells ring q files none = record {
-  within = omega arith;
-  left = refl;
-  longer = record { same = record { name = refl; options = refl }; depth = omega arith; read_file = refl; read_at = refl };
-  none = none;
-  list = λ told disk h. none_behind q files disk h;
-  stands = λ told s. s;
-  others = λ told file other. refl;
-}
-
 -- the first of what is left in the ring
 pub first_left : (items : List Message) (capacity : ℕ) (ring : Buffer Message) (n : ℕ) (m : Message) → ring ≡ buffer (drop n items) capacity → slice_get ring.items 0 ≡ Some m → slice_get (drop n items) 0 ≡ Some m
 first_left items capacity ring n m left is = subst (λ (b : Buffer Message). slice_get b.items 0 ≡ Some m) left is
 
--- it comes next
+-- one more of the list's front ends with it
 next_taken : (items : List Message) (n : ℕ) (m : Message) → slice_get (drop n items) 0 ≡ Some m → take (n + 1) items ≡ take n items ++ m ∷ []
 next_taken items n m is =
     let inside : n < length items = omega (arith, slice_get_within (drop n items) 0 m is, length-drop n items) in

@@ -1,6 +1,5 @@
 -- The list of a backlog: the messages of its ring, and then those on disk.
-use Rattle.std.specs.Prelude.{ℕ, ◌≡◌, ◌≢◌, ◌+◌, ◌-◌, ◌≤◌, ◌⊎◌, List, [], ◌∷◌, ◌++◌, All, length, take, drop, map, Option, Some, None, IfSome}
-use Rattle.nsq_outside.specs.Causes.{Rose}
+use Rattle.std.specs.Prelude.{ℕ, ◌≡◌, ◌≢◌, ◌+◌, ◌-◌, List, [], ◌∷◌, ◌++◌, All, length, take, drop, map, Option, Some, None, IfSome}
 use Rattle.nsq_outside.specs.Files.{Files, SameFiles}
 use Rattle.nsq_outside.specs.declared.did.Did.{Did}
 use Rattle.nsq_outside.specs.declared.did.Did.TheVariants as did

@@ -1,7 +1,6 @@
 -- What is seen of a backlog, and what its calls change of it.
 use Rattle.std.specs.Prelude.{ℕ, ◌≡◌, ◌≢◌, ◌+◌, ◌-◌, ◌≤◌, ◌<◌, ◌⊎◌, List, [], ◌∷◌, ◌++◌, length, take, drop, map, Bool, if◌then◌else◌, Option, Some, None, IsSome, IsTrue, option_map}
 use Rattle.v2_frame.specs.declared.message.Message.{Message}
-use Rattle.queue_image.specs.declared.positions.Positions.{Positions}
 use Rattle.nsq_outside.specs.declared.did.Did.{Did}
 use Rattle.nsq_outside.specs.declared.did.Did.TheVariants as did
 use Rattle.disk_queue.specs.Seen.{Seen as Queue, fresh_queue, opened_queue, unmarked, forgotten, committed, advanced, after_stage, after_save, one_more, IsEarly, IsUnchanged}

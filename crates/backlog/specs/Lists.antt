@@ -86,8 +86,8 @@ abbrev pub disk_after_all : Seen → List Message → List Message → PutAll �
 disk_after_all b disk messages AllDone = disk ++ spilled b.queue (drop (room b) messages)
 disk_after_all b disk messages AllFault = disk
 
--- what a drawing gives, of the list that these messages on disk make: the first, which stays the first until it is settled; Empty exactly
--- where there is none; want of memory only where there is one; no file is damaged
+-- what a drawing gives, of the list that these messages on disk make: the first, which stays the first until it is settled; Empty only where
+-- there is none; want of memory only where there is one; no file is damaged
 abbrev pub DrawGives : Seen → Seen → List Message → Drawn → Type 0
 DrawGives old new disk (drawn.Got message) = IsFirstMessage (old.ring ++ disk) message × (list_with new message disk ≡ old.ring ++ disk)
 DrawGives old new disk drawn.Empty = old.ring ++ disk ≡ []

@@ -265,7 +265,7 @@ abbrev pub QueueIsSaved : Option Queue → Type 0
 QueueIsSaved None = Unit {0}
 QueueIsSaved (Some q) = IsUnchanged q
 
--- a save of the queue was tried last: nothing changed since one, or it failed
+-- nothing changed in the queue since its last save, or one failed since
 abbrev pub QueueIsTried : Option Queue → Type 0
 QueueIsTried None = Unit {0}
 QueueIsTried (Some q) = IsUnchanged q ⊎ IsTrue q.saved.failed
@@ -275,7 +275,7 @@ abbrev pub WritesAll : List Message → Did → Type 0
 WritesAll ring did.Done = ring ≡ []
 WritesAll ring did.Failed = Unit {0}
 
--- all of the ring is on disk and saved; or some of it, and saving was tried
+-- all of the ring is on disk and saved; or some of it, and nothing is unsaved unless a save failed
 abbrev pub FlushSeen : Seen → Seen → Flushed → Type 0
 FlushSeen old new FlushDone = FlushMoves old new (length old.ring) × QueueIsSaved new.queue
 FlushSeen old new FlushFault = FlushMoves old new (length old.ring - length new.ring) × QueueIsTried new.queue

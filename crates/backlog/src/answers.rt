@@ -17,7 +17,8 @@ pub enum PutOne {
 /// The answer of `Backlog::put_all`.
 #[derive(Clone, Copy, Debug, PartialEq, Eq)]
 pub enum PutAll {
-    /// All are taken.
+    /// None is left with the caller: the ring has the first, as far as it has room; the others are on disk or, where there is no disk,
+    /// dropped.
     Done,
     /// The folder failed, and its count of faults rose in this call. None is taken.
     Fault,
@@ -34,7 +35,7 @@ pub enum Drawn {
     Fault,
     /// Where the first message on disk should be no record stands. The file is passed over.
     Damaged,
-    /// Want of memory for the first message, which is on disk.
+    /// Want of memory for the first message, which is on disk and stays there.
     Memory,
 }
 
@@ -50,7 +51,7 @@ pub enum Flushed {
 /// The answer of `Backlog::delete`.
 #[derive(Drop)]
 pub enum Gone {
-    /// Its messages are gone, and an opening finds none.
+    /// Its messages are gone, and an opening finds none. Files may be left where a removal failed.
     Done,
     /// The folder failed, and its count of faults rose in this call. The backlog, with its messages.
     Fault(Backlog),

@@ -59,7 +59,8 @@ impl Model for Backlog {
 
 impl Backlog {
     /// An empty backlog, whose ring holds so many messages; a durable one with a queue of that name, which begins at file 0, whatever the
-    /// folder has. Requires options for records that are messages: of 26 bytes and a body of at most 16,777,216. Want of memory is the only error.
+    /// folder has. What the last save left stands where the folder has no metadata of that name, or that of an empty list. Requires options
+    /// for records that are messages: of 26 bytes and a body of at most 16,777,216. Want of memory is the only error.
     pub fn fresh(
         alloc: Global,
         name: &str,

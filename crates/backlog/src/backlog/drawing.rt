@@ -15,8 +15,8 @@ use v2_frame::{Message, Taken};
 /// Drawing.
 impl Backlog {
     /// Gives the first message: that of the ring itself, or one that is read from disk by way of `scratch`, which has no delay and takes
-    /// memory. It stays the first of the list until `settle` takes it or `undo` puts it back, one of which is the next call. Requires
-    /// that nothing is drawn before.
+    /// memory. It stays the first of the list until `settle` takes it or `undo` puts it back; no call but `depths` may come before. Requires
+    /// that nothing is drawn, and 16,777,242 bytes of `scratch`.
     pub fn draw<F: Folder>(&mut self, folder: &mut F, scratch: &mut [u8]) -> Drawn
         requires nothing { self.old.lent ≡ Nothing }
         requires scratch { 16777242 ≤ length scratch.old }
@@ -56,7 +56,8 @@ impl Backlog {
         }
     }
 
-    /// The message that was drawn goes. Where it was on disk, a save is made as in `Queue::commit`; one that fails is counted and stays due.
+    /// The message that was drawn goes. Where it was on disk, a save is made as in `Queue::commit`; one that fails has no answer and stays
+    /// due. Requires that a message is drawn.
     pub fn settle<F: Folder>(&mut self, folder: &mut F)
         requires { self.old.lent ≢ Nothing }
         ensures nothing_now { self.new.lent ≡ Nothing }
@@ -77,7 +78,8 @@ impl Backlog {
         self.lent = Lent::Nothing;
     }
 
-    /// The message that was drawn stays, as the first. Requires the one that `draw` gave.
+    /// Puts the drawn message back. Where it left the ring, `message` is its first; where it is on disk, that stays the first and `message`
+    /// is dropped. It should be the one that `draw` gave; required are only that one is drawn, and a body of at most 16,777,216 bytes.
     pub fn undo(&mut self, message: Message)
         requires drawn { self.old.lent ≢ Nothing }
         requires short { FitsLimit message }

@@ -20,7 +20,8 @@ use v2_frame::Message;
 /// Putting.
 impl Backlog {
     /// Puts a message in: at the ring's end, where it isn't full; else on disk, where the message loses its delay. Where there is no
-    /// disk it is dropped. It is written by way of `scratch`. Requires that nothing is drawn, and a body of at most 16,777,216 bytes.
+    /// disk it is dropped. It is written by way of `scratch`. Requires that nothing is drawn, a body of at most 16,777,216 bytes, and
+    /// 16,777,242 bytes of `scratch`.
     pub fn put<F: Folder>(&mut self, folder: &mut F, scratch: &mut [u8], message: Message) -> PutOne
         requires nothing { self.old.lent ≡ Nothing }
         requires short { FitsLimit message }
@@ -49,8 +50,9 @@ impl Backlog {
         }
     }
 
-    /// Puts all these messages in, in their order, as `put` does, or none: after Done `messages` is empty. They are written by way of
-    /// `scratch`. Requires that nothing is drawn, and bodies of at most 16,777,216 bytes.
+    /// Puts all these messages in, in their order, as `put` does, or none: the ring takes the first, as far as it has room, and the others
+    /// go to disk, or are dropped where there is none. After Done `messages` is empty, after Fault as it was. They are written by way of
+    /// `scratch`. Requires that nothing is drawn, bodies of at most 16,777,216 bytes, and 16,777,242 bytes of `scratch`.
     pub fn put_all<F: Folder>(
         &mut self,
         folder: &mut F,

@@ -20,9 +20,9 @@ use v2_frame::Message;
 
 /// Saving and emptying.
 impl Backlog {
-    /// Writes the ring's messages behind those on disk, in their order and without their delays, and saves. Requires a durable one. After a fault
-    /// those that were written are on disk and the others in the ring still, and what is on disk is saved where that could be done. Each
-    /// is written by way of `scratch`. Requires that nothing is drawn.
+    /// Writes the ring's messages behind those on disk, in their order and without their delays, and saves. After a fault those that were
+    /// written are on disk and the others in the ring still, and what is on disk is saved, unless a save failed. Each is written by way of
+    /// `scratch`. Requires a durable one, that nothing is drawn, and 16,777,242 bytes of `scratch`.
     pub fn flush<F: Folder>(&mut self, folder: &mut F, scratch: &mut [u8]) -> Flushed
         requires durable { IsSome self.old.queue }
         requires nothing { self.old.lent ≡ Nothing }
@@ -91,7 +91,8 @@ impl Backlog {
         Emptied::Done
     }
 
-    /// Drops all messages and removes the queue's files, as `Queue::delete`. Requires that nothing is drawn.
+    /// Drops all messages and removes the queue's files, as `Queue::delete`: where a removal fails files may stay, and an opening finds
+    /// nothing in them. Requires that nothing is drawn.
     pub fn delete<F: Folder>(self, folder: &mut F) -> Gone
         requires { self.lent ≡ Nothing }
         ensures seen { DeleteSeen self result }

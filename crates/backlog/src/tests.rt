@@ -101,6 +101,43 @@ fn take<F: Folder>(backlog: &mut Backlog, folder: &mut F, scratch: &mut [u8]) ->
     }
 }
 
+// Takes the first three.
+fn take_three<F: Folder>(
+    backlog: &mut Backlog,
+    folder: &mut F,
+    scratch: &mut [u8],
+) -> [Option<(u8, u64)>; 3]
+    requires nothing { backlog.old.lent ≡ Nothing }
+    requires scratch { length scratch.old ≡ 16777242 }
+    ensures nothing_now { backlog.new.lent ≡ Nothing }
+    ensures same { length scratch.new ≡ 16777242 }
+{
+    let first = take(backlog, folder, scratch);
+    let second = take(backlog, folder, scratch);
+    let third = take(backlog, folder, scratch);
+    [first, second, third]
+}
+
+// Draws the first message, puts it back, and then takes the first.
+fn undo_and_take<F: Folder>(
+    backlog: &mut Backlog,
+    folder: &mut F,
+    scratch: &mut [u8],
+) -> Option<(u8, u64)>
+    requires nothing { backlog.old.lent ≡ Nothing }
+    requires scratch { length scratch.old ≡ 16777242 }
+    ensures nothing_now { backlog.new.lent ≡ Nothing }
+    ensures same { length scratch.new ≡ 16777242 }
+{
+    match backlog.draw(folder, scratch) {
+        Drawn::Got(message) => {
+            backlog.undo(message);
+            take(backlog, folder, scratch)
+        }
+        Drawn::Empty | Drawn::Fault | Drawn::Damaged | Drawn::Memory => None,
+    }
+}
+
 #[test]
 fn the_ring_comes_before_the_disk(rt: HostRuntime) -> Result<(), Fail> {
     let alloc = rt.alloc();
@@ -145,14 +182,10 @@ fn an_undone_message_is_the_first_again(rt: HostRuntime) -> Result<(), Fail> {
     let mut backlog = Backlog::fresh(alloc, "q", 1, true, OPTIONS)?;
     put(alloc, &mut backlog, &mut folder, &mut scratch, b'x')?;
     put(alloc, &mut backlog, &mut folder, &mut scratch, b'y')?;
-    for letter in [b'x', b'y'] {
-        if let Drawn::Got(message) = backlog.draw(&mut folder, &mut scratch) {
-            assert_eq!(rt; message.body.bytes(), [letter].as_slice());
-            backlog.undo(message);
-        }
-        let first = take(&mut backlog, &mut folder, &mut scratch);
-        assert_eq!(rt; first.map(|first| first.0), Some(letter));
-    }
+    let first = undo_and_take(&mut backlog, &mut folder, &mut scratch);
+    assert_eq!(rt; first, Some((b'x', 5)));
+    let second = undo_and_take(&mut backlog, &mut folder, &mut scratch);
+    assert_eq!(rt; second, Some((b'y', 0)));
     Ok(())
 }
 
@@ -228,10 +261,8 @@ fn all_are_put_or_none(rt: HostRuntime) -> Result<(), Fail> {
     assert_eq!(rt; done, PutAll::Done);
     assert_eq!(rt; again.len(), 0);
     assert_eq!(rt; backlog.depths(), Depths { ring: 1, disk: 2 });
-    for letter in [b'a', b'b', b'c'] {
-        let first = take(&mut backlog, &mut folder, &mut scratch);
-        assert_eq!(rt; first.map(|first| first.0), Some(letter));
-    }
+    let all = take_three(&mut backlog, &mut folder, &mut scratch);
+    assert_eq!(rt; all, [Some((b'a', 5)), Some((b'b', 0)), Some((b'c', 0))]);
     Ok(())
 }
 
@@ -247,13 +278,8 @@ fn what_was_flushed_is_found(rt: HostRuntime) -> Result<(), Fail> {
     assert_eq!(rt; backlog.flush(&mut folder, &mut scratch), Flushed::Done);
     assert_eq!(rt; backlog.depths(), Depths { ring: 0, disk: 3 });
     let mut found = Backlog::open(alloc, &mut folder, "q", 2, OPTIONS)?;
-    for letter in [b'c', b'a', b'b'] {
-        assert_eq!(rt;
-            take(&mut found, &mut folder, &mut scratch),
-            Some((letter, 0))
-        );
-    }
-    assert_eq!(rt; take(&mut found, &mut folder, &mut scratch), None);
+    let all = take_three(&mut found, &mut folder, &mut scratch);
+    assert_eq!(rt; all, [Some((b'c', 0)), Some((b'a', 0)), Some((b'b', 0))]);
     Ok(())
 }
 

@@ -2,7 +2,7 @@
 //! as traits that say what each object gave and took, and how often it failed.
 //!
 //! A type either tells its content or it doesn't, by a ghost constant. A clause on content holds of a type that tells; the
-//! counts of faults hold of every type. The fakes in `mem` tell everything, but `Forgetful`.
+//! counts of faults hold of every type.
 #![tactic(auto)]
 
 mod clock;
@@ -11,8 +11,6 @@ mod did;
 mod folder;
 mod host;
 mod journal;
-mod mem;
-mod system;
 
 pub use clock::Clock;
 pub use conn::{Conn, Read, Sink, Source, Write, get, put};
@@ -20,7 +18,3 @@ pub use did::Did;
 pub use folder::{Folder, Length, Listing, ReadAt};
 pub use host::{Accept, Dialer, Dialled, Host, Kind, Kit, dial};
 pub use journal::{End, Journal, Twin};
-pub use mem::{
-    Failing, FolderCall, Forgetful, MemClock, MemConn, MemFolder, MemHost, MemJournal, Piece, Start,
-};
-pub use system::{DirFolder, Listeners, SysClock, TcpConn, TcpDialer};

@@ -2,12 +2,12 @@
 use Rattle.std.specs.Prelude.{ℕ, ◌≡◌, Bool, [], true, false, IsSome}
 use Rattle.history.specs.declared.entry.Entry.{Entry}
 use Rattle.nsq_outside.specs.Hosts.{DialerContent, HostContent, HostState}
-use Rattle.nsq_outside.specs.TcpDialers.{dial_faults_of as dial_faults_in}
+use Rattle.nsq_system.specs.TcpDialers.{dial_faults_of as dial_faults_in}
 use Rattle.nsq_outside.specs.declared.host.Accept.{Accept}
 use Rattle.nsq_outside.specs.declared.host.Accept.TheVariants.{Caller, Nothing, Halt, Failed}
-use Rattle.nsq_outside.specs.declared.mem.journal.Forgetful.{Forgetful}
-use Rattle.nsq_outside.specs.declared.system.sys_clock.SysClock.{SysClock}
-use Rattle.nsq_outside.specs.declared.system.tcp_conn.TcpConn.{TcpConn}
+use Rattle.nsq_fakes.specs.declared.journal.Forgetful.{Forgetful}
+use Rattle.nsq_system.specs.declared.sys_clock.SysClock.{SysClock}
+use Rattle.nsq_system.specs.declared.tcp_conn.TcpConn.{TcpConn}
 use Rattle.nsqd.specs.declared.host.SysHost.{SysHost}
 
 -- it doesn't tell what it was asked, gave, took back and was told

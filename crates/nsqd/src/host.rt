@@ -124,8 +124,8 @@ where
     ghost use Rattle.std.specs.Prelude.{refl, false, IsTrue, None, Some};
     ghost use Rattle.std.proofs.lemmas.Bool.{false≢true};
     ghost use Rattle.nsq_outside.specs.Hosts.{Accepts, AcceptFails, OnlyAcceptFaults};
-    ghost use Rattle.nsq_outside.specs.Listeners.{IsFreshTcpCaller};
-    ghost use Rattle.nsq_outside.specs.TcpConns.{no_bytes};
+    ghost use Rattle.nsq_system.specs.Listeners.{IsFreshTcpCaller};
+    ghost use Rattle.nsq_system.specs.TcpConns.{no_bytes};
     ghost use Rattle.nsqd.specs.SysHosts.{no_content, state_of, no_dials, dial_faults_of, has_called, GivesOnce};
 
     type Folder = DirFolder<N>;

@@ -1,5 +1,5 @@
 ghost use Rattle.std.specs.Prelude.{◌<◌, length, IfOk, IsSome};
-ghost use Rattle.nsq_outside.specs.MemHosts.{state_of};
+ghost use Rattle.nsq_fakes.specs.MemHosts.{state_of};
 
 mod histories;
 

@@ -1,5 +1,5 @@
 ghost use Rattle.std.specs.Prelude.{◌<◌, ◌≤◌, [], length, None, false, is_some, IfOk};
-ghost use Rattle.nsq_outside.specs.MemJournals.{kept_of};
+ghost use Rattle.nsq_fakes.specs.MemJournals.{kept_of};
 ghost use Rattle.broker_core.specs.Calls.{CanCall};
 
 use super::Floor;

@@ -1,6 +1,6 @@
 //! Runs over three callers: what a run told is judged by the plain programs of the history.
 ghost use Rattle.std.specs.Prelude.{IfOk, IsSome};
-ghost use Rattle.nsq_outside.specs.MemHosts.{state_of};
+ghost use Rattle.nsq_fakes.specs.MemHosts.{state_of};
 
 use super::{BAD_SIZE, NOT_BUILT, OK};
 use crate::run::nsqd_run;

@@ -1,6 +1,6 @@
 //! Whole runs whose journal finds no memory for the Stop, once or twice.
 ghost use Rattle.std.specs.Prelude.{◌≡◌, [], None, IfOk, IsSome};
-ghost use Rattle.nsq_outside.specs.MemJournals.{notes_of, kept_of};
+ghost use Rattle.nsq_fakes.specs.MemJournals.{notes_of, kept_of};
 
 use super::{DATA, META, NAMES, ONE_TOPIC, PUBLISH, RECORD};
 use crate::run::nsqd_run;
@@ -23,7 +23,7 @@ struct Wanting {
 
 impl Journal<Entry> for Wanting {
     ghost use Rattle.std.specs.Prelude.{true, is_some};
-    ghost use Rattle.nsq_outside.specs.MemJournals.{notes_of, kept_of};
+    ghost use Rattle.nsq_fakes.specs.MemJournals.{notes_of, kept_of};
 
     ghost tells_notes = { true };
 
@@ -108,7 +108,7 @@ fn is_stop(entry: &Entry) -> bool {
 
 impl Dialer for WantingHost {
     ghost use Rattle.std.specs.Prelude.{[], false};
-    ghost use Rattle.nsq_outside.specs.MemHosts.{dial_faults_of};
+    ghost use Rattle.nsq_fakes.specs.MemHosts.{dial_faults_of};
 
     type Conn = MemConn;
 

@@ -1,0 +1,5 @@
+pub mod Bytes
+pub mod Listings
+pub mod Lists
+pub mod Outcomes
+pub mod PassedBytes

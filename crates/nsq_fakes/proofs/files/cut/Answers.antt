@@ -1,0 +1,12 @@
+use Rattle.std.proofs.Common.{arith}
+use Rattle.std.proofs.lemmas.Map.Text.{text_keys}
+use Rattle.nsq_fakes.proofs.files.cut.Goals as goal
+
+pub returns-in_err-fit-in-Some-clause-err : goal.returns-in_err-fit-in-Some-clause-err
+returns-in_err-fit-in-Some-clause-err c = grind (arith, text_keys)
+
+pub returns-in_ok-fit-in-Some-clause-ok : goal.returns-in_ok-fit-in-Some-clause-ok
+returns-in_ok-fit-in-Some-clause-ok c = record { here = grind (arith, text_keys); others = λ other h. grind (arith, text_keys) }
+
+pub returns-in_ok-insert-in-None-clause-ok : goal.returns-in_ok-insert-in-None-clause-ok
+returns-in_ok-insert-in-None-clause-ok c = record { here = grind (arith, text_keys); others = λ other h. grind (arith, text_keys) }

@@ -1,0 +1,12 @@
+pub mod Failings
+pub mod MemFiles
+pub mod MemFolders
+pub mod Pieces
+pub mod Scripts
+pub mod MemConns
+pub mod Readings
+pub mod MemClocks
+pub mod MemDialers
+pub mod MemHosts
+pub mod MemJournals
+pub mod MemCalls

@@ -1,0 +1,94 @@
+ghost use Rattle.std.specs.Prelude.{◌≡◌, ◌+◌, ◌≤◌, ◌++◌, ◌∷◌, [], map, vec_len, string_bytes, true, OnOk, OnErr};
+ghost use Rattle.nsq_outside.specs.Causes.{Rose, CountsFault};
+ghost use Rattle.nsq_outside.specs.Hosts.{Dials, LinkFails, LinkCounts};
+ghost use Rattle.nsq_fakes.specs.MemConns.{left_of, IsUnusedLink, LinksFirst};
+
+use crate::conn::MemConn;
+use nsq_base::Memory;
+use nsq_outside::Dialled;
+use std::alloc::Global;
+use std::collections::VecDeque;
+
+/// The connections that dials will give, and the addresses that were asked for.
+#[derive(Drop)]
+pub struct MemDialer {
+    alloc: Global,
+    coming: VecDeque<MemConn>,
+    asked: Vec<String>,
+    pub linked: Vec<String>,
+    pub faults: u64,
+}
+
+impl MemDialer {
+    ghost use Rattle.nsq_fakes.specs.MemDialers.{dialled_of};
+
+    pub fn new(alloc: Global, coming: Vec<MemConn>) -> MemDialer
+        ensures dials { dialled_of result ≡ record { asked = []; linked = []; coming = map left_of coming.items } }
+        ensures no_fault { result.faults ≡ 0 }
+        ensures none_linked { vec_len result.linked ≡ 0 }
+        ensures coming { result.coming.items ≡ coming.items }
+    {
+        MemDialer {
+            alloc,
+            coming: VecDeque::from(coming),
+            asked: Vec::new(alloc),
+            linked: Vec::new(alloc),
+            faults: 0,
+        }
+    }
+
+    /// The addresses that it was asked for. One for which it found no memory is missing.
+    pub fn asked(&self) -> &[String]
+        ensures { result.now ≡ self.now.asked.items }
+    {
+        &self.asked
+    }
+
+    /// Gives the next connection. Past the last one it fails, as for want of memory to keep the address.
+    pub fn dial(&mut self, address: &str) -> Dialled<MemConn>
+        ensures told { Dials left_of (dialled_of self.old) (dialled_of self.new) address.now result }
+        ensures fresh { IsUnusedLink result }
+        ensures faults { self.old.faults ≤ self.new.faults }
+        ensures cause { LinkFails self.old.faults self.new.faults result }
+        ensures counted { LinkCounts self.old.faults self.new.faults result }
+        ensures one { vec_len self.new.linked ≤ vec_len self.old.linked + 1 }
+        ensures first { LinksFirst self.old.coming.items self.new.coming.items result }
+    {
+        if keep(self.alloc, &mut self.asked, address).is_err() {
+            return self.fail();
+        }
+        let Ok(text) = String::from_str(self.alloc, address) else {
+            return self.fail();
+        };
+        if self.linked.reserve(1).is_err() {
+            return self.fail();
+        }
+        let Some(mut conn) = self.coming.pop_front() else {
+            return self.fail();
+        };
+        let _ = self.linked.push(text);
+        conn.restart();
+        Dialled::Linked(conn)
+    }
+
+    /// Counts a fault.
+    pub fn fail(&mut self) -> Dialled<MemConn>
+        ensures failed { result ≡ Dialled.Failed }
+        ensures fault { self.new ≡ record self.old { faults = self.new.faults } }
+        ensures faults { self.old.faults ≤ self.new.faults }
+        ensures rose { Rose self.old.faults self.new.faults }
+        ensures counted { CountsFault self.old.faults self.new.faults true }
+    {
+        self.faults = self.faults.saturating_add(1);
+        Dialled::Failed
+    }
+}
+
+/// Appends a copy of a text.
+fn keep(alloc: Global, texts: &mut Vec<String>, text: &str) -> Result<(), Memory>
+    ensures ok { OnOk result (map string_bytes texts.new.items ≡ map string_bytes texts.old.items ++ text.now ∷ []) }
+    ensures err { OnErr result (texts.new.items ≡ texts.old.items) }
+{
+    texts.push(String::from_str(alloc, text)?)?;
+    Ok(())
+}

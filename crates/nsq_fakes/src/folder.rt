@@ -1,0 +1,284 @@
+ghost use Rattle.std.specs.Prelude.{◌≡◌, ◌≢◌, ◌≤◌, ◌↔◌, List, ℕ, IsTrue, true, false, IfOk, IfSome, IfNone, None, Option, option_map, OnErr, OnOk, IsOk};
+ghost use Rattle.nsq_outside.specs.Causes.{Rose, DidFails, CountsFault, DidCounts};
+ghost use Rattle.nsq_fakes.specs.MemFiles.{files_of, first_of, GrowsTo, MovesToNew};
+ghost use Rattle.nsq_fakes.specs.Failings.{count_of};
+
+use crate::files;
+use crate::folder_calls::{Counts, Failing, FolderCall};
+use nsq_base::Memory;
+use nsq_outside::{Did, Folder, Length, Listing, ReadAt};
+use std::alloc::Global;
+use std::collections::BTreeMap;
+
+/// A folder in memory, some of whose calls fail. A call that fails changes nothing but the counts of calls and of faults.
+///
+/// Else a call fails only where a file has, or would get, more than 2^62 bytes, or where bytes are read past that place; or
+/// for want of memory, which may meet a file that is made or grows, and a name that is new.
+#[derive(Drop)]
+pub struct MemFolder {
+    alloc: Global,
+    files: BTreeMap<String, Vec<u8>>,
+    fails: Vec<Failing>,
+    counts: Counts,
+    faults: u64,
+}
+
+impl MemFolder {
+    ghost use Rattle.nsq_fakes.specs.Failings.{CountsCall};
+    ghost use Rattle.nsq_fakes.specs.MemFolders.{counts_of, IsRefused};
+
+    /// A folder with these files, of which these calls fail. Of several files with one name the first counts.
+    pub fn new(
+        alloc: Global,
+        files: Vec<(String, Vec<u8>)>,
+        fails: Vec<Failing>,
+    ) -> Result<MemFolder, Memory>
+        ensures files { IfOk result (λ folder. (name : List ℕ) → files_of folder.files name ≡ first_of files.items name) }
+        ensures fails { IfOk result (λ folder. folder.fails ≡ fails) }
+        ensures calls { IfOk result (λ folder. (call : FolderCall) → count_of folder.counts call ≡ 0) }
+        ensures faults { IfOk result (λ folder. folder.faults ≡ 0) }
+    {
+        Ok(MemFolder {
+            alloc,
+            files: files::made_of(alloc, files)?,
+            fails,
+            counts: Counts::new(),
+            faults: 0,
+        })
+    }
+
+    /// The bytes of a file, where there is one. It counts as no call.
+    pub fn file(&self, name: &str) -> Option<&[u8]>
+        ensures { option_map (λ bytes. bytes.now) result ≡ files_of self.now.files name.now }
+    {
+        match self.files.get(name) {
+            Some(bytes) => Some(bytes),
+            None => None,
+        }
+    }
+
+    /// Counts a call, and a fault where it is among those that fail.
+    fn refuses(&mut self, call: FolderCall) -> bool
+        requires { call ≢ FolderCall.Any }
+        ensures refused { IsTrue result ↔ IsRefused self.old call }
+        ensures counted { CountsCall (counts_of self.old) (counts_of self.new) call }
+        ensures rest { self.new ≡ record self.old { counts = self.new.counts; faults = self.new.faults } }
+        ensures rose { IsTrue result → Rose self.old.faults self.new.faults }
+        ensures fault { CountsFault self.old.faults self.new.faults result }
+        ensures faults { self.old.faults ≤ self.new.faults }
+    {
+        let fails = self.counts.count(&self.fails, call);
+        if fails {
+            self.faults = self.faults.saturating_add(1);
+        }
+        fails
+    }
+
+    /// The answer of a change, which counts a fault where there was no room.
+    fn answer(&mut self, outcome: Result<(), files::NoRoom>) -> Did
+        ensures done { OnOk outcome (result ≡ Did.Done) }
+        ensures failed { OnErr outcome (result ≡ Did.Failed) }
+        ensures rest { self.new ≡ record self.old { faults = self.new.faults } }
+        ensures faults { self.old.faults ≤ self.new.faults }
+        ensures cause { DidFails self.old.faults self.new.faults result }
+        ensures counted { DidCounts self.old.faults self.new.faults result }
+    {
+        match outcome {
+            Ok(()) => Did::Done,
+            Err(_) => {
+                self.faults = self.faults.saturating_add(1);
+                Did::Failed
+            }
+        }
+    }
+}
+
+impl Folder for MemFolder {
+    ghost use Rattle.std.specs.Prelude.{◌+◌, ◌^◌, ◌<◌, ◌⊎◌, length, IsSomeAnd};
+    ghost use Rattle.nsq_outside.specs.Files.{SameFiles, IsWithin, OnlyChanges, Lists, Appends, ListingFails, ListingCounts, HasLength, IsFileLength, LengthFails, LengthCounts, IsAmountAt, ReadsAt, IsReadWithin, ReadAtFails, ReadAtCounts, WritesAt, Cuts, Renames, Removes};
+    ghost use Rattle.nsq_fakes.specs.Failings.{CountsCall};
+    ghost use Rattle.nsq_fakes.specs.MemFolders.{files_in, fails_of, counts_of, faults_of, IsRefused, ReadsPast};
+
+    ghost tells_files = { true };
+
+    ghost files = { files_in };
+
+    ghost folder_faults = { faults_of };
+
+    fn list(&mut self, alloc: Global, names: &mut Vec<String>) -> Listing
+        ensures names { Lists (files_in self.old) names.old.items names.new.items result }
+        ensures kept { Appends names.old.items names.new.items result }
+        ensures same { SameFiles (files_in self.old) (files_in self.new) }
+        ensures faults { faults_of self.old ≤ faults_of self.new }
+        ensures cause { ListingFails (faults_of self.old) (faults_of self.new) result }
+        ensures counted { ListingCounts (faults_of self.old) (faults_of self.new) result }
+        ensures calls { CountsCall (counts_of self.old) (counts_of self.new) FolderCall.List }
+        ensures fails { fails_of self.new ≡ fails_of self.old }
+        ensures refused { (result ≡ Listing.Failed) ↔ IsRefused self.old FolderCall.List }
+    {
+        if self.refuses(FolderCall::List) {
+            return Listing::Failed;
+        }
+        match files::append_names(alloc, &self.files, names) {
+            Ok(()) => Listing::Done,
+            Err(_) => Listing::Memory,
+        }
+    }
+
+    fn len(&mut self, name: &str) -> Length
+        ensures length { HasLength (files_in self.old name.now) result }
+        ensures limit { IsFileLength result }
+        ensures same { SameFiles (files_in self.old) (files_in self.new) }
+        ensures faults { faults_of self.old ≤ faults_of self.new }
+        ensures cause { LengthFails (faults_of self.old) (faults_of self.new) result }
+        ensures counted { LengthCounts (faults_of self.old) (faults_of self.new) result }
+        ensures calls { CountsCall (counts_of self.old) (counts_of self.new) FolderCall.Len }
+        ensures fails { fails_of self.new ≡ fails_of self.old }
+        ensures refused { IsRefused self.old FolderCall.Len → result ≡ Length.Failed }
+        ensures failed { result ≡ Length.Failed → IsRefused self.old FolderCall.Len ⊎ IsSomeAnd (files_in self.old name.now) (λ bytes. 2 ^ 62 < length bytes) }
+    {
+        if self.refuses(FolderCall::Len) {
+            return Length::Failed;
+        }
+        match self.files.get(name) {
+            Some(bytes) if bytes.len() as u64 <= files::LIMIT => Length::Is(bytes.len() as u64),
+            Some(_) => {
+                self.faults = self.faults.saturating_add(1);
+                Length::Failed
+            }
+            None => Length::Absent,
+        }
+    }
+
+    fn read_at(&mut self, name: &str, at: u64, into: &mut [u8]) -> ReadAt
+        ensures amount { IsAmountAt result (length into.old) }
+        ensures bytes { ReadsAt (files_in self.old name.now) at into.old into.new result }
+        ensures limit { IsReadWithin at result }
+        ensures same { SameFiles (files_in self.old) (files_in self.new) }
+        ensures faults { faults_of self.old ≤ faults_of self.new }
+        ensures cause { ReadAtFails (faults_of self.old) (faults_of self.new) result }
+        ensures counted { ReadAtCounts (faults_of self.old) (faults_of self.new) result }
+        ensures calls { CountsCall (counts_of self.old) (counts_of self.new) FolderCall.ReadAt }
+        ensures fails { fails_of self.new ≡ fails_of self.old }
+        ensures refused { IsRefused self.old FolderCall.ReadAt → result ≡ ReadAt.Failed }
+        ensures failed { result ≡ ReadAt.Failed → IsRefused self.old FolderCall.ReadAt ⊎ ReadsPast (files_in self.old name.now) at (length into.old) }
+        ensures past { ReadsPast (files_in self.old name.now) at (length into.old) → result ≡ ReadAt.Failed }
+    {
+        if self.refuses(FolderCall::ReadAt) {
+            return ReadAt::Failed;
+        }
+        let bytes = files::bytes_at(&self.files, name);
+        let count = files::copy_from_place(bytes, at, into);
+        if count != 0 && at.saturating_add(count as u64) > files::LIMIT {
+            self.faults = self.faults.saturating_add(1);
+            return ReadAt::Failed;
+        }
+        ReadAt::Got(count)
+    }
+
+    fn write_at(&mut self, name: &str, at: u64, from: &[u8]) -> Did
+        ensures bytes { WritesAt (files_in self.old name.now) (files_in self.new name.now) at from.now result }
+        ensures limit { IsWithin (at + length from.now) result }
+        ensures others { OnlyChanges (files_in self.old) (files_in self.new) name.now }
+        ensures faults { faults_of self.old ≤ faults_of self.new }
+        ensures cause { DidFails (faults_of self.old) (faults_of self.new) result }
+        ensures counted { DidCounts (faults_of self.old) (faults_of self.new) result }
+        ensures calls { CountsCall (counts_of self.old) (counts_of self.new) FolderCall.WriteAt }
+        ensures fails { fails_of self.new ≡ fails_of self.old }
+        ensures refused { IsRefused self.old FolderCall.WriteAt → result ≡ Did.Failed }
+        ensures failed { result ≡ Did.Failed → SameFiles (files_in self.old) (files_in self.new) }
+        ensures why { result ≡ Did.Failed → IsRefused self.old FolderCall.WriteAt ⊎ GrowsTo (files_in self.old name.now) (at + length from.now) }
+    {
+        if self.refuses(FolderCall::WriteAt) {
+            return Did::Failed;
+        }
+        let outcome = files::write(self.alloc, &mut self.files, name, at, from);
+        self.answer(outcome)
+    }
+
+    fn cut(&mut self, name: &str, to: u64) -> Did
+        ensures bytes { Cuts (files_in self.old name.now) (files_in self.new name.now) to result }
+        ensures limit { IsWithin to result }
+        ensures others { OnlyChanges (files_in self.old) (files_in self.new) name.now }
+        ensures faults { faults_of self.old ≤ faults_of self.new }
+        ensures cause { DidFails (faults_of self.old) (faults_of self.new) result }
+        ensures counted { DidCounts (faults_of self.old) (faults_of self.new) result }
+        ensures calls { CountsCall (counts_of self.old) (counts_of self.new) FolderCall.Cut }
+        ensures fails { fails_of self.new ≡ fails_of self.old }
+        ensures refused { IsRefused self.old FolderCall.Cut → result ≡ Did.Failed }
+        ensures failed { result ≡ Did.Failed → SameFiles (files_in self.old) (files_in self.new) }
+        ensures why { result ≡ Did.Failed → IsRefused self.old FolderCall.Cut ⊎ GrowsTo (files_in self.old name.now) to }
+    {
+        if self.refuses(FolderCall::Cut) {
+            return Did::Failed;
+        }
+        let outcome = files::cut(self.alloc, &mut self.files, name, to);
+        self.answer(outcome)
+    }
+
+    fn sync(&mut self, _name: &str) -> Did
+        ensures same { SameFiles (files_in self.old) (files_in self.new) }
+        ensures faults { faults_of self.old ≤ faults_of self.new }
+        ensures cause { DidFails (faults_of self.old) (faults_of self.new) result }
+        ensures counted { DidCounts (faults_of self.old) (faults_of self.new) result }
+        ensures calls { CountsCall (counts_of self.old) (counts_of self.new) FolderCall.Sync }
+        ensures fails { fails_of self.new ≡ fails_of self.old }
+        ensures refused { (result ≡ Did.Failed) ↔ IsRefused self.old FolderCall.Sync }
+    {
+        if self.refuses(FolderCall::Sync) {
+            return Did::Failed;
+        }
+        Did::Done
+    }
+
+    fn sync_names(&mut self) -> Did
+        ensures same { SameFiles (files_in self.old) (files_in self.new) }
+        ensures faults { faults_of self.old ≤ faults_of self.new }
+        ensures cause { DidFails (faults_of self.old) (faults_of self.new) result }
+        ensures counted { DidCounts (faults_of self.old) (faults_of self.new) result }
+        ensures calls { CountsCall (counts_of self.old) (counts_of self.new) FolderCall.SyncNames }
+        ensures fails { fails_of self.new ≡ fails_of self.old }
+        ensures refused { (result ≡ Did.Failed) ↔ IsRefused self.old FolderCall.SyncNames }
+    {
+        if self.refuses(FolderCall::SyncNames) {
+            return Did::Failed;
+        }
+        Did::Done
+    }
+
+    fn rename(&mut self, from: &str, to: &str) -> Did
+        ensures files { Renames (files_in self.old) (files_in self.new) from.now to.now result }
+        ensures faults { faults_of self.old ≤ faults_of self.new }
+        ensures cause { DidFails (faults_of self.old) (faults_of self.new) result }
+        ensures counted { DidCounts (faults_of self.old) (faults_of self.new) result }
+        ensures calls { CountsCall (counts_of self.old) (counts_of self.new) FolderCall.Rename }
+        ensures fails { fails_of self.new ≡ fails_of self.old }
+        ensures refused { IsRefused self.old FolderCall.Rename → result ≡ Did.Failed }
+        ensures failed { result ≡ Did.Failed → SameFiles (files_in self.old) (files_in self.new) }
+        ensures why { result ≡ Did.Failed → IsRefused self.old FolderCall.Rename ⊎ MovesToNew (files_in self.old) from.now to.now }
+    {
+        if self.refuses(FolderCall::Rename) {
+            return Did::Failed;
+        }
+        let outcome = files::rename(self.alloc, &mut self.files, from, to);
+        self.answer(outcome.map_err(files::NoRoom::from))
+    }
+
+    fn remove(&mut self, name: &str) -> Did
+        ensures bytes { Removes (files_in self.old name.now) (files_in self.new name.now) result }
+        ensures others { OnlyChanges (files_in self.old) (files_in self.new) name.now }
+        ensures faults { faults_of self.old ≤ faults_of self.new }
+        ensures cause { DidFails (faults_of self.old) (faults_of self.new) result }
+        ensures counted { DidCounts (faults_of self.old) (faults_of self.new) result }
+        ensures calls { CountsCall (counts_of self.old) (counts_of self.new) FolderCall.Remove }
+        ensures fails { fails_of self.new ≡ fails_of self.old }
+        ensures refused { (result ≡ Did.Failed) ↔ IsRefused self.old FolderCall.Remove }
+        ensures failed { result ≡ Did.Failed → SameFiles (files_in self.old) (files_in self.new) }
+    {
+        if self.refuses(FolderCall::Remove) {
+            return Did::Failed;
+        }
+        files::remove(&mut self.files, name);
+        Did::Done
+    }
+}

@@ -1,0 +1,357 @@
+ghost use Rattle.std.specs.Prelude.{◌≡◌, ◌+◌, ◌≤◌, ◌++◌, ◌∷◌, [], map, false, true, None, Some, IfOk, OnOk, OnErr, option_copied, string_bytes, length, vec_len, vec_capacity};
+
+use crate::clock::MemClock;
+use crate::conn::MemConn;
+use crate::dialer::MemDialer;
+use crate::folder::MemFolder;
+use crate::journal::MemJournal;
+use crate::start::Start;
+use nsq_base::Memory;
+use nsq_outside::{Accept, Dialer, Dialled, Did, Host, Kind, Kit, Twin};
+use std::alloc::Global;
+use std::collections::VecDeque;
+use std::sync::Wait;
+
+/// A host in memory: a list of callers, a list of connections that dials give, and a kit. It keeps what it is told.
+///
+/// It gives the callers in order, and answers `Halt` once they are used up. Past the last of its connections a dial fails.
+/// What finds no memory to be kept fails too.
+#[derive(Drop)]
+pub struct MemHost<E: Drop> {
+    alloc: Global,
+    dialer: MemDialer,
+    starts: Vec<Start>,
+    callers: VecDeque<(Kind, MemConn)>,
+    given: Vec<Kind>,
+    halted: bool,
+    back: Vec<(u64, MemConn)>,
+    printed: Vec<u8>,
+    lines: Vec<Vec<u8>>,
+    kit: Option<Kit<MemFolder, MemClock, MemJournal<E>>>,
+    beside: bool,
+    accept_faults: u64,
+    print_faults: u64,
+    tell_faults: u64,
+    ghost room: { vec_len given + vec_len dialer.linked ≤ vec_capacity back },
+    ghost order: { length back.items ≤ length given.items + length dialer.linked.items },
+}
+
+impl<E: Drop> MemHost<E> {
+    ghost use Rattle.nsq_fakes.specs.MemConns.{left_of};
+    ghost use Rattle.nsq_fakes.specs.MemHosts.{content_of, state_of, dials_of, dial_faults_of, callers_of, to_link_of};
+
+    /// A host with these callers, connections to be dialled and kit. `beside` says whether each caller gets a thread of its own.
+    pub fn new(
+        alloc: Global,
+        callers: Vec<(Kind, MemConn)>,
+        dialled: Vec<MemConn>,
+        kit: Kit<MemFolder, MemClock, MemJournal<E>>,
+        beside: bool,
+    ) -> Result<MemHost<E>, Memory>
+        ensures content { IfOk result (λ host. content_of host ≡ record { starts = []; coming = map (λ c. (c.0, left_of c.1)) callers.items; given = []; halted = false; back = []; printed = []; lines = [] }) }
+        ensures dials { IfOk result (λ host. dials_of host ≡ record { asked = []; linked = []; coming = map left_of dialled.items }) }
+        ensures dial_faults { IfOk result (λ host. dial_faults_of host ≡ 0) }
+        ensures callers { IfOk result (λ host. callers_of host ≡ callers.items) }
+        ensures to_link { IfOk result (λ host. to_link_of host ≡ dialled.items) }
+        ensures state { IfOk result (λ host. state_of host ≡ record { kit = Some kit; beside = beside; accept_faults = 0; print_faults = 0; tell_faults = 0 }) }
+    {
+        Ok(MemHost {
+            alloc,
+            dialer: MemDialer::new(alloc, dialled),
+            starts: Vec::new(alloc),
+            callers: VecDeque::from(callers),
+            given: Vec::new(alloc),
+            halted: false,
+            back: Vec::new(alloc),
+            printed: Vec::new(alloc),
+            lines: Vec::new(alloc),
+            kit: Some(kit),
+            beside,
+            accept_faults: 0,
+            print_faults: 0,
+            tell_faults: 0,
+        })
+    }
+
+    /// The connections that it took back, each with its number.
+    pub fn back(&self) -> &[(u64, MemConn)]
+        ensures { result.now ≡ (content_of self.now).back }
+    {
+        &self.back
+    }
+
+    /// What was printed.
+    pub fn printed(&self) -> &[u8]
+        ensures { result.now ≡ (content_of self.now).printed }
+    {
+        &self.printed
+    }
+
+    /// The lines that it was told.
+    pub fn lines(&self) -> &[Vec<u8>]
+        ensures { map (λ line. line.items) result.now ≡ (content_of self.now).lines }
+    {
+        &self.lines
+    }
+
+    /// What it was started with.
+    pub fn starts(&self) -> &[Start]
+        ensures { result.now ≡ (content_of self.now).starts }
+    {
+        &self.starts
+    }
+
+    /// The kinds of the callers that it gave.
+    pub fn given(&self) -> &[Kind]
+        ensures { result.now ≡ (content_of self.now).given }
+    {
+        &self.given
+    }
+
+    /// The kit, where it is at home.
+    pub fn kit(&self) -> Option<&Kit<MemFolder, MemClock, MemJournal<E>>>
+        ensures { option_copied result ≡ (state_of self.now).kit }
+    {
+        self.kit.as_ref()
+    }
+
+    /// The addresses that it was asked to dial. One for which it found no memory is missing.
+    pub fn asked(&self) -> &[String]
+        ensures { map string_bytes result.now ≡ (dials_of self.now).asked }
+    {
+        self.dialer.asked()
+    }
+
+    /// Makes room to take back one more connection.
+    fn make_room(&mut self) -> Result<(), Memory>
+        ensures content { content_of self.new ≡ content_of self.old }
+        ensures state { state_of self.new ≡ state_of self.old }
+        ensures dialer { self.new.dialer ≡ self.old.dialer }
+        ensures callers { self.new.callers ≡ self.old.callers }
+        ensures given { vec_len self.new.given ≡ vec_len self.old.given }
+        ensures room { OnOk result (vec_len self.new.given + vec_len self.new.dialer.linked + 1 ≤ vec_capacity self.new.back) }
+    {
+        self.back
+            .reserve(self.given.len() + self.dialer.linked.len() + 1)?;
+        Ok(())
+    }
+}
+
+impl<E: Drop> Dialer for MemHost<E> {
+    ghost use Rattle.nsq_fakes.specs.MemHosts.{content_of, state_of, dials_of, dial_faults_of, callers_of, to_link_of};
+    ghost use Rattle.nsq_fakes.specs.MemConns.{left_of, IsUnusedLink, LinksFirst};
+    ghost use Rattle.nsq_outside.specs.Hosts.{Dials, LinkFails, LinkCounts};
+
+    type Conn = MemConn;
+
+    ghost tells = { true };
+
+    ghost dials = { dials_of };
+
+    ghost dial_faults = { dial_faults_of };
+
+    ghost may_dial = { λ a b. (content_of b ≡ content_of a) × (state_of b ≡ state_of a) };
+
+    fn dial<R: Wait>(&mut self, _rt: &R, address: &str) -> Dialled<MemConn>
+        ensures told { Dials left_of (dials_of self.old) (dials_of self.new) address.now result }
+        ensures fresh { IsUnusedLink result }
+        ensures may { (content_of self.new ≡ content_of self.old) × (state_of self.new ≡ state_of self.old) }
+        ensures faults { dial_faults_of self.old ≤ dial_faults_of self.new }
+        ensures cause { LinkFails (dial_faults_of self.old) (dial_faults_of self.new) result }
+        ensures counted { LinkCounts (dial_faults_of self.old) (dial_faults_of self.new) result }
+        ensures first { LinksFirst (to_link_of self.old) (to_link_of self.new) result }
+        ensures callers { callers_of self.new ≡ callers_of self.old }
+    {
+        if self.make_room().is_err() {
+            return self.dialer.fail();
+        }
+        self.dialer.dial(address)
+    }
+}
+
+impl<E: Drop + Twin + Send> Host<E> for MemHost<E> {
+    ghost use Rattle.nsq_fakes.specs.MemHosts.{content_of, state_of, dials_of, dial_faults_of, callers_of, to_link_of, IsUnusedCaller, AnswersAtOnce, GivesFirst};
+    ghost use Rattle.nsq_fakes.specs.MemConns.{left_of};
+    ghost use Rattle.nsq_outside.specs.Hosts.{Starts, Accepts, AcceptFails, AcceptCounts, Prints, Tells, TellCounts, OnlyAcceptFaults, OnlyPrintFaults, OnlyTellFaults};
+    ghost use Rattle.nsq_outside.specs.Causes.{DidFails, DidCounts};
+    ghost use Rattle.nsq_fakes.specs.MemJournals.{kept_of, notes_of};
+    ghost use Rattle.std.specs.Prelude.{◌<◌, IsSome, IfSome, is_some};
+    ghost use Rattle.std.proofs.lemmas.List.{length-map};
+
+    type Folder = MemFolder;
+
+    type Clock = MemClock;
+
+    type Journal = MemJournal<E>;
+
+    ghost content = { content_of };
+
+    ghost state = { state_of };
+
+    fn start<R: Wait>(&mut self, _rt: &R, tcp: &str, http: &str, path: &str) -> Did
+        ensures content { Starts (content_of self.old) (content_of self.new) tcp.now http.now path.now result }
+        ensures state { OnlyAcceptFaults (state_of self.old) (state_of self.new) }
+        ensures cause { DidFails (state_of self.old).accept_faults (state_of self.new).accept_faults result }
+        ensures counted { DidCounts (state_of self.old).accept_faults (state_of self.new).accept_faults result }
+        ensures dials { dials_of self.new ≡ dials_of self.old }
+        ensures dial_faults { dial_faults_of self.new ≡ dial_faults_of self.old }
+        ensures callers { callers_of self.new ≡ callers_of self.old }
+        ensures to_link { to_link_of self.new ≡ to_link_of self.old }
+    {
+        if keep_start(self.alloc, &mut self.starts, tcp, http, path).is_err() {
+            self.accept_faults = self.accept_faults.saturating_add(1);
+            return Did::Failed;
+        }
+        Did::Done
+    }
+
+    fn accept<R: Wait>(&mut self, _rt: &R) -> Accept<MemConn>
+        ensures content { Accepts left_of (content_of self.old) (content_of self.new) result }
+        ensures at_once { AnswersAtOnce (content_of self.old).coming result }
+        ensures fresh { IsUnusedCaller result }
+        ensures state { OnlyAcceptFaults (state_of self.old) (state_of self.new) }
+        ensures cause { AcceptFails (state_of self.old).accept_faults (state_of self.new).accept_faults result }
+        ensures counted { AcceptCounts (state_of self.old).accept_faults (state_of self.new).accept_faults result }
+        ensures dials { dials_of self.new ≡ dials_of self.old }
+        ensures dial_faults { dial_faults_of self.new ≡ dial_faults_of self.old }
+        ensures first { GivesFirst (callers_of self.old) (callers_of self.new) result }
+        ensures to_link { to_link_of self.new ≡ to_link_of self.old }
+    {
+        if self.callers.is_empty() {
+            self.halted = true;
+            return Accept::Halt;
+        }
+        if self.make_room().is_err() || self.given.reserve(1).is_err() {
+            self.accept_faults = self.accept_faults.saturating_add(1);
+            return Accept::Failed;
+        }
+        let Some((kind, mut conn)) = self.callers.pop_front() else {
+            unreachable!()
+        };
+        let _ = self.given.push(kind);
+        conn.restart();
+        Accept::Caller(kind, conn)
+    }
+
+    fn done(&mut self, number: u64, conn: MemConn)
+        requires { length (content_of self.old).back < length (content_of self.old).given + length (dials_of self.old).linked }
+        ensures content { content_of self.new ≡ record (content_of self.old) { back = (content_of self.old).back ++ (number, conn) ∷ [] } }
+        ensures state { state_of self.new ≡ state_of self.old }
+        ensures dials { dials_of self.new ≡ dials_of self.old }
+        ensures dial_faults { dial_faults_of self.new ≡ dial_faults_of self.old }
+        ensures callers { callers_of self.new ≡ callers_of self.old }
+        ensures to_link { to_link_of self.new ≡ to_link_of self.old }
+    {
+        let _ = self.back.push((number, conn));
+    }
+
+    /// Lends the kit, which is at home. It drops the kit's journal, and lends a new and empty one in its place.
+    fn lend(&mut self) -> Kit<MemFolder, MemClock, MemJournal<E>>
+        requires { IsSome (state_of self.old).kit }
+        ensures folder { IfSome (state_of self.old).kit (λ kit. result.folder ≡ kit.folder) }
+        ensures clock { IfSome (state_of self.old).kit (λ kit. result.clock ≡ kit.clock) }
+        ensures aside { is_some (kept_of result.journal) ≡ false }
+        ensures empty { notes_of result.journal ≡ [] }
+        ensures content { content_of self.new ≡ content_of self.old }
+        ensures state { state_of self.new ≡ record (state_of self.old) { kit = None } }
+        ensures dials { dials_of self.new ≡ dials_of self.old }
+        ensures dial_faults { dial_faults_of self.new ≡ dial_faults_of self.old }
+        ensures callers { callers_of self.new ≡ callers_of self.old }
+        ensures to_link { to_link_of self.new ≡ to_link_of self.old }
+    {
+        match self.kit.take() {
+            Some(
+                Kit {
+                    folder,
+                    clock,
+                    journal: _,
+                },
+            ) => Kit {
+                folder,
+                clock,
+                journal: MemJournal::new(self.alloc),
+            },
+            None => unreachable!(),
+        }
+    }
+
+    fn restore(&mut self, home: Kit<MemFolder, MemClock, MemJournal<E>>)
+        requires { (state_of self.old).kit ≡ None }
+        ensures content { content_of self.new ≡ content_of self.old }
+        ensures state { state_of self.new ≡ record (state_of self.old) { kit = Some home } }
+        ensures dials { dials_of self.new ≡ dials_of self.old }
+        ensures dial_faults { dial_faults_of self.new ≡ dial_faults_of self.old }
+        ensures callers { callers_of self.new ≡ callers_of self.old }
+        ensures to_link { to_link_of self.new ≡ to_link_of self.old }
+    {
+        self.kit = Some(home);
+    }
+
+    fn beside(&self) -> bool {
+        self.beside
+    }
+
+    fn print<R: Wait>(&mut self, _rt: &R, text: &[u8]) -> Did
+        ensures content { Prints (content_of self.old) (content_of self.new) text.now result }
+        ensures state { OnlyPrintFaults (state_of self.old) (state_of self.new) }
+        ensures cause { DidFails (state_of self.old).print_faults (state_of self.new).print_faults result }
+        ensures counted { DidCounts (state_of self.old).print_faults (state_of self.new).print_faults result }
+        ensures dials { dials_of self.new ≡ dials_of self.old }
+        ensures dial_faults { dial_faults_of self.new ≡ dial_faults_of self.old }
+        ensures callers { callers_of self.new ≡ callers_of self.old }
+        ensures to_link { to_link_of self.new ≡ to_link_of self.old }
+    {
+        if self.printed.extend_from_slice(text).is_err() {
+            self.print_faults = self.print_faults.saturating_add(1);
+            return Did::Failed;
+        }
+        Did::Done
+    }
+
+    fn tell<R: Wait>(&mut self, _rt: &R, line: &[u8])
+        ensures content { Tells (content_of self.old) (content_of self.new) line.now (state_of self.old).tell_faults (state_of self.new).tell_faults }
+        ensures state { OnlyTellFaults (state_of self.old) (state_of self.new) }
+        ensures counted { TellCounts (content_of self.old) (content_of self.new) line.now (state_of self.old).tell_faults (state_of self.new).tell_faults }
+        ensures dials { dials_of self.new ≡ dials_of self.old }
+        ensures dial_faults { dial_faults_of self.new ≡ dial_faults_of self.old }
+        ensures callers { callers_of self.new ≡ callers_of self.old }
+        ensures to_link { to_link_of self.new ≡ to_link_of self.old }
+    {
+        if keep_line(self.alloc, &mut self.lines, line).is_err() {
+            self.tell_faults = self.tell_faults.saturating_add(1);
+        }
+    }
+
+    ghost dial_keeps = { λ a b h. h };
+
+    ghost back_given = { λ h told. Prim.simp length-map h.order };
+}
+
+/// Appends copies of what a host was started with.
+fn keep_start(
+    alloc: Global,
+    starts: &mut Vec<Start>,
+    tcp: &str,
+    http: &str,
+    path: &str,
+) -> Result<(), Memory>
+    ensures ok { OnOk result (starts.new.items ≡ starts.old.items ++ record { tcp = tcp.now; http = http.now; path = path.now } ∷ []) }
+    ensures err { OnErr result (starts.new.items ≡ starts.old.items) }
+{
+    let start = Start {
+        tcp: String::from_str(alloc, tcp)?,
+        http: String::from_str(alloc, http)?,
+        path: String::from_str(alloc, path)?,
+    };
+    starts.push(start)?;
+    Ok(())
+}
+
+/// Appends a copy of a line.
+fn keep_line(alloc: Global, lines: &mut Vec<Vec<u8>>, line: &[u8]) -> Result<(), Memory>
+    ensures ok { OnOk result (map (λ l. l.items) lines.new.items ≡ map (λ l. l.items) lines.old.items ++ line.now ∷ []) }
+    ensures err { OnErr result (lines.new.items ≡ lines.old.items) }
+{
+    lines.push(line.to_vec(alloc)?)?;
+    Ok(())
+}

@@ -1,6 +1,0 @@
-pub mod Bytes
-pub mod Listings
-pub mod Lists
-pub mod Outcomes
-pub mod PassedBytes
-pub mod ErrorFrames

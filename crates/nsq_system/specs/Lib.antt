@@ -1,0 +1,5 @@
+pub mod Frames
+pub mod TcpConns
+pub mod TcpDialers
+pub mod SysClocks
+pub mod Listeners

@@ -1,0 +1,218 @@
+ghost use Rattle.std.specs.Prelude.{◌≡◌, ◌≤◌, OnErr, None, true, false, IfOk};
+ghost use Rattle.nsq_outside.specs.Causes.{DidFails, Rose, CountsFault, DidCounts};
+
+use crate::open_files::{LIMIT, OpenFiles};
+use nsq_base::Memory;
+use nsq_outside::{Did, Folder, Length, Listing, ReadAt};
+use std::alloc::Global;
+use std::io;
+use std::io::ErrorKind;
+use std::marker::Model;
+use std::os::unix::fs::FileExt;
+use std::rt::Files;
+
+/// A folder on disk. It tells no content, and counts each error that it answers.
+///
+/// A few dozen files stay open; a file is closed when it is renamed or removed and after each error. A name with a slash, which
+/// no file of the folder has, is an error. `list` gives regular files alone: sub-folders, symbolic links, and names that
+/// aren't UTF-8 are left out. Where the folder itself is missing, `list` and `sync_names` fail, and each file is absent.
+///
+/// A contract sees the count of its faults.
+#[derive(Drop)]
+pub struct DirFolder<R: Files> {
+    files: OpenFiles<R>,
+    faults: u64,
+}
+
+impl<R: Files> Model for DirFolder<R> {
+    ghost use Rattle.std.specs.Prelude.{ℕ};
+
+    ghost Value = { ℕ };
+
+    ghost view = { λ folder. folder.faults };
+}
+
+impl<R: Files + AllocGlobal + Clone + Drop> DirFolder<R>
+where
+    R::File: FileExt,
+{
+    /// The folder at a path. It asks nothing of the system: a missing folder shows at the first call.
+    pub fn new(rt: R, alloc: Global, path: &str) -> Result<DirFolder<R>, Memory>
+        ensures { IfOk result (λ folder. folder ≡ 0) }
+    {
+        Ok(DirFolder {
+            files: OpenFiles::new(rt, alloc, path)?,
+            faults: 0,
+        })
+    }
+
+    /// Goes to the folder at another path. Without memory it stays.
+    pub fn move_to(&mut self, path: &str) -> Result<(), Memory>
+        ensures { self.new ≡ self.old }
+    {
+        self.files.move_to(path)
+    }
+
+    /// Counts an error.
+    fn count(&mut self)
+        ensures rose { Rose self.old self.new }
+        ensures counted { CountsFault self.old self.new true }
+        ensures faults { self.old ≤ self.new }
+    {
+        self.faults = self.faults.saturating_add(1);
+    }
+
+    /// The answer of a call on a file, which is closed after an error.
+    fn answer(&mut self, name: &str, outcome: io::Result<()>) -> Did
+        ensures failed { OnErr outcome (result ≡ Did.Failed) }
+        ensures faults { self.old ≤ self.new }
+        ensures cause { DidFails self.old self.new result }
+        ensures counted { DidCounts self.old self.new result }
+    {
+        match outcome {
+            Ok(()) => Did::Done,
+            Err(_) => {
+                self.files.forget(name);
+                self.count();
+                Did::Failed
+            }
+        }
+    }
+}
+
+/// A call on an absent file does nothing, and is no error.
+fn unless_absent(outcome: io::Result<()>) -> io::Result<()> {
+    match outcome {
+        Err(e) if e.kind() == ErrorKind::NotFound => Ok(()),
+        other => other,
+    }
+}
+
+impl<R: Files + AllocGlobal + Clone + Drop + Send> Folder for DirFolder<R>
+where
+    R::File: FileExt + Send,
+{
+    ghost use Rattle.std.specs.Prelude.{◌+◌, length};
+    ghost use Rattle.nsq_outside.specs.Files.{IsWithin, Appends, ListingFails, ListingCounts, IsFileLength, LengthFails, LengthCounts, IsAmountAt, IsReadWithin, ReadAtFails, ReadAtCounts};
+
+    ghost tells_files = { false };
+
+    ghost files = { λ _ _. None };
+
+    ghost folder_faults = { λ folder. folder };
+
+    fn list(&mut self, alloc: Global, names: &mut Vec<String>) -> Listing
+        ensures kept { Appends names.old.items names.new.items result }
+        ensures faults { self.old ≤ self.new }
+        ensures cause { ListingFails self.old self.new result }
+        ensures counted { ListingCounts self.old self.new result }
+    {
+        match self.files.names(alloc) {
+            Ok(mut added) => match names.append(&mut added) {
+                Ok(()) => Listing::Done,
+                Err(_) => Listing::Memory,
+            },
+            Err(e) if e.kind() == ErrorKind::OutOfMemory => Listing::Memory,
+            Err(_) => {
+                self.count();
+                Listing::Failed
+            }
+        }
+    }
+
+    fn len(&mut self, name: &str) -> Length
+        ensures limit { IsFileLength result }
+        ensures faults { self.old ≤ self.new }
+        ensures cause { LengthFails self.old self.new result }
+        ensures counted { LengthCounts self.old self.new result }
+    {
+        match self.files.len(name) {
+            Ok(n) if n <= LIMIT => Length::Is(n),
+            Err(e) if e.kind() == ErrorKind::NotFound => Length::Absent,
+            _ => {
+                self.files.forget(name);
+                self.count();
+                Length::Failed
+            }
+        }
+    }
+
+    fn read_at(&mut self, name: &str, at: u64, into: &mut [u8]) -> ReadAt
+        ensures amount { IsAmountAt result (length into.old) }
+        ensures limit { IsReadWithin at result }
+        ensures faults { self.old ≤ self.new }
+        ensures cause { ReadAtFails self.old self.new result }
+        ensures counted { ReadAtCounts self.old self.new result }
+    {
+        match self.files.read_at(name, at, into) {
+            Ok(n) if n == 0 || at.saturating_add(n as u64) <= LIMIT => ReadAt::Got(n),
+            Err(e) if e.kind() == ErrorKind::NotFound => ReadAt::Got(0),
+            _ => {
+                self.files.forget(name);
+                self.count();
+                ReadAt::Failed
+            }
+        }
+    }
+
+    fn write_at(&mut self, name: &str, at: u64, from: &[u8]) -> Did
+        ensures limit { IsWithin (at + length from.now) result }
+        ensures faults { self.old ≤ self.new }
+        ensures cause { DidFails self.old self.new result }
+        ensures counted { DidCounts self.old self.new result }
+    {
+        let outcome = self.files.write_at(name, at, from);
+        self.answer(name, outcome)
+    }
+
+    fn cut(&mut self, name: &str, to: u64) -> Did
+        ensures limit { IsWithin to result }
+        ensures faults { self.old ≤ self.new }
+        ensures cause { DidFails self.old self.new result }
+        ensures counted { DidCounts self.old self.new result }
+    {
+        let outcome = self.files.cut(name, to);
+        self.answer(name, outcome)
+    }
+
+    fn sync(&mut self, name: &str) -> Did
+        ensures faults { self.old ≤ self.new }
+        ensures cause { DidFails self.old self.new result }
+        ensures counted { DidCounts self.old self.new result }
+    {
+        let outcome = self.files.sync(name);
+        self.answer(name, unless_absent(outcome))
+    }
+
+    fn sync_names(&mut self) -> Did
+        ensures faults { self.old ≤ self.new }
+        ensures cause { DidFails self.old self.new result }
+        ensures counted { DidCounts self.old self.new result }
+    {
+        match self.files.sync_names() {
+            Ok(()) => Did::Done,
+            Err(_) => {
+                self.count();
+                Did::Failed
+            }
+        }
+    }
+
+    fn rename(&mut self, from: &str, to: &str) -> Did
+        ensures faults { self.old ≤ self.new }
+        ensures cause { DidFails self.old self.new result }
+        ensures counted { DidCounts self.old self.new result }
+    {
+        let outcome = self.files.rename(from, to);
+        self.answer(from, unless_absent(outcome))
+    }
+
+    fn remove(&mut self, name: &str) -> Did
+        ensures faults { self.old ≤ self.new }
+        ensures cause { DidFails self.old self.new result }
+        ensures counted { DidCounts self.old self.new result }
+    {
+        let outcome = self.files.remove(name);
+        self.answer(name, unless_absent(outcome))
+    }
+}

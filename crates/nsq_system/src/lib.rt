@@ -1,0 +1,17 @@
+//! What the operating system gives, behind the traits of the outside: sockets, listeners, a folder on disk and a clock.
+//!
+//! These objects tell no content, and count their faults.
+#![tactic(auto)]
+
+mod dir_folder;
+mod listeners;
+mod open_files;
+mod sys_clock;
+mod tcp_conn;
+mod tcp_dialer;
+
+pub use dir_folder::DirFolder;
+pub use listeners::Listeners;
+pub use sys_clock::SysClock;
+pub use tcp_conn::TcpConn;
+pub use tcp_dialer::TcpDialer;

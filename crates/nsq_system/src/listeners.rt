@@ -1,0 +1,221 @@
+ghost use Rattle.std.specs.Prelude.{◌≡◌, ◌≤◌, IfOk, is_some};
+ghost use Rattle.nsq_system.specs.Listeners.{IsHeardStream, IsOfKind};
+ghost use Rattle.nsq_outside.specs.Hosts.{AcceptFails, AcceptCounts};
+
+use crate::tcp_conn::TcpConn;
+use mio::net::TcpListener;
+use mio::{Events, Interest, Poll, Token};
+use nsq_outside::{Accept, Kind};
+use std::alloc::Global;
+use std::io::ErrorKind;
+use std::net::{Net, SocketAddr, TcpStream, ToSocketAddrs};
+use std::time::{Clock, Duration};
+use std::{io, thread};
+
+/// The tokens of the listeners in their poll.
+const TCP: Token = Token(0);
+
+const HTTP: Token = Token(1);
+
+/// How long `accept` waits for a caller, in milliseconds.
+const ACCEPT_WAIT: u64 = 20;
+
+/// How long `accept` pauses where the system is out of descriptors or memory, in milliseconds: it would fail again at once.
+const SHORTAGE_PAUSE: u64 = 10;
+
+/// How often an accept whose caller was lost is tried again at once.
+const MOST_TRIES: u32 = 100;
+
+// Linux's numbers of the errors that have no kind of their own.
+const ENFILE: i32 = 23;
+
+const EMFILE: i32 = 24;
+
+const EPROTO: i32 = 71;
+
+const ENOBUFS: i32 = 105;
+
+/// The listeners of a daemon: one for the TCP protocol, and one for HTTP where there is one. Each has the longest backlog
+/// that the system allows. `N` is the runtime.
+#[derive(Drop)]
+pub struct Listeners<N> {
+    rt: N,
+    alloc: Global,
+    tcp: TcpListener,
+    http: Option<TcpListener>,
+    poll: Poll,
+    events: Events,
+    faults: u64,
+}
+
+/// What a try to accept gave.
+#[derive(Drop)]
+enum Tried {
+    /// A caller's stream.
+    Stream(Kind, TcpStream),
+    /// Nobody called yet.
+    Nobody,
+    /// The system is out of descriptors or memory.
+    Shortage,
+    /// The listener failed.
+    Broken,
+}
+
+impl<N: Net + Clock> Listeners<N> {
+    ghost use Rattle.nsq_system.specs.Listeners.{accept_faults_of, has_http, IsFreshTcpCaller, IsNewTcpCaller, IsHeard, Speaks, GoesOn};
+
+    /// Opens the listeners at these addresses, as `127.0.0.1:4150`. Of a name's addresses it takes the first that can be
+    /// bound. The error is that of a name that can't be resolved, of the last address that can't be bound, or another of the
+    /// system's, or want of memory.
+    pub fn open(rt: N, alloc: Global, tcp: &str, http: Option<&str>) -> io::Result<Listeners<N>>
+    where
+        N: Drop,
+        ensures faults { IfOk result (λ listeners. accept_faults_of listeners ≡ 0) }
+        ensures http { IfOk result (λ listeners. has_http listeners ≡ is_some http.entry) }
+    {
+        let poll = Poll::new(&rt)?;
+        let tcp = listen(&rt, &poll, tcp, TCP)?;
+        let http = match http {
+            Some(address) => Some(listen(&rt, &poll, address, HTTP)?),
+            None => None,
+        };
+        let events = Events::with_capacity(alloc, 2)?;
+        Ok(Listeners {
+            rt,
+            alloc,
+            tcp,
+            http,
+            poll,
+            events,
+            faults: 0,
+        })
+    }
+
+    /// Waits up to 20 ms for a caller. A caller whose connection can't be made, for want of memory or descriptors, is
+    /// dropped, and a system that is out of either is given some time: both are `Nothing`.
+    pub fn accept(&mut self) -> Accept<TcpConn>
+        ensures fresh { IsFreshTcpCaller result }
+        ensures unused { IsNewTcpCaller result }
+        ensures speaks { Speaks result }
+        ensures goes_on { GoesOn result }
+        ensures heard { IsHeard (has_http self.old) result }
+        ensures http { has_http self.new ≡ has_http self.old }
+        ensures faults { accept_faults_of self.old ≤ accept_faults_of self.new }
+        ensures cause { AcceptFails (accept_faults_of self.old) (accept_faults_of self.new) result }
+        ensures counted { AcceptCounts (accept_faults_of self.old) (accept_faults_of self.new) result }
+    {
+        match self.next_caller() {
+            Tried::Stream(kind, stream) => {
+                match TcpConn::new(&self.rt, self.alloc, stream, kind) {
+                    Ok(conn) => Accept::Caller(kind, conn),
+                    Err(_) => Accept::Nothing,
+                }
+            }
+            Tried::Nobody => Accept::Nothing,
+            Tried::Shortage => {
+                thread::sleep(&self.rt, Duration::from_millis(SHORTAGE_PAUSE));
+                Accept::Nothing
+            }
+            Tried::Broken => {
+                self.faults = self.faults.saturating_add(1);
+                Accept::Failed
+            }
+        }
+    }
+
+    /// The address of the listener of the TCP protocol, with the port that it got where 0 was asked for.
+    pub fn tcp_address(&self) -> io::Result<SocketAddr> {
+        self.tcp.local_addr()
+    }
+
+    /// The address of the listener of HTTP, where there is one.
+    pub fn http_address(&self) -> io::Result<Option<SocketAddr>>
+        ensures { IfOk result (λ address. is_some address ≡ has_http self.now) }
+    {
+        match &self.http {
+            Some(listener) => Ok(Some(listener.local_addr()?)),
+            None => Ok(None),
+        }
+    }
+
+    /// A caller of either listener, after a wait where nobody called yet.
+    fn next_caller(&mut self) -> Tried
+        ensures faults { accept_faults_of self.new ≡ accept_faults_of self.old }
+        ensures heard { IsHeardStream (has_http self.old) result }
+        ensures http { has_http self.new ≡ has_http self.old }
+    {
+        match try_both(&self.tcp, &self.http) {
+            Tried::Nobody => {}
+            tried => return tried,
+        }
+        let most = Duration::from_millis(ACCEPT_WAIT);
+        if self.poll.poll(&mut self.events, Some(most)).is_err() {
+            return Tried::Broken;
+        }
+        try_both(&self.tcp, &self.http)
+    }
+}
+
+/// A listener at one of these addresses, in the poll under a token.
+fn listen<N: Net>(rt: &N, poll: &Poll, address: &str, token: Token) -> io::Result<TcpListener> {
+    let mut listener = bind(rt, address)?;
+    poll.registry()
+        .register(&mut listener, token, Interest::READABLE)?;
+    Ok(listener)
+}
+
+/// A listener at the first of these addresses that can be bound.
+fn bind<N: Net>(rt: &N, address: &str) -> io::Result<TcpListener> {
+    let mut last = io::Error::from(ErrorKind::InvalidInput);
+    for address in address.to_socket_addrs(rt)? {
+        match TcpListener::bind(rt, address) {
+            Ok(listener) => return Ok(listener),
+            Err(error) => last = error,
+        }
+    }
+    Err(last)
+}
+
+/// A caller of the first listener, or else of the second.
+fn try_both(tcp: &TcpListener, http: &Option<TcpListener>) -> Tried
+    ensures { IsHeardStream (is_some http.now) result }
+{
+    match (try_accept(tcp, Kind::Tcp), http) {
+        (Tried::Nobody, Some(http)) => try_accept(http, Kind::Http),
+        (tried, _) => tried,
+    }
+}
+
+/// A caller of a listener, if one waits. A caller that was lost before it was accepted is passed over.
+fn try_accept(listener: &TcpListener, kind: Kind) -> Tried
+    ensures { IsOfKind kind result }
+{
+    for _ in 0..MOST_TRIES {
+        match listener.accept() {
+            Ok((stream, _)) => return Tried::Stream(kind, TcpStream::from(stream)),
+            Err(error) if error.kind() == ErrorKind::WouldBlock => return Tried::Nobody,
+            Err(error) if is_shortage(&error) => return Tried::Shortage,
+            Err(error) if is_lost_caller(&error) => {}
+            Err(_) => return Tried::Broken,
+        }
+    }
+    Tried::Nobody
+}
+
+/// Whether the system is out of descriptors or memory.
+fn is_shortage(error: &io::Error) -> bool {
+    error.kind() == ErrorKind::OutOfMemory
+        || matches!(error.raw_os_error(), Some(ENFILE | EMFILE | ENOBUFS))
+}
+
+/// Whether an accept was interrupted, or gave an error of its caller's connection or network, as Linux's accept(2) passes on.
+fn is_lost_caller(error: &io::Error) -> bool {
+    match error.kind() {
+        ErrorKind::Interrupted
+        | ErrorKind::ConnectionAborted
+        | ErrorKind::NetworkDown
+        | ErrorKind::NetworkUnreachable
+        | ErrorKind::HostUnreachable => true,
+        _ => error.raw_os_error() == Some(EPROTO),
+    }
+}

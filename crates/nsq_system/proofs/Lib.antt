@@ -1,1 +1,3 @@
+pub mod ClosedFiles
+pub mod Deliveries
 pub mod ErrorFrames

@@ -1,4 +1,8 @@
+pub mod Answers
+pub mod OpenFiles
 pub mod Frames
+pub mod Sendings
+pub mod Outboxes
 pub mod TcpConns
 pub mod TcpDialers
 pub mod SysClocks

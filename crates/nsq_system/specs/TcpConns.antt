@@ -3,6 +3,7 @@ use Rattle.std.specs.Prelude.{ℕ, ◌≡◌, ◌≢◌, ◌+◌, ◌≤◌, ◌
 use Rattle.nsq_outside.specs.Causes.{CountsFault}
 use Rattle.nsq_outside.specs.Hosts.{IsFresh}
 use Rattle.nsq_system.specs.Frames.{EndsInError}
+use Rattle.nsq_system.specs.Outboxes.{gathered_in, is_broken, faults_in}
 use Rattle.nsq_outside.specs.declared.conn.Read.{Read}
 use Rattle.nsq_outside.specs.declared.conn.Read.TheVariants.{Failed as NotRead}
 use Rattle.nsq_outside.specs.declared.conn.Write.{Write}
@@ -20,11 +21,11 @@ kind_of conn = conn.kind
 
 -- the bytes that were taken and aren't sent yet
 abbrev pub gathered_of : TcpConn → List ℕ
-gathered_of conn = conn.gathered.items
+gathered_of conn = gathered_in conn.outbox
 
 -- whether a read or a send failed, after which nothing is read or sent any more
 abbrev pub broken_of : TcpConn → Bool
-broken_of conn = conn.broken
+broken_of conn = is_broken conn.outbox
 
 -- how often a read failed
 abbrev pub read_faults_of : TcpConn → ℕ
@@ -32,7 +33,7 @@ read_faults_of conn = conn.read_faults.count
 
 -- how often a write failed
 abbrev pub write_faults_of : TcpConn → ℕ
-write_faults_of conn = conn.write_faults.count
+write_faults_of conn = faults_in conn.outbox
 
 -- a TCP connection doesn't tell the pieces that were read
 abbrev pub no_pieces : TcpConn → List (List ℕ)
@@ -45,12 +46,6 @@ no_bytes conn = []
 -- nothing was read or written yet, and nothing failed
 abbrev pub IsFreshTcpConn : TcpConn → Type 0
 IsFreshTcpConn conn = IsFresh no_pieces ended_of no_bytes read_faults_of write_faults_of conn
-
--- bytes that were taken, all of them, stand behind those that were gathered before, or behind none after these were sent; or nothing is
--- gathered any more. Those that weren't taken don't stand there
-abbrev pub Gathers : List ℕ → List ℕ → List ℕ → Write → Type 0
-Gathers before now from (Took n) = ((n ≡ length from) × ((now ≡ before ++ from) ⊎ (now ≡ from))) ⊎ (now ≡ [])
-Gathers before now from Failed = (now ≡ before) ⊎ (now ≡ [])
 
 -- where bytes were taken and the count of write faults rose nevertheless, the connection is broken
 abbrev pub TookBreaks : TcpConn → TcpConn → Write → Type 0
@@ -68,16 +63,6 @@ abbrev pub SendsFirst : TcpConn → TcpConn → Read → Type 0
 SendsFirst old new result =
     ((gathered_of old ≢ []) × CountsFault (write_faults_of old) (write_faults_of new) true × (broken_of new ≡ true))
     ⊎ (CountsFault (write_faults_of old) (write_faults_of new) false × (broken_of new ≡ true → (broken_of old ≡ true) ⊎ (result ≡ NotRead)))
-
--- bytes that were taken and end in an error frame are sent at once
-abbrev pub SendsErrors : List ℕ → List ℕ → Write → Type 0
-SendsErrors from now (Took n) = EndsInError from → now ≡ []
-SendsErrors from now Failed = Unit {0}
-
--- bytes that were taken, don't end in one, and fit behind those that were gathered before stand there
-abbrev pub KeepsOthers : List ℕ → List ℕ → List ℕ → Write → Type 0
-KeepsOthers before now from (Took n) = length before + length from ≤ 16384 → (EndsInError from → ⊥) → now ≡ before ++ from
-KeepsOthers before now from Failed = Unit {0}
 
 -- nothing is gathered and nothing failed yet
 abbrev pub IsNewTcpConn : TcpConn → Type 0

@@ -1,7 +1,8 @@
-ghost use Rattle.std.specs.Prelude.{◌≡◌, ◌≤◌, OnErr, None, true, false, IfOk};
+ghost use Rattle.std.specs.Prelude.{◌≡◌, ◌≤◌, OnOk, OnErr, None, true, false, IfOk};
 ghost use Rattle.nsq_outside.specs.Causes.{DidFails, Rose, CountsFault, DidCounts};
 
-use crate::open_files::{LIMIT, OpenFiles};
+use crate::answers::{length_of, read_of, unless_absent};
+use crate::open_files::OpenFiles;
 use nsq_base::Memory;
 use nsq_outside::{Did, Faults, Folder, Length, Listing, ReadAt};
 use std::alloc::Global;
@@ -62,9 +63,10 @@ where
         self.faults.add();
     }
 
-    /// The answer of a call on a file, which is closed after an error.
-    fn answer(&mut self, name: &str, outcome: io::Result<()>) -> Did
+    /// The answer of a call. An error is counted.
+    fn answer(&mut self, outcome: io::Result<()>) -> Did
         ensures failed { OnErr outcome (result ≡ Did.Failed) }
+        ensures done { OnOk outcome (result ≡ Did.Done) }
         ensures faults { self.old.count ≤ self.new.count }
         ensures cause { DidFails self.old.count self.new.count result }
         ensures counted { DidCounts self.old.count self.new.count result }
@@ -72,19 +74,10 @@ where
         match outcome {
             Ok(()) => Did::Done,
             Err(_) => {
-                self.files.forget(name);
                 self.count();
                 Did::Failed
             }
         }
-    }
-}
-
-/// A call on an absent file does nothing, and is no error.
-fn unless_absent(outcome: io::Result<()>) -> io::Result<()> {
-    match outcome {
-        Err(e) if e.kind() == ErrorKind::NotFound => Ok(()),
-        other => other,
     }
 }
 
@@ -128,15 +121,11 @@ where
         ensures cause { LengthFails self.old.count self.new.count result }
         ensures counted { LengthCounts self.old.count self.new.count result }
     {
-        match self.files.len(name) {
-            Ok(n) if n <= LIMIT => Length::Is(n),
-            Err(e) if e.kind() == ErrorKind::NotFound => Length::Absent,
-            _ => {
-                self.files.forget(name);
-                self.count();
-                Length::Failed
-            }
+        let length = length_of(self.files.len(name));
+        if length == Length::Failed {
+            self.count();
         }
+        length
     }
 
     fn read_at(&mut self, name: &str, at: u64, into: &mut [u8]) -> ReadAt
@@ -146,15 +135,11 @@ where
         ensures cause { ReadAtFails self.old.count self.new.count result }
         ensures counted { ReadAtCounts self.old.count self.new.count result }
     {
-        match self.files.read_at(name, at, into) {
-            Ok(n) if n == 0 || at.saturating_add(n as u64) <= LIMIT => ReadAt::Got(n),
-            Err(e) if e.kind() == ErrorKind::NotFound => ReadAt::Got(0),
-            _ => {
-                self.files.forget(name);
-                self.count();
-                ReadAt::Failed
-            }
+        let read = read_of(self.files.read_at(name, at, into));
+        if read == ReadAt::Failed {
+            self.count();
         }
+        read
     }
 
     fn write_at(&mut self, name: &str, at: u64, from: &[u8]) -> Did
@@ -164,7 +149,7 @@ where
         ensures counted { DidCounts self.old.count self.new.count result }
     {
         let outcome = self.files.write_at(name, at, from);
-        self.answer(name, outcome)
+        self.answer(outcome)
     }
 
     fn cut(&mut self, name: &str, to: u64) -> Did
@@ -174,7 +159,7 @@ where
         ensures counted { DidCounts self.old.count self.new.count result }
     {
         let outcome = self.files.cut(name, to);
-        self.answer(name, outcome)
+        self.answer(outcome)
     }
 
     fn sync(&mut self, name: &str) -> Did
@@ -183,7 +168,7 @@ where
         ensures counted { DidCounts self.old.count self.new.count result }
     {
         let outcome = self.files.sync(name);
-        self.answer(name, unless_absent(outcome))
+        self.answer(unless_absent(outcome))
     }
 
     fn sync_names(&mut self) -> Did
@@ -191,13 +176,8 @@ where
         ensures cause { DidFails self.old.count self.new.count result }
         ensures counted { DidCounts self.old.count self.new.count result }
     {
-        match self.files.sync_names() {
-            Ok(()) => Did::Done,
-            Err(_) => {
-                self.count();
-                Did::Failed
-            }
-        }
+        let outcome = self.files.sync_names();
+        self.answer(outcome)
     }
 
     fn rename(&mut self, from: &str, to: &str) -> Did
@@ -206,7 +186,7 @@ where
         ensures counted { DidCounts self.old.count self.new.count result }
     {
         let outcome = self.files.rename(from, to);
-        self.answer(from, unless_absent(outcome))
+        self.answer(unless_absent(outcome))
     }
 
     fn remove(&mut self, name: &str) -> Did
@@ -215,7 +195,7 @@ where
         ensures counted { DidCounts self.old.count self.new.count result }
     {
         let outcome = self.files.remove(name);
-        self.answer(name, unless_absent(outcome))
+        self.answer(unless_absent(outcome))
     }
 
     ghost folder_faults_fit = { λ folder. folder.fits };

@@ -3,15 +3,20 @@
 //! These objects tell no content, and count their faults.
 #![tactic(auto)]
 
+mod answers;
 mod dir_folder;
+mod error_frames;
 mod listeners;
 mod open_files;
+mod outbox;
 mod sys_clock;
 mod tcp_conn;
 mod tcp_dialer;
 
+pub use answers::{NoCaller, no_caller};
 pub use dir_folder::DirFolder;
 pub use listeners::Listeners;
+pub use outbox::Outbox;
 pub use sys_clock::SysClock;
 pub use tcp_conn::TcpConn;
 pub use tcp_dialer::TcpDialer;

@@ -2,6 +2,7 @@ ghost use Rattle.std.specs.Prelude.{◌≡◌, ◌≤◌, IfOk, is_some};
 ghost use Rattle.nsq_system.specs.Listeners.{IsHeardStream, IsOfKind};
 ghost use Rattle.nsq_outside.specs.Hosts.{AcceptFails, AcceptCounts};
 
+use crate::answers::{NoCaller, no_caller};
 use crate::tcp_conn::TcpConn;
 use mio::net::TcpListener;
 use mio::{Events, Interest, Poll, Token};
@@ -25,15 +26,6 @@ const SHORTAGE_PAUSE: u64 = 10;
 
 /// How often an accept whose caller was lost is tried again at once.
 const MOST_TRIES: u32 = 100;
-
-// Linux's numbers of the errors that have no kind of their own.
-const ENFILE: i32 = 23;
-
-const EMFILE: i32 = 24;
-
-const EPROTO: i32 = 71;
-
-const ENOBUFS: i32 = 105;
 
 /// The listeners of a daemon: one for the TCP protocol, and one for HTTP where there is one. Each has the longest backlog
 /// that the system allows. `N` is the runtime.
@@ -200,29 +192,13 @@ fn try_accept(listener: &TcpListener, kind: Kind) -> Tried
     for _ in 0..MOST_TRIES {
         match listener.accept() {
             Ok((stream, _)) => return Tried::Stream(kind, TcpStream::from(stream)),
-            Err(error) if error.kind() == ErrorKind::WouldBlock => return Tried::Nobody,
-            Err(error) if is_shortage(&error) => return Tried::Shortage,
-            Err(error) if is_lost_caller(&error) => {}
-            Err(_) => return Tried::Broken,
+            Err(error) => match no_caller(&error) {
+                NoCaller::Nobody => return Tried::Nobody,
+                NoCaller::Lost => {}
+                NoCaller::Shortage => return Tried::Shortage,
+                NoCaller::Broken => return Tried::Broken,
+            },
         }
     }
     Tried::Nobody
-}
-
-/// Whether the system is out of descriptors or memory.
-fn is_shortage(error: &io::Error) -> bool {
-    error.kind() == ErrorKind::OutOfMemory
-        || matches!(error.raw_os_error(), Some(ENFILE | EMFILE | ENOBUFS))
-}
-
-/// Whether an accept was interrupted, or gave an error of its caller's connection or network, as Linux's accept(2) passes on.
-fn is_lost_caller(error: &io::Error) -> bool {
-    match error.kind() {
-        ErrorKind::Interrupted
-        | ErrorKind::ConnectionAborted
-        | ErrorKind::NetworkDown
-        | ErrorKind::NetworkUnreachable
-        | ErrorKind::HostUnreachable => true,
-        _ => error.raw_os_error() == Some(EPROTO),
-    }
 }

@@ -1,5 +1,7 @@
-ghost use Rattle.std.specs.Prelude.{◌≡◌, ◌+◌, ◌^◌, ◌≤◌, ◌++◌, ◌∷◌, [], length, IfOk, OnOk, OnErr, string_bytes};
+ghost use Rattle.std.specs.Prelude.{◌≡◌, ◌+◌, ◌^◌, ◌≤◌, ◌⊎◌, ◌++◌, ◌∷◌, [], List, ℕ, length, Contains, IfOk, OnOk, OnErr, string_bytes};
+ghost use Rattle.nsq_system.specs.OpenFiles.{IsClosed};
 
+use crate::answers::{PartRead, after_read};
 use lru::LruCache;
 use nsq_base::Memory;
 use std::alloc::Global;
@@ -18,7 +20,8 @@ pub const LIMIT: u64 = 1 << 62;
 
 /// The files of a folder on disk, some of them open.
 ///
-/// Each call says by `ErrorKind::NotFound` that a file is absent.
+/// Each call says by `ErrorKind::NotFound` that a file is absent. A file is closed when it is renamed or removed, when another
+/// takes its name, and after each error of a call on it.
 #[derive(Drop)]
 pub struct OpenFiles<R: Files> {
     rt: R,
@@ -81,10 +84,26 @@ where
     }
 
     /// Closes a file, where it's open.
-    pub fn forget(&mut self, name: &str)
+    fn forget(&mut self, name: &str)
+        ensures closed { IsClosed self.new.opened.entries name.now }
+        ensures others { (other : List ℕ) → IsClosed self.old.opened.entries other → IsClosed self.new.opened.entries other }
         ensures folder { self.new.folder ≡ self.old.folder }
     {
+        // Its contract says that no name is there twice.
+        let _ = self.opened.len();
         let _ = self.opened.pop(name);
+    }
+
+    /// The outcome of a call on a file, which is closed after an error.
+    fn settled<T>(&mut self, name: &str, outcome: io::Result<T>) -> io::Result<T>
+        ensures same { result ≡ outcome }
+        ensures closed { OnErr result (IsClosed self.new.opened.entries name.now) }
+        ensures folder { self.new.folder ≡ self.old.folder }
+    {
+        if outcome.is_err() {
+            self.forget(name);
+        }
+        outcome
     }
 
     /// The names of the regular files.
@@ -103,28 +122,68 @@ where
         Ok(names)
     }
 
-    /// The number of bytes of a file.
+    /// The number of bytes of a file. It is an error where there are more than 2^62.
     pub fn len(&mut self, name: &str) -> io::Result<u64>
+        ensures limit { IfOk result (λ n. n ≤ 2 ^ 62) }
+        ensures closed { OnErr result (IsClosed self.new.opened.entries name.now) }
         ensures folder { self.new.folder ≡ self.old.folder }
     {
-        self.open(name, false)?;
-        let about = opened_file(&mut self.opened, name)?.metadata()?;
-        Ok(about.len())
+        let length = self.length(name);
+        self.settled(name, length)
     }
 
-    /// Reads the bytes from a place on, as many as fit and stand there.
-    pub fn read_at(&mut self, name: &str, at: u64, into: &mut [u8]) -> io::Result<usize>
+    /// The number of bytes of a file, after it was opened.
+    fn length(&mut self, name: &str) -> io::Result<u64>
+        ensures limit { IfOk result (λ n. n ≤ 2 ^ 62) }
         ensures folder { self.new.folder ≡ self.old.folder }
-        ensures amount { IfOk result (λ n. n ≤ length into.old) }
     {
         self.open(name, false)?;
-        read_whole(opened_file(&mut self.opened, name)?, at, into)
+        let length = opened_file(&mut self.opened, name)?.metadata()?.len();
+        if length > LIMIT {
+            return Err(ErrorKind::FileTooLarge.into());
+        }
+        Ok(length)
+    }
+
+    /// Reads the bytes from a place on, as many as fit and stand there. It is an error where they end past 2^62.
+    pub fn read_at(&mut self, name: &str, at: u64, into: &mut [u8]) -> io::Result<usize>
+        ensures amount { IfOk result (λ n. n ≤ length into.old) }
+        ensures limit { IfOk result (λ n. (n ≡ 0) ⊎ (at + n ≤ 2 ^ 62)) }
+        ensures closed { OnErr result (IsClosed self.new.opened.entries name.now) }
+        ensures folder { self.new.folder ≡ self.old.folder }
+    {
+        let count = self.read(name, at, into);
+        self.settled(name, count)
+    }
+
+    /// Reads the bytes from a place on, after the file was opened.
+    fn read(&mut self, name: &str, at: u64, into: &mut [u8]) -> io::Result<usize>
+        ensures amount { IfOk result (λ n. n ≤ length into.old) }
+        ensures limit { IfOk result (λ n. (n ≡ 0) ⊎ (at + n ≤ 2 ^ 62)) }
+        ensures folder { self.new.folder ≡ self.old.folder }
+    {
+        self.open(name, false)?;
+        let count = read_whole(opened_file(&mut self.opened, name)?, at, into)?;
+        if count > 0 && at.saturating_add(count as u64) > LIMIT {
+            return Err(ErrorKind::FileTooLarge.into());
+        }
+        Ok(count)
     }
 
     /// Writes bytes at a place, all of them. The file reaches up to the place, also where there are none.
     pub fn write_at(&mut self, name: &str, at: u64, from: &[u8]) -> io::Result<()>
-        ensures folder { self.new.folder ≡ self.old.folder }
         ensures limit { OnOk result (at + length from.now ≤ 2 ^ 62) }
+        ensures closed { OnErr result (IsClosed self.new.opened.entries name.now) }
+        ensures folder { self.new.folder ≡ self.old.folder }
+    {
+        let written = self.write(name, at, from);
+        self.settled(name, written)
+    }
+
+    /// Writes bytes at a place, after the file was opened.
+    fn write(&mut self, name: &str, at: u64, from: &[u8]) -> io::Result<()>
+        ensures limit { OnOk result (at + length from.now ≤ 2 ^ 62) }
+        ensures folder { self.new.folder ≡ self.old.folder }
     {
         if at > LIMIT || from.len() as u64 > LIMIT - at {
             return Err(ErrorKind::FileTooLarge.into());
@@ -141,7 +200,7 @@ where
         ensures folder { self.new.folder ≡ self.old.folder }
     {
         self.open(name, true)?;
-        if self.len(name)? < to {
+        if self.length(name)? < to {
             self.cut(name, to)?;
         }
         Ok(())
@@ -149,22 +208,26 @@ where
 
     /// Gives a file a number of bytes. It creates an absent file, which is removed again where it can't have so many.
     pub fn cut(&mut self, name: &str, to: u64) -> io::Result<()>
-        ensures folder { self.new.folder ≡ self.old.folder }
         ensures limit { OnOk result (to ≤ 2 ^ 62) }
+        ensures closed { OnErr result (IsClosed self.new.opened.entries name.now) }
+        ensures folder { self.new.folder ≡ self.old.folder }
+    {
+        let cut = self.cut_or_create(name, to);
+        self.settled(name, cut)
+    }
+
+    /// Gives a file a number of bytes, or makes an absent one of so many zeros. Where it can't have them it is removed again.
+    fn cut_or_create(&mut self, name: &str, to: u64) -> io::Result<()>
+        ensures limit { OnOk result (to ≤ 2 ^ 62) }
+        ensures folder { self.new.folder ≡ self.old.folder }
     {
         if to > LIMIT {
             return Err(ErrorKind::FileTooLarge.into());
         }
         match self.set_len(name, to, false) {
-            Err(error) if error.kind() == ErrorKind::NotFound => self.create(name, to),
-            outcome => outcome,
+            Err(error) if error.kind() == ErrorKind::NotFound => {}
+            outcome => return outcome,
         }
-    }
-
-    /// Makes an absent file of a number of zeros. Where it can't have them it is removed again.
-    fn create(&mut self, name: &str, to: u64) -> io::Result<()>
-        ensures folder { self.new.folder ≡ self.old.folder }
-    {
         let made = self.set_len(name, to, true);
         if made.is_err() {
             let _ = self.remove(name);
@@ -182,6 +245,15 @@ where
 
     /// Makes the bytes of a file durable.
     pub fn sync(&mut self, name: &str) -> io::Result<()>
+        ensures closed { OnErr result (IsClosed self.new.opened.entries name.now) }
+        ensures folder { self.new.folder ≡ self.old.folder }
+    {
+        let synced = self.sync_file(name);
+        self.settled(name, synced)
+    }
+
+    /// Makes the bytes of a file durable, after it was opened.
+    fn sync_file(&mut self, name: &str) -> io::Result<()>
         ensures folder { self.new.folder ≡ self.old.folder }
     {
         self.open(name, false)?;
@@ -193,8 +265,10 @@ where
         fs::open(&self.rt, self.folder.as_str())?.sync_all()
     }
 
-    /// Gives the file `from` the name `to`.
+    /// Gives the file `from` the name `to`. Neither is open then.
     pub fn rename(&mut self, from: &str, to: &str) -> io::Result<()>
+        ensures closed { IsClosed self.new.opened.entries from.now }
+        ensures replaced { IsClosed self.new.opened.entries to.now }
         ensures folder { self.new.folder ≡ self.old.folder }
     {
         self.forget(from);
@@ -204,8 +278,9 @@ where
         self.rt.rename(self.path.as_str(), self.new_path.as_str())
     }
 
-    /// Removes a file.
+    /// Removes a file. It isn't open then.
     pub fn remove(&mut self, name: &str) -> io::Result<()>
+        ensures closed { IsClosed self.new.opened.entries name.now }
         ensures folder { self.new.folder ≡ self.old.folder }
     {
         self.forget(name);
@@ -223,8 +298,11 @@ fn opened_file<'a, F>(opened: &'a mut LruCache<String, F>, name: &str) -> io::Re
 }
 
 /// Writes the path of a file. A name with a slash would leave the folder, and is refused.
-fn set_path(path: &mut String, folder: &str, name: &str) -> io::Result<()> {
-    if name.contains('/') {
+fn set_path(path: &mut String, folder: &str, name: &str) -> io::Result<()>
+    ensures path { OnOk result (string_bytes path.new ≡ folder.now ++ name.now) }
+    ensures slash { Contains name.now 47 → OnOk result ⊥ }
+{
+    if name.as_bytes().contains(&b'/') {
         return Err(ErrorKind::InvalidInput.into());
     }
     path.clear();
@@ -245,11 +323,11 @@ fn read_whole<F: FileExt>(file: &F, at: u64, into: &mut [u8]) -> io::Result<usiz
         if got == into.len() {
             break;
         }
-        match file.read_at(&mut into[got..], at.saturating_add(got as u64)) {
-            Ok(0) => break,
-            Ok(n) => got += n,
-            Err(e) if e.kind() == ErrorKind::Interrupted => {}
-            Err(e) => return Err(e),
+        match after_read(file.read_at(&mut into[got..], at.saturating_add(got as u64))) {
+            PartRead::Got(count) => got += count,
+            PartRead::End => break,
+            PartRead::Interrupted => {}
+            PartRead::Failed(error) => return Err(error),
         }
     }
     Ok(got)

@@ -1,5 +1,6 @@
 ghost use Rattle.std.specs.Prelude.{◌≡◌, false};
 
+use crate::answers::reading;
 use nsq_outside::Clock;
 use std::rt::Clock as SystemClock;
 
@@ -33,9 +34,7 @@ impl<R: SystemClock + Send> Clock for SysClock<R> {
     fn now(&mut self) -> u64
         ensures { result ≡ last_of self.new }
     {
-        if let Ok(time) = self.rt.since_1970() {
-            self.last = time.as_nanos().min(u64::MAX as u128) as u64;
-        }
+        self.last = reading(self.last, self.rt.since_1970());
         self.last
     }
 }

@@ -1,23 +1,20 @@
-ghost use Rattle.std.specs.Prelude.{◌≡◌, ◌≢◌, ◌+◌, ◌<◌, ◌≤◌, ◌⊎◌, ◌↔◌, [], true, false, IfOk, IsTrue, length, vec_capacity};
-ghost use Rattle.nsq_system.specs.Frames.{EndsInError, number_at};
+ghost use Rattle.std.specs.Prelude.{◌≡◌, ◌≢◌, ◌<◌, ◌≤◌, [], true, IfOk, length};
 ghost use Rattle.nsq_outside.specs.Causes.{DidFails, DidCounts, CountsFault};
-ghost use Rattle.nsq_outside.specs.Streams.{IsAmountRead, IsAmountWritten, WriteFails};
+ghost use Rattle.nsq_outside.specs.Streams.{IsAmountRead};
 
 mod socket;
 
+use crate::outbox::Outbox;
 use mio::unix::SourceFd;
 use mio::{Events, Interest, Poll, Token};
 use nsq_outside::{Conn, Did, Faults, Kind, Read, Sink, Source, Write};
-use socket::{receive, send, send_all};
+use socket::Socket;
 use std::alloc::Global;
 use std::io;
 use std::net::{Net, TcpStream};
 use std::os::fd::AsRawFd;
 use std::sync::Wait;
 use std::time::Duration;
-
-/// The most bytes that are gathered before they are sent.
-const MOST_GATHERED: usize = 16384;
 
 /// How long a read waits for bytes, in milliseconds.
 const READ_WAIT: u64 = 20;
@@ -31,15 +28,6 @@ const SEND_WAIT: u64 = 5;
 /// The token of the stream in the connection's poll.
 const STREAM: Token = Token(0);
 
-/// The bytes at the start of a frame of the TCP protocol that say how long it is.
-const SIZE_LEN: usize = 4;
-
-/// The bytes after the size that say what type a frame has.
-const TYPE_LEN: usize = 4;
-
-/// The type of an error frame.
-const ERROR_FRAME: u32 = 1;
-
 /// A TCP connection. It tells no content.
 ///
 /// A connection of `Kind::Tcp` gathers what is written, up to 16 KiB: it is sent when no more fits, at the next read, at
@@ -51,24 +39,18 @@ const ERROR_FRAME: u32 = 1;
 /// A read waits up to 20 ms for bytes, and a send up to 5 s for the peer to take a byte. After a read or a send failed,
 /// nothing is read or sent any more, so that no byte is missing between two that were sent.
 pub struct TcpConn {
-    stream: TcpStream,
+    outbox: Outbox<Socket>,
     poll: Poll,
     events: Events,
-    // It has room for `MOST_GATHERED` bytes from the start, so that to gather never wants memory.
-    gathered: Vec<u8>,
     kind: Kind,
     // The writes since the last read.
     writes: u32,
     ended: bool,
-    broken: bool,
     read_faults: Faults,
-    write_faults: Faults,
-    ghost bound: { length gathered.items ≤ 16384 },
-    ghost room: { 16384 ≤ vec_capacity gathered },
 }
 
 impl TcpConn {
-    ghost use Rattle.nsq_system.specs.TcpConns.{IsFreshTcpConn, IsNewTcpConn, IsSameConn, Gathers, TookBreaks, BreaksAtErrors, SendsErrors, KeepsOthers, kind_of, gathered_of, ended_of, broken_of, read_faults_of, write_faults_of};
+    ghost use Rattle.nsq_system.specs.TcpConns.{IsFreshTcpConn, IsNewTcpConn, IsSameConn, kind_of, gathered_of, ended_of, broken_of, read_faults_of, write_faults_of};
 
     /// A connection over an open stream. The error is the system's, or want of memory; the stream is closed then.
     pub fn new<N: Net>(rt: &N, alloc: Global, stream: TcpStream, kind: Kind) -> io::Result<TcpConn>
@@ -83,19 +65,14 @@ impl TcpConn {
         let descriptor = stream.as_raw_fd();
         poll.registry()
             .register(&mut SourceFd(&descriptor), STREAM, Interest::READABLE)?;
-        let events = Events::with_capacity(alloc, 1)?;
-        let gathered = Vec::with_capacity(alloc, MOST_GATHERED)?;
         Ok(TcpConn {
-            stream,
+            outbox: Outbox::new(alloc, Socket::new(stream))?,
             poll,
-            events,
-            gathered,
+            events: Events::with_capacity(alloc, 1)?,
             kind,
             writes: 0,
             ended: false,
-            broken: false,
             read_faults: Faults::none(),
-            write_faults: Faults::none(),
         })
     }
 
@@ -110,7 +87,7 @@ impl TcpConn {
     pub fn write_faults(&self) -> u64
         ensures { result ≡ write_faults_of self.now }
     {
-        self.write_faults.count
+        self.outbox.faults()
     }
 
     /// Sends what was gathered, if anything was. It may wait. After `Failed` the gathered bytes are lost.
@@ -129,104 +106,7 @@ impl TcpConn {
         ensures nothing { gathered_of self.old ≡ [] → result ≡ Did.Done }
         ensures failed { broken_of self.old ≡ true → gathered_of self.old ≢ [] → result ≡ Did.Failed }
     {
-        if self.gathered.is_empty() {
-            return Did::Done;
-        }
-        if !self.broken && send_all(&mut self.stream, self.gathered.as_slice()) {
-            self.gathered.clear();
-            return Did::Done;
-        }
-        self.gathered.clear();
-        self.broken = true;
-        self.write_faults.add();
-        Did::Failed
-    }
-
-    /// Makes room for so many bytes more. Where there is too little, what was gathered is sent.
-    fn make_room(&mut self, len: usize) -> Did
-        requires { len ≤ 16384 }
-        ensures room { result ≡ Did.Done → length (gathered_of self.new) + len ≤ 16384 }
-        ensures gathered { (gathered_of self.new ≡ gathered_of self.old) ⊎ (gathered_of self.new ≡ []) }
-        ensures stays { length (gathered_of self.old) + len ≤ 16384 → gathered_of self.new ≡ gathered_of self.old }
-        ensures ended { ended_of self.new ≡ ended_of self.old }
-        ensures read_faults { read_faults_of self.new ≡ read_faults_of self.old }
-        ensures faults { write_faults_of self.old ≤ write_faults_of self.new }
-        ensures cause { DidFails (write_faults_of self.old) (write_faults_of self.new) result }
-        ensures same { IsSameConn self.old self.new }
-        ensures done { result ≡ Did.Done → broken_of self.new ≡ broken_of self.old }
-        ensures settled { result ≡ Did.Done → write_faults_of self.new ≡ write_faults_of self.old }
-        ensures broken { result ≡ Did.Failed → broken_of self.new ≡ true }
-        ensures counted { DidCounts (write_faults_of self.old) (write_faults_of self.new) result }
-    {
-        if len <= MOST_GATHERED - self.gathered.len() {
-            return Did::Done;
-        }
-        self.flush()
-    }
-
-    /// Sends what was gathered, and then a part of these bytes from their front.
-    fn send_through(&mut self, from: &[u8]) -> Write
-        requires { 0 < length from.now }
-        ensures amount { IsAmountWritten result (length from.now) }
-        ensures gathered { gathered_of self.new ≡ [] }
-        ensures ended { ended_of self.new ≡ ended_of self.old }
-        ensures read_faults { read_faults_of self.new ≡ read_faults_of self.old }
-        ensures faults { write_faults_of self.old ≤ write_faults_of self.new }
-        ensures cause { WriteFails (write_faults_of self.old) (write_faults_of self.new) result }
-        ensures same { IsSameConn self.old self.new }
-        ensures failed { broken_of self.old ≡ true → result ≡ Write.Failed }
-        ensures broken { result ≡ Write.Failed → broken_of self.new ≡ true }
-        ensures took { TookBreaks self.old self.new result }
-        ensures counted { CountsFault (write_faults_of self.old) (write_faults_of self.new) (broken_of self.new) }
-        ensures breaks { BreaksAtErrors from.now self.new result }
-    {
-        if self.flush() == Did::Failed {
-            return Write::Failed;
-        }
-        if !self.broken {
-            if let Some(sent) = send(&mut self.stream, from) {
-                return Write::Took(sent);
-            }
-        }
-        self.broken = true;
-        self.write_faults.add();
-        Write::Failed
-    }
-
-    /// Gathers these bytes, after it made room for them; more than there can be room for go through.
-    fn gather(&mut self, from: &[u8]) -> Write
-        requires { 0 < length from.now }
-        ensures amount { IsAmountWritten result (length from.now) }
-        ensures gathered { Gathers (gathered_of self.old) (gathered_of self.new) from.now result }
-        ensures ended { ended_of self.new ≡ ended_of self.old }
-        ensures read_faults { read_faults_of self.new ≡ read_faults_of self.old }
-        ensures faults { write_faults_of self.old ≤ write_faults_of self.new }
-        ensures cause { WriteFails (write_faults_of self.old) (write_faults_of self.new) result }
-        ensures same { IsSameConn self.old self.new }
-        ensures failed { broken_of self.old ≡ true → result ≡ Write.Failed }
-        ensures took { TookBreaks self.old self.new result }
-        ensures errors { SendsErrors from.now (gathered_of self.new) result }
-        ensures room { KeepsOthers (gathered_of self.old) (gathered_of self.new) from.now result }
-        ensures broken { result ≡ Write.Failed → broken_of self.new ≡ true }
-        ensures counted { CountsFault (write_faults_of self.old) (write_faults_of self.new) (broken_of self.new) }
-        ensures breaks { BreaksAtErrors from.now self.new result }
-    {
-        if MOST_GATHERED < from.len() {
-            return self.send_through(from);
-        }
-        if self.make_room(from.len()) == Did::Failed {
-            return Write::Failed;
-        }
-        if self.broken || self.gathered.extend_from_slice(from).is_err() {
-            self.write_faults.add();
-            return Write::Failed;
-        }
-        if !ends_with_error_frame(from) {
-            return Write::Took(from.len());
-        }
-        // A failure shows at the next read: the bytes were taken.
-        let _ = self.flush();
-        Write::Took(from.len())
+        self.outbox.flush()
     }
 
     /// Waits for bytes, at most so long. Without an answer of the system it is `None`, and else whether some came.
@@ -256,15 +136,15 @@ impl TcpConn {
         ensures broken { broken_of self.new ≡ broken_of self.old }
         ensures failed { broken_of self.old ≡ true → result ≡ Read.Failed }
     {
-        if self.broken {
+        if self.outbox.is_broken() {
             return Read::Failed;
         }
-        let first = receive(&mut self.stream, into);
+        let first = self.outbox.writer().receive(into);
         if first != Read::Nothing {
             return first;
         }
         match self.wait(most) {
-            Some(true) => receive(&mut self.stream, into),
+            Some(true) => self.outbox.writer().receive(into),
             Some(false) => Read::Nothing,
             None => Read::Failed,
         }
@@ -319,7 +199,7 @@ impl Source for TcpConn {
         match answer {
             Read::End => self.ended = true,
             Read::Failed => {
-                self.broken = true;
+                self.outbox.stop();
                 self.read_faults.add();
             }
             Read::Got(_) | Read::Nothing => {}
@@ -332,7 +212,8 @@ impl Source for TcpConn {
 
 impl Sink for TcpConn {
     ghost use Rattle.std.specs.Prelude.{false};
-    ghost use Rattle.nsq_system.specs.TcpConns.{Gathers, IsSameConn, TookBreaks, BreaksAtErrors, SendsErrors, KeepsOthers, no_bytes, kind_of, gathered_of, broken_of, ended_of, read_faults_of, write_faults_of};
+    ghost use Rattle.nsq_system.specs.Sendings.{Gathers, SendsErrors, KeepsOthers};
+    ghost use Rattle.nsq_system.specs.TcpConns.{IsSameConn, TookBreaks, BreaksAtErrors, no_bytes, kind_of, gathered_of, broken_of, ended_of, read_faults_of, write_faults_of};
     ghost use Rattle.nsq_outside.specs.Streams.{IsAmountWritten, WriteFails};
 
     ghost tells_written = { false };
@@ -350,7 +231,7 @@ impl Sink for TcpConn {
         ensures read_faults { read_faults_of self.new ≡ read_faults_of self.old }
         ensures faults { write_faults_of self.old ≤ write_faults_of self.new }
         ensures cause { WriteFails (write_faults_of self.old) (write_faults_of self.new) result }
-        ensures gathered { Gathers (gathered_of self.old) (gathered_of self.new) from.now result }
+        ensures gathered { kind_of self.old ≡ Kind.Tcp → Gathers (gathered_of self.old) (gathered_of self.new) from.now result }
         ensures at_once { kind_of self.old ≡ Kind.Http → gathered_of self.new ≡ [] }
         ensures same { IsSameConn self.old self.new }
         ensures failed { broken_of self.old ≡ true → result ≡ Write.Failed }
@@ -363,12 +244,12 @@ impl Sink for TcpConn {
     {
         self.writes = self.writes.saturating_add(1);
         match self.kind {
-            Kind::Tcp => self.gather(from),
-            Kind::Http => self.send_through(from),
+            Kind::Tcp => self.outbox.gather(from),
+            Kind::Http => self.outbox.send_through(from),
         }
     }
 
-    ghost write_faults_fit = { λ conn. conn.write_faults.fits };
+    ghost write_faults_fit = { λ conn. conn.outbox.faults.fits };
 }
 
 impl Conn for TcpConn {
@@ -386,46 +267,13 @@ impl Drop for TcpConn {
         // Nobody is left to be told that the bytes couldn't be sent.
         let _ = self.flush();
         let TcpConn {
-            stream: _stream,
+            outbox: _outbox,
             poll: _poll,
             events: _events,
-            gathered: _gathered,
             kind: _kind,
             writes: _writes,
             ended: _ended,
-            broken: _broken,
             read_faults: _read_faults,
-            write_faults: _write_faults,
         } = self;
-    }
-}
-
-/// Whether these bytes are frames of the TCP protocol, the last of which is an error frame. A frame is 4 bytes of its
-/// size, most significant first, and so many bytes: 4 of its type, and its data (NSQ's TCP protocol page, "Data Format").
-fn ends_with_error_frame(bytes: &[u8]) -> bool
-    ensures ends { EndsInError bytes.now → IsTrue result }
-    ensures only { IsTrue result → EndsInError bytes.now }
-{
-    let mut rest = bytes;
-    while let Some((front, frame)) = rest.split_first_chunk::<SIZE_LEN>() {
-        let size = u32::from_be_bytes(*front) as usize;
-        if frame.len() < size {
-            return false;
-        }
-        if frame.len() == size {
-            return is_error(frame);
-        }
-        rest = &frame[size..];
-    }
-    false
-}
-
-/// Whether a frame, without its size, is an error frame.
-fn is_error(frame: &[u8]) -> bool
-    ensures { IsTrue result ↔ (4 ≤ length frame.now) × (number_at frame.now ≡ 1) }
-{
-    match frame.split_first_chunk::<TYPE_LEN>() {
-        Some((kind, _)) => u32::from_be_bytes(*kind) == ERROR_FRAME,
-        None => false,
     }
 }

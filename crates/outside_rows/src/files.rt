@@ -1,4 +1,5 @@
 //! Rows of the system's files and clock.
 
 mod clock;
+mod disk;
 mod folder;

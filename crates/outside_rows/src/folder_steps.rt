@@ -17,6 +17,8 @@ pub enum Step {
     Len(&'static str, Length),
     /// A read from a place on, and what its buffer holds then. Before, each of its bytes is `-`.
     ReadAt(&'static str, u64, ReadAt, &'static [u8]),
+    /// A read of 4 bytes from a place on that fails, whatever its buffer holds then.
+    ReadFails(&'static str, u64),
     WriteAt(&'static str, u64, &'static [u8], Did),
     Cut(&'static str, u64, Did),
     /// A cut to 2^62 bytes, which most systems refuse, and the length that it leaves there.
@@ -34,6 +36,7 @@ pub fn answers<F: Folder>(alloc: Global, folder: &mut F, step: Step) -> Result<b
         Step::ListFails => list_fails(alloc, folder),
         Step::Len(name, length) => folder.len(name) == length,
         Step::ReadAt(name, at, got, after) => reads(folder, name, at, got, after),
+        Step::ReadFails(name, at) => folder.read_at(name, at, &mut [0; 4]) == ReadAt::Failed,
         Step::WriteAt(name, at, bytes, did) => folder.write_at(name, at, bytes) == did,
         Step::Cut(name, to, did) => folder.cut(name, to) == did,
         Step::CutFar(name, before) => cuts_far(folder, name, before),

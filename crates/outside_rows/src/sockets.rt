@@ -1,5 +1,7 @@
-//! Rows of TCP connections, of what accepts them and of what dials them, over the loopback network.
+//! Rows of TCP connections, of what accepts them and of what dials them, over the loopback network and a writer in memory.
 
+mod answers;
 mod callers;
 mod dials;
+mod outbox;
 mod talks;

@@ -1,5 +1,6 @@
-// Receives and sends on a stream that doesn't block.
-ghost use Rattle.std.specs.Prelude.{◌<◌, ◌≤◌, IfOk, IfSome, length};
+// A stream that doesn't block, but where a send finds the system's buffer full.
+ghost use Rattle.std.specs.Prelude.{◌<◌, ◌≤◌, IfOk, length};
+ghost use Rattle.std.specs.Io.{WritesAtMost};
 ghost use Rattle.nsq_outside.specs.Streams.{IsAmountRead};
 
 use nsq_outside::Read;
@@ -7,72 +8,65 @@ use std::io;
 use std::io::{ErrorKind, Read as _, Write as _};
 use std::net::TcpStream;
 
-/// How often an interrupted send is tried again.
-const MOST_INTERRUPTS: u32 = 1000;
-
-/// Receives a piece of what has come. An interrupted call is `Nothing`, and every error that isn't for want of bytes is `Failed`.
-pub(super) fn receive(stream: &mut TcpStream, into: &mut [u8]) -> Read
-    requires { 0 < length into.old }
-    ensures { IsAmountRead result (length into.old) }
-{
-    match stream.read(into) {
-        Ok(0) => Read::End,
-        Ok(count) => Read::Got(count),
-        Err(error) => match error.kind() {
-            ErrorKind::WouldBlock | ErrorKind::Interrupted => Read::Nothing,
-            _ => Read::Failed,
-        },
-    }
+/// An open stream that doesn't block.
+#[derive(Drop)]
+pub(super) struct Socket {
+    stream: TcpStream,
+    // Whether the system didn't let it go back to not blocking. It is good for nothing then.
+    stuck: bool,
 }
 
-/// Sends all these bytes, or tells that a part of them can't be sent.
-pub(super) fn send_all(stream: &mut TcpStream, bytes: &[u8]) -> bool {
-    let mut rest = bytes;
-    for _ in 0..bytes.len() {
-        if rest.is_empty() {
-            break;
-        }
-        let Some(sent) = send(stream, rest) else {
-            return false;
-        };
-        rest = &rest[sent..];
-    }
-    rest.is_empty()
-}
-
-/// Sends bytes from the front of these, and returns how many. It is `None` where the stream failed, or the peer took no
-/// byte for 5 s.
-pub(super) fn send(stream: &mut TcpStream, bytes: &[u8]) -> Option<usize>
-    ensures some { IfSome result (λ n. 0 < n) }
-    ensures bound { IfSome result (λ n. n ≤ length bytes.now) }
-{
-    for _ in 0..MOST_INTERRUPTS {
-        match send_once(stream, bytes) {
-            Ok(0) => return None,
-            Ok(sent) => return Some(sent),
-            Err(error) if error.kind() == ErrorKind::Interrupted => {}
-            Err(_) => return None,
+impl Socket {
+    pub(super) fn new(stream: TcpStream) -> Socket {
+        Socket {
+            stream,
+            stuck: false,
         }
     }
-    None
-}
 
-/// One send, that waits only where the system's buffer is full.
-fn send_once(stream: &mut TcpStream, bytes: &[u8]) -> io::Result<usize>
-    ensures { IfOk result (λ n. n ≤ length bytes.now) }
-{
-    match stream.write(bytes) {
-        Err(error) if error.kind() == ErrorKind::WouldBlock => send_waiting(stream, bytes),
-        sent => sent,
+    /// Receives a piece of what has come. An interrupted call is `Nothing`, and every error that isn't for want of bytes is
+    /// `Failed`.
+    pub(super) fn receive(&self, into: &mut [u8]) -> Read
+        requires { 0 < length into.old }
+        ensures { IsAmountRead result (length into.old) }
+    {
+        if self.stuck {
+            return Read::Failed;
+        }
+        match (&self.stream).read(into) {
+            Ok(0) => Read::End,
+            Ok(count) => Read::Got(count),
+            Err(error) => match error.kind() {
+                ErrorKind::WouldBlock | ErrorKind::Interrupted => Read::Nothing,
+                _ => Read::Failed,
+            },
+        }
+    }
+
+    /// One send that waits, at most for the stream's write timeout.
+    fn send_waiting(&mut self, bytes: &[u8]) -> io::Result<usize>
+        ensures { WritesAtMost result bytes.now }
+    {
+        self.stream.set_nonblocking(false)?;
+        let sent = self.stream.write(bytes);
+        self.stuck = self.stream.set_nonblocking(true).is_err();
+        sent
     }
 }
 
-/// One send that waits, at most for the stream's write timeout.
-fn send_waiting(stream: &mut TcpStream, bytes: &[u8]) -> io::Result<usize>
-    ensures { IfOk result (λ n. n ≤ length bytes.now) }
-{
-    stream.set_nonblocking(false)?;
-    let sent = stream.write(bytes);
-    stream.set_nonblocking(true)?;
-    sent
+impl io::Write for Socket {
+    /// One send, that waits only where the system's buffer is full.
+    fn write(&mut self, bytes: &[u8]) -> io::Result<usize> {
+        if self.stuck {
+            return Err(ErrorKind::Other.into());
+        }
+        match self.stream.write(bytes) {
+            Err(error) if error.kind() == ErrorKind::WouldBlock => self.send_waiting(bytes),
+            sent => sent,
+        }
+    }
+
+    fn flush(&mut self) -> io::Result<()> {
+        Ok(())
+    }
 }

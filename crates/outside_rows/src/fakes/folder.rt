@@ -1,6 +1,6 @@
 use crate::folder_steps::{Step, answers};
 use nsq_base::Memory;
-use nsq_fakes::{Failing, FolderCall, MemFolder};
+use nsq_fakes::{Called, Failing, FolderCall, MemFolder};
 use nsq_outside::{Did, Length, ReadAt};
 use std::alloc::Global;
 use std::test::Fail;
@@ -17,6 +17,8 @@ struct Row {
     there: Files,
     /// Names that no file has then.
     absent: &'static [&'static str],
+    /// The calls that the folder kept, each with the name of its file, and the new name of a rename.
+    called: &'static [(FolderCall, &'static str, &'static str)],
 }
 
 const TWO_FILES: Files = &[("a", b"one"), ("b", b"two")];
@@ -35,6 +37,13 @@ const ROWS: [Row; 4] = [
         ],
         there: &[("a", b"ox"), ("b", b"two"), ("c", b"\0\0!")],
         absent: &[],
+        called: &[
+            (FolderCall::WriteAt, "a", ""),
+            (FolderCall::Len, "a", ""),
+            (FolderCall::WriteAt, "c", ""),
+            (FolderCall::ReadAt, "a", ""),
+            (FolderCall::Cut, "a", ""),
+        ],
     },
     Row {
         name: "a rename takes the place of a file",
@@ -47,6 +56,11 @@ const ROWS: [Row; 4] = [
         ],
         there: &[("b", b"one")],
         absent: &["a"],
+        called: &[
+            (FolderCall::Rename, "a", "b"),
+            (FolderCall::List, "", ""),
+            (FolderCall::Sync, "b", ""),
+        ],
     },
     Row {
         name: "a file that is removed is absent",
@@ -59,6 +73,11 @@ const ROWS: [Row; 4] = [
         ],
         there: &[("a", b"one")],
         absent: &["b"],
+        called: &[
+            (FolderCall::Remove, "b", ""),
+            (FolderCall::SyncNames, "", ""),
+            (FolderCall::Len, "b", ""),
+        ],
     },
     Row {
         name: "calls that are to fail do, by their numbers of one method and of all",
@@ -86,6 +105,15 @@ const ROWS: [Row; 4] = [
         ],
         there: &[("b", b"two")],
         absent: &["a"],
+        called: &[
+            (FolderCall::Sync, "a", ""),
+            (FolderCall::WriteAt, "a", ""),
+            (FolderCall::WriteAt, "a", ""),
+            (FolderCall::WriteAt, "a", ""),
+            (FolderCall::Remove, "a", ""),
+            (FolderCall::ReadAt, "a", ""),
+            (FolderCall::Remove, "a", ""),
+        ],
     },
 ];
 
@@ -110,6 +138,15 @@ fn has(folder: &MemFolder, there: Files, absent: &[&str]) -> bool {
     all
 }
 
+/// Whether these calls were made, in this order.
+fn is_called(called: &[Called], want: &[(FolderCall, &str, &str)]) -> bool {
+    let mut all = called.len() == want.len();
+    for (made, (call, name, to)) in called.iter().zip(want) {
+        all = all && made.call == *call && made.name.as_str() == *name && made.to.as_str() == *to;
+    }
+    all
+}
+
 fn holds(alloc: Global, row: &Row) -> Result<bool, Memory> {
     let mut folder = made(alloc, row.files, row.fails)?;
     for step in row.steps {
@@ -117,7 +154,7 @@ fn holds(alloc: Global, row: &Row) -> Result<bool, Memory> {
             return Ok(false);
         }
     }
-    Ok(has(&folder, row.there, row.absent))
+    Ok(has(&folder, row.there, row.absent) && is_called(folder.called(), row.called))
 }
 
 #[test]

@@ -15,6 +15,12 @@ enum Do {
     MakeSub,
     /// Removes the folder and all that is in it.
     RemoveAll,
+    /// Another process gives a file of the folder these bytes, as a new file in the place of the old one.
+    Replace(&'static str, &'static [u8]),
+    /// Another process finds these bytes in a file.
+    Finds(&'static str, &'static [u8]),
+    /// The object goes to a path that leads through a file of the folder.
+    GoThrough(&'static str),
     /// The object goes to the other folder.
     GoToOther,
     /// The object goes back to the folder.
@@ -33,7 +39,10 @@ const SUB: &str = "outside_rows_folder/sub";
 
 const OTHER: &str = "outside_rows_other";
 
-const ROWS: [Row; 5] = [
+/// Where another process writes a file first.
+const NEW: &str = "outside_rows_other/new";
+
+const ROWS: [Row; 9] = [
     Row {
         name: "files of a folder",
         steps: &[
@@ -88,6 +97,54 @@ const ROWS: [Row; 5] = [
         ],
     },
     Row {
+        name: "a rename over an open file",
+        steps: &[
+            Do::Call(Step::WriteAt("a", 0, b"one", Did::Done)),
+            Do::Call(Step::WriteAt("b", 0, b"two", Did::Done)),
+            Do::Call(Step::Rename("a", "b", Did::Done)),
+            Do::Call(Step::WriteAt("b", 3, b"!", Did::Done)),
+            Do::Finds("outside_rows_folder/b", b"one!"),
+            Do::Call(Step::WriteAt("a", 0, b"new", Did::Done)),
+            Do::Finds("outside_rows_folder/a", b"new"),
+            Do::Finds("outside_rows_folder/b", b"one!"),
+        ],
+    },
+    Row {
+        name: "a file that was removed is made anew",
+        steps: &[
+            Do::Call(Step::WriteAt("a", 0, b"one", Did::Done)),
+            Do::Call(Step::Remove("a", Did::Done)),
+            Do::Call(Step::WriteAt("a", 0, b"x", Did::Done)),
+            Do::Finds("outside_rows_folder/a", b"x"),
+        ],
+    },
+    Row {
+        name: "a file stays open, until an error closes it",
+        steps: &[
+            Do::Call(Step::WriteAt("a", 0, b"old", Did::Done)),
+            Do::Replace("outside_rows_folder/a", b"new"),
+            Do::Call(Step::ReadAt("a", 0, ReadAt::Got(3), b"old")),
+            Do::Call(Step::WriteAt("a", 1 << 62, b"x", Did::Failed)),
+            Do::Call(Step::ReadAt("a", 0, ReadAt::Got(3), b"new")),
+        ],
+    },
+    Row {
+        name: "a path through a file",
+        steps: &[
+            Do::Call(Step::WriteAt("a", 0, b"one", Did::Done)),
+            Do::GoThrough("outside_rows_folder/a"),
+            Do::Call(Step::Len("x", Length::Failed)),
+            Do::Call(Step::ReadFails("x", 0)),
+            Do::Call(Step::WriteAt("x", 0, b"y", Did::Failed)),
+            Do::Call(Step::Cut("x", 0, Did::Failed)),
+            Do::Call(Step::Sync("x", Did::Failed)),
+            Do::Call(Step::SyncNames(Did::Failed)),
+            Do::Call(Step::Rename("x", "y", Did::Failed)),
+            Do::Call(Step::Remove("x", Did::Failed)),
+            Do::Call(Step::ListFails),
+        ],
+    },
+    Row {
         name: "another folder",
         steps: &[
             Do::Call(Step::WriteAt("a", 0, b"left", Did::Done)),
@@ -131,6 +188,13 @@ fn goes(
             fs::remove_dir_all(rt, FOLDER)?;
             Ok(true)
         }
+        Do::Replace(path, bytes) => {
+            fs::write(rt, NEW, bytes)?;
+            fs::rename(rt, NEW, path)?;
+            Ok(true)
+        }
+        Do::Finds(path, bytes) => Ok(fs::read(rt, path)?.as_slice() == bytes),
+        Do::GoThrough(path) => Ok(folder.move_to(path).is_ok()),
         Do::GoToOther => Ok(folder.move_to(OTHER).is_ok()),
         Do::GoBack => Ok(folder.move_to(FOLDER).is_ok()),
     }

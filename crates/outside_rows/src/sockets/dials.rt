@@ -2,9 +2,29 @@ use nsq_outside::{Dialer, Dialled};
 use nsq_system::{TcpConn, TcpDialer};
 use std::alloc::Global;
 use std::io;
-use std::net::{Net, TcpListener, TcpStream};
+use std::net::{Net, SocketAddr, TcpListener, TcpStream};
 use std::sync::Wait;
 use std::test::Fail;
+
+/// The system's network, where no name server answers.
+#[derive(Drop)]
+struct Nameless<R> {
+    rt: R,
+}
+
+impl<R: Net<Listener = TcpListener, Stream = TcpStream>> Net for Nameless<R> {
+    type Stream = TcpStream;
+
+    type Listener = TcpListener;
+
+    fn bind(&self, address: SocketAddr) -> io::Result<TcpListener> {
+        self.rt.bind(address)
+    }
+
+    fn connect(&self, address: SocketAddr) -> io::Result<TcpStream> {
+        self.rt.connect(address)
+    }
+}
 
 /// Whom a dial asks for.
 #[derive(Clone, Copy)]
@@ -17,17 +37,28 @@ enum Asked {
 
 struct Row {
     name: &'static str,
+    /// Whether a name server answers.
+    has_names: bool,
     /// Dials, each of which fails.
     asked: &'static [Asked],
     /// How often a dial failed then.
     faults: u64,
 }
 
-const ROWS: [Row; 1] = [Row {
-    name: "nobody there, and no address",
-    asked: &[Asked::Nobody, Asked::Address("no port")],
-    faults: 2,
-}];
+const ROWS: [Row; 2] = [
+    Row {
+        name: "nobody there, and no address",
+        has_names: true,
+        asked: &[Asked::Nobody, Asked::Address("no port")],
+        faults: 2,
+    },
+    Row {
+        name: "no name server answers",
+        has_names: false,
+        asked: &[Asked::Address("lookupd.example:4160")],
+        faults: 1,
+    },
+];
 
 /// Whether there is no connection.
 fn is_failed(dialled: Dialled<TcpConn>) -> bool {
@@ -47,12 +78,11 @@ fn nobody<R: Net<Listener = TcpListener, Stream = TcpStream>>(
     Ok(format!(in alloc; "{address}")?)
 }
 
-fn holds<R: Wait + Clone + Drop + Send + Net<Listener = TcpListener, Stream = TcpStream>>(
-    rt: &R,
-    alloc: Global,
-    row: &Row,
-) -> io::Result<bool> {
-    let mut dialer = TcpDialer::new(rt.clone()?, alloc);
+/// Whether each dial of a row fails and is counted.
+fn all_fail<
+    R: Wait + Net<Listener = TcpListener, Stream = TcpStream>,
+    N: Net<Stream = TcpStream> + Drop,
+>(rt: &R, alloc: Global, mut dialer: TcpDialer<N>, row: &Row) -> io::Result<bool> {
     for asked in row.asked {
         let address = match asked {
             Asked::Nobody => nobody(rt, alloc)?,
@@ -63,6 +93,18 @@ fn holds<R: Wait + Clone + Drop + Send + Net<Listener = TcpListener, Stream = Tc
         }
     }
     Ok(dialer.faults() == row.faults)
+}
+
+fn holds<R: Wait + Clone + Drop + Net<Listener = TcpListener, Stream = TcpStream>>(
+    rt: &R,
+    alloc: Global,
+    row: &Row,
+) -> io::Result<bool> {
+    if row.has_names {
+        return all_fail(rt, alloc, TcpDialer::new(rt.clone()?, alloc), row);
+    }
+    let nameless = Nameless { rt: rt.clone()? };
+    all_fail(rt, alloc, TcpDialer::new(nameless, alloc), row)
 }
 
 #[test]

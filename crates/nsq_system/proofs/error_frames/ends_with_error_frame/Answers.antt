@@ -2,7 +2,7 @@ use Rattle.std.proofs.Common.{◌≡◌, ◌-◌, ◌<◌, length, take, drop, s
 use Rattle.std.proofs.lemmas.List.{take_rest}
 use Rattle.nsq_system.specs.Frames.{EndsInError}
 use Rattle.nsq_system.proofs.ErrorFrames.{IsSplit, error_is_last, goes_on, goes_back}
-use Rattle.nsq_system.proofs.tcp_conn.ends_with_error_frame.Goals as goal
+use Rattle.nsq_system.proofs.error_frames.ends_with_error_frame.Goals as goal
 
 pub returns-then-frame-size-2-clause-only : goal.returns-then-frame-size-2-clause-only
 returns-then-frame-size-2-clause-only c = λ is.

@@ -1,6 +1,6 @@
 use Rattle.std.proofs.Common.{length}
 use Rattle.nsq_system.specs.Frames.{EndsInError}
-use Rattle.nsq_system.proofs.tcp_conn.ends_with_error_frame.Given as goal
+use Rattle.nsq_system.proofs.error_frames.ends_with_error_frame.Given as goal
 
 abbrev pub decreases-loop-front : goal.decreases-loop-front
 decreases-loop-front l = length l.rest

@@ -10,7 +10,7 @@ use Rattle.queue_image.specs.Places.{IsOrdered}
 use Rattle.queue_image.specs.Finds.{Walks}
 use Rattle.queue_image.specs.Finds.Walks.{starts, good, passes}
 use Rattle.queue_image.specs.declared.positions.Positions.{Positions}
-use Rattle.queue_image.proofs.Listed.{skips}
+use Rattle.queue_image.proofs.Walking.{skips}
 use Rattle.disk_queue.specs.Parts.{distance}
 use Rattle.disk_queue.specs.Walked.{IsNextIn, GivesOf, GivesWithin, GivesFails, WalkAdds, WalksUpTo, WalkFits, HasNumbers}
 use Rattle.disk_queue.specs.declared.queue.opening.walking.Gives.{Gives}

@@ -1,6 +1,6 @@
 use Rattle.std.proofs.Common.{◌-◌, ◌≤◌, length, drop}
 use Rattle.v2_frame.specs.Script.{Row}
-use Rattle.v2_frame.proofs.plain.script_of.Given as goal
+use Rattle.v2_plain.proofs.script.script_of.Given as goal
 
 -- the commands so far stand in a row behind the magic, as far as the place
 abbrev pub invariant-commands : goal.invariant-commands

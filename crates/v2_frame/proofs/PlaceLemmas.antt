@@ -1,4 +1,4 @@
--- Lemmas for the plain program: where a byte stands, words, and numbers.
+-- Where a byte stands, words, and numbers.
 use Rattle.std.proofs.Common.{◌≡◌, ◌≢◌, ℕ, ◌+◌, ◌-◌, ◌^◌, ◌<◌, ◌≤◌, false, List, [], ◌∷◌, ◌++◌, length, take, drop, get_or, refl, sym, ap, ◌∙◌, subst, arith}
 use Rattle.std.specs.Prelude.{◌==◌, zero, suc}
 use Rattle.std.specs.List.{All}

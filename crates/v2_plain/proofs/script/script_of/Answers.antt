@@ -3,12 +3,13 @@ use Rattle.std.proofs.lemmas.List.{drop-drop}
 use Rattle.v2_frame.specs.declared.command.Command.{Command}
 use Rattle.v2_frame.specs.Judging.{Begins}
 use Rattle.v2_frame.specs.Script.{magic, Row, none}
-use Rattle.v2_frame.specs.Plain.{TakesSome}
-use Rattle.v2_frame.specs.declared.plain.Found.TheVariants as found
-use Rattle.v2_frame.proofs.PlainLemmas.{behind_place}
+use Rattle.v2_frame.specs.Parts.{TakesSome}
+use Rattle.v2_frame.specs.declared.judge.Found.TheVariants as found
+use Rattle.v2_frame.proofs.PlaceLemmas.{behind_place}
 use Rattle.v2_frame.proofs.VerdictLemmas.{judged_begins}
-use Rattle.v2_frame.proofs.ScriptLemmas.{row_push, no_magic, script_open, script_faulty}
-use Rattle.v2_frame.proofs.plain.script_of.Goals as goal
+use Rattle.v2_frame.proofs.ScriptLemmas.{row_push, no_magic}
+use Rattle.v2_plain.proofs.ScriptLemmas.{script_open, script_faulty}
+use Rattle.v2_plain.proofs.script.script_of.Goals as goal
 
 pub returns-then-ne : goal.returns-then-ne
 returns-then-ne c =

@@ -1,4 +1,4 @@
--- What the functions of the plain program answer.
+-- What the parts of the judge answer.
 use Rattle.std.specs.Prelude.{◌≡◌, ◌≢◌, ◌⊎◌, ℕ, ◌+◌, ◌<◌, ◌≤◌, List, [], ◌∷◌, ◌++◌, length, take, drop, codes, IsSome}
 use Rattle.std.specs.List.{AllByRecursion}
 use Rattle.v2_frame.specs.declared.batch.Content.{Content}
@@ -6,8 +6,8 @@ use Rattle.v2_frame.specs.declared.batch.Content.TheVariants as content
 use Rattle.v2_frame.specs.declared.fault.FaultKind.{FaultKind}
 use Rattle.v2_frame.specs.declared.fault.FaultKind.TheVariants.{BadTopic, BadChannel}
 use Rattle.v2_frame.specs.declared.fault.Limits.{Limits}
-use Rattle.v2_frame.specs.declared.plain.Found.{Found}
-use Rattle.v2_frame.specs.declared.plain.Found.TheVariants as found
+use Rattle.v2_frame.specs.declared.judge.Found.{Found}
+use Rattle.v2_frame.specs.declared.judge.Found.TheVariants as found
 use Rattle.v2_frame.specs.declared.size.Field.{Field}
 use Rattle.v2_frame.specs.declared.size.Field.TheVariants as field
 use Rattle.v2_frame.specs.declared.start.Sized.{Sized}

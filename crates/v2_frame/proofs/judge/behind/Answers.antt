@@ -8,10 +8,10 @@ use Rattle.v2_frame.specs.declared.batch.Content.TheVariants as content
 use Rattle.v2_frame.specs.Heading.{Identify, Pub, Mpub, Dpub}
 use Rattle.v2_frame.specs.Command.{content_of}
 use Rattle.v2_frame.specs.Judging.{Behind, Whole}
-use Rattle.v2_frame.specs.Plain.{sized_heading, IsContent}
+use Rattle.v2_frame.specs.Parts.{sized_heading, IsContent}
 use Rattle.v2_frame.proofs.FieldLemmas.{field_open, field_bad, text_whole, text_good, text_bad, text_place, most_is}
-use Rattle.v2_frame.proofs.plain.behind.Goals as goal
-use Rattle.v2_frame.proofs.plain.behind.Goals.{in-Identify+in_ok-copy-in-Identify, in-Pub+in_ok-copy-in-Pub, in-Dpub+in_ok-copy-in-Dpub, in-Mpub+in_ok-bodies-in-Mpub+in-Good}
+use Rattle.v2_frame.proofs.judge.behind.Goals as goal
+use Rattle.v2_frame.proofs.judge.behind.Goals.{in-Identify+in_ok-copy-in-Identify, in-Pub+in_ok-copy-in-Pub, in-Dpub+in_ok-copy-in-Dpub, in-Mpub+in_ok-bodies-in-Mpub+in-Good}
 
 pub returns-in-Open-clause-verdict : goal.returns-in-Open-clause-verdict
 returns-in-Open-clause-verdict c = field_open c.args.limits (sized_heading c.args.start) _ c.args.bytes.now c.sizing-most.ensures c.in-Open.ensures

@@ -1,16 +1,16 @@
 ghost use Rattle.std.specs.Prelude.{◌≡◌, ◌+◌, ◌<◌, ◌≤◌, length, min, IfOk, OnErr};
 ghost use Rattle.v2_frame.specs.Judging.{Behind, Judged};
-ghost use Rattle.v2_frame.specs.Script.{IsScript, told_place};
+ghost use Rattle.v2_frame.specs.Script.{told_place};
 ghost use Rattle.v2_frame.specs.Line.{HasNo};
 ghost use Rattle.v2_frame.specs.declared.fault.Limits.{Limits};
-ghost use Rattle.v2_frame.specs.Plain.{verdict_of, sized_heading, EndsLine, HasSizedLine, StaysWithin, TakesSome};
+ghost use Rattle.v2_frame.specs.Parts.{verdict_of, sized_heading, EndsLine, HasSizedLine, StaysWithin, TakesSome};
 
 use crate::batch::{Content, content_of};
 use crate::heading::heading_of;
 use crate::line::{place_of, text_of, words_of};
 use crate::size::{Field, field_of};
 use crate::start::{Sized, Start, start_of};
-use crate::{Command, Fault, FaultKind, Limits, Rest};
+use crate::{Command, FaultKind, Limits};
 use nsq_base::{Body, Memory};
 use std::alloc::Global;
 
@@ -28,46 +28,13 @@ pub(crate) const MAGIC: &[u8] = b"  V2";
 
 /// What is found at a command's start.
 #[derive(Drop)]
-pub(crate) enum Found {
+pub enum Found {
     /// A command, and how many bytes spell it.
     Whole(Command, usize),
-    /// A fault, and its place.
+    /// A fault, and its place from the command's first byte.
     Faulty(FaultKind, usize),
     /// Neither yet.
     Unfinished,
-}
-
-/// The script of all bytes of a stream so far: the commands that stand in a row behind the magic, and what stands behind
-/// them. Want of memory is the only error. It looks at whole lists and copies each body; a reader of pieces gives the same.
-pub fn script_of(
-    alloc: Global,
-    limits: Limits,
-    bytes: &[u8],
-) -> Result<(Vec<Command>, Rest), Memory>
-    ensures { IfOk result (λ found. IsScript limits bytes.now found.0.items found.1) }
-{
-    let mut commands = Vec::new(alloc);
-    if bytes.len() < MAGIC.len() {
-        return Ok((commands, Rest::Unfinished));
-    }
-    if &bytes[..MAGIC.len()] != MAGIC {
-        let kind = FaultKind::BadMagic;
-        return Ok((commands, Rest::Faulty(Fault { kind, at: 0 })));
-    }
-    let mut start = MAGIC.len();
-    'commands: loop {
-        match find(alloc, limits, &bytes[start..])? {
-            Found::Whole(command, taken) => {
-                commands.push(command)?;
-                start += taken;
-            }
-            Found::Faulty(kind, at) => {
-                let at = told_place((start + at) as u64);
-                return Ok((commands, Rest::Faulty(Fault { kind, at })));
-            }
-            Found::Unfinished => return Ok((commands, Rest::Unfinished)),
-        }
-    }
 }
 
 /// The place as it is told.
@@ -77,8 +44,9 @@ pub(crate) fn told_place(at: u64) -> u64
     at.min(LAST_PLACE)
 }
 
-/// What stands at the front of bytes that begin at a command's start.
-fn find(alloc: Global, limits: Limits, bytes: &[u8]) -> Result<Found, Memory>
+/// What stands at the front of bytes that begin at a command's start. It looks at whole lists and copies each body; `Reader`
+/// judges the lines of its pieces in the same way. Want of memory is the only error.
+pub fn judge_front(alloc: Global, limits: Limits, bytes: &[u8]) -> Result<Found, Memory>
     ensures verdict { IfOk result (λ found. Judged limits bytes.now (verdict_of bytes.now found)) }
     ensures taken { IfOk result (λ found. TakesSome bytes.now found) }
 {

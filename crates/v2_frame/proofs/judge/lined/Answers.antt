@@ -1,13 +1,13 @@
 use Rattle.std.proofs.Common.{rules, ◌≡◌, ℕ, ◌+◌, ◌-◌, List, drop, length, take, arith, ap, sym, subst, ◌∙◌}
 use Rattle.std.proofs.lemmas.List.{drop-drop}
-use Rattle.v2_frame.specs.declared.plain.Found.{Found}
+use Rattle.v2_frame.specs.declared.judge.Found.{Found}
 use Rattle.v2_frame.specs.Line.{words_of}
 use Rattle.v2_frame.specs.Judging.{Verdict, Whole, Faulty, Judged, shifted}
-use Rattle.v2_frame.specs.Plain.{seen_heading, verdict_of, HasSizedLine}
-use Rattle.v2_frame.proofs.PlainLemmas.{behind_place}
+use Rattle.v2_frame.specs.Parts.{seen_heading, verdict_of, HasSizedLine}
+use Rattle.v2_frame.proofs.PlaceLemmas.{behind_place}
 use Rattle.v2_frame.proofs.FoundLemmas.{line_long, found_long, found_nothing, found_heading, found_name, found_alone, found_sized, sized_line}
-use Rattle.v2_frame.proofs.plain.lined.Goals as goal
-use Rattle.v2_frame.proofs.plain.lined.Goals.{in-Whole, in-Faulty, in-Unfinished}
+use Rattle.v2_frame.proofs.judge.lined.Goals as goal
+use Rattle.v2_frame.proofs.judge.lined.Goals.{in-Whole, in-Faulty, in-Unfinished}
 
 pub returns-then-text-gt-LONGEST_LINE-clause-verdict : goal.returns-then-text-gt-LONGEST_LINE-clause-verdict
 returns-then-text-gt-LONGEST_LINE-clause-verdict c =

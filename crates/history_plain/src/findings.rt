@@ -25,7 +25,7 @@ const LEAST_RECORD: u32 = 26;
 const LONGEST_RECORD: u32 = 16_777_242;
 
 /// A channel that was found.
-#[derive(Debug, Drop)]
+#[derive(Drop)]
 pub struct FoundChannel {
     /// Its name.
     pub name: Chan,
@@ -44,7 +44,7 @@ impl Model for FoundChannel {
 }
 
 /// A topic that was found.
-#[derive(Debug, Drop)]
+#[derive(Drop)]
 pub struct FoundTopic {
     /// Its name.
     pub name: Topic,
@@ -65,7 +65,7 @@ impl Model for FoundTopic {
 }
 
 /// Names that were found, with their messages.
-#[derive(Debug, Drop)]
+#[derive(Drop)]
 pub struct FoundNames {
     /// The epoch of the last run; 0 where there was none.
     pub epoch: u32,
@@ -82,7 +82,7 @@ impl Model for FoundNames {
 }
 
 /// What an opening finds in a folder.
-#[derive(Debug, Drop)]
+#[derive(Drop)]
 pub enum Finding {
     /// The file of names isn't in its grammar, or the metadata of a queue that it lists isn't in its own.
     BadData,

@@ -18,7 +18,7 @@ const LONGEST_DATA: usize = 1 << 24;
 pub const LAST_EPOCH: u64 = 16_777_215;
 
 /// A channel that the file of names keeps.
-#[derive(Debug, Drop)]
+#[derive(Drop)]
 pub struct KeptChannel {
     /// Its name.
     pub name: Chan,
@@ -35,7 +35,7 @@ impl Model for KeptChannel {
 }
 
 /// A topic that the file of names keeps.
-#[derive(Debug, Drop)]
+#[derive(Drop)]
 pub struct KeptTopic {
     /// Its name.
     pub name: Topic,
@@ -54,7 +54,7 @@ impl Model for KeptTopic {
 }
 
 /// What the file of names keeps.
-#[derive(Debug, Drop)]
+#[derive(Drop)]
 pub struct KeptNames {
     /// The epoch of the last run, at most 2^24 - 1.
     pub epoch: u32,

@@ -9,7 +9,7 @@ use std::marker::Model;
 use v2_frame::Message;
 
 /// A message that waits in its topic.
-#[derive(Debug, Drop)]
+#[derive(Drop)]
 pub struct Waiting {
     /// The message.
     pub message: Message,
@@ -26,7 +26,7 @@ impl Model for Waiting {
 }
 
 /// A topic.
-#[derive(Debug, Drop)]
+#[derive(Drop)]
 pub struct TopicState {
     /// Its name.
     pub name: Topic,
@@ -47,7 +47,7 @@ impl Model for TopicState {
 }
 
 /// A client that is there.
-#[derive(Debug, Drop)]
+#[derive(Drop)]
 pub struct Client {
     /// The number of its connection.
     pub number: u64,
@@ -62,7 +62,7 @@ impl Model for Client {
 }
 
 /// What a daemon is at a moment.
-#[derive(Debug, Drop)]
+#[derive(Drop)]
 pub struct State {
     /// Its options.
     pub options: Options,
@@ -161,7 +161,7 @@ impl State {
     pub fn has_begun(&self, number: u64) -> bool
         ensures { result ≡ has_begun self.now number }
     {
-        self.began.iter().any(|n| *n == number)
+        self.began.contains(&number)
     }
 
     /// The state with the client of this connection, which began at this moment.

@@ -1,154 +1,269 @@
-use history_plain::{Finding, FoundNames, found};
-use nsq_base::Body;
+//! Folders, and what an opening finds in each.
+
+use history_plain::{Finding, FoundChannel, FoundNames, FoundTopic, found};
+use nsq_base::{Body, Memory};
 use queue_image::NamedFile;
 use std::alloc::Global;
 use std::test::Fail;
 use v2_frame::Message;
 
-// A folder, as a test writes it.
-#[derive(Drop)]
-struct Folder {
-    alloc: Global,
-    files: Vec<NamedFile>,
+/// A channel: its name, whether it is paused, and its messages.
+struct Channel {
+    name: &'static [u8],
+    paused: bool,
+    messages: &'static [Sent],
 }
 
-impl Folder {
-    fn new(alloc: Global) -> Folder {
-        Folder {
-            alloc,
-            files: Vec::new(alloc),
-        }
-    }
-
-    fn put(&mut self, name: &str, bytes: &[u8]) -> Result<(), Fail> {
-        let name = Body::copy(self.alloc, name.as_bytes())?;
-        let bytes = Body::copy(self.alloc, bytes)?;
-        self.files.push(NamedFile { name, bytes })?;
-        Ok(())
-    }
-
-    fn opened(&self) -> Result<Finding, Fail> {
-        Ok(found(self.alloc, &self.files)?)
-    }
-
-    fn names(&self) -> Result<FoundNames, Fail> {
-        match self.opened()? {
-            Finding::Names(names) => Ok(names),
-            Finding::BadData => Err("bad data".into()),
-            Finding::EpochSpent => Err("ids spent".into()),
-        }
-    }
-
-    fn is_bad(&self) -> Result<bool, Fail> {
-        Ok(matches!(&self.opened()?, Finding::BadData))
-    }
-
-    fn is_spent(&self) -> Result<bool, Fail> {
-        Ok(matches!(&self.opened()?, Finding::EpochSpent))
-    }
+/// A topic: its name, whether it is paused, its messages, and its channels.
+struct Listed {
+    name: &'static [u8],
+    paused: bool,
+    messages: &'static [Sent],
+    channels: &'static [Channel],
 }
 
-// Whether it is the first message of the first run: `hi`, at moment 0, sent to nobody.
-fn is_first(message: &Message) -> bool {
-    message.stamp == 0
-        && message.attempts == 0
-        && message.id.bytes() == b"0000010000000000".as_slice()
-        && message.body.bytes() == b"hi".as_slice()
-        && message.delay == 0
+/// A message of which no delay is left.
+struct Sent {
+    stamp: u64,
+    attempts: u16,
+    id: &'static [u8],
+    body: &'static [u8],
 }
 
+/// What is found.
+enum Shown {
+    BadData,
+    EpochSpent,
+    /// This epoch and these topics.
+    Names(u32, &'static [Listed]),
+}
+
+/// A folder's files, each a name and its bytes, and what an opening finds there.
+struct Row {
+    name: &'static str,
+    files: &'static [(&'static [u8], &'static [u8])],
+    found: Shown,
+}
+
+/// A record of 28 bytes: the message `hi` at moment 0, sent to nobody, with the first id of the first run.
 const RECORD: &[u8] = b"\0\0\0\x1c\0\0\0\0\0\0\0\0\0\00000010000000000hi";
 
+/// That message.
+const FIRST: Sent = Sent {
+    stamp: 0,
+    attempts: 0,
+    id: b"0000010000000000",
+    body: b"hi",
+};
+
+/// The metadata of a queue of that record.
+const ONE: &[u8] = b"1\n0,0\n0,32\n";
+
+/// Metadata that isn't in its grammar.
+const BAD: &[u8] = b"1\n0\n";
+
+/// The topic `t`, without channels, in epoch 1.
 const NAMES: &[u8] =
     br#"{"id_epoch":1,"topics":[{"channels":[],"name":"t","paused":false}],"version":"1.0.0"}"#;
 
-#[test]
-fn nothing_is_found_without_a_file_of_names(rt: HostRuntime) -> Result<(), Fail> {
-    let mut folder = Folder::new(rt.alloc());
-    let names = folder.names()?;
-    assert!(rt; names.epoch == 0 && names.topics.is_empty());
-    folder.put("t.diskqueue.meta.dat", b"1\n0\n")?;
-    let names = folder.names()?;
-    assert!(rt; names.epoch == 0 && names.topics.is_empty());
-    Ok(())
+/// The topic `t` with the channel `c`.
+const CHANNEL: &[u8] = br#"{"topics":[{"name":"t","channels":[{"name":"c"}]}]}"#;
+
+const ROWS: [Row; 12] = [
+    Row {
+        name: "no file",
+        files: &[],
+        found: Shown::Names(0, &[]),
+    },
+    Row {
+        name: "bad metadata without a file of names",
+        files: &[(b"t.diskqueue.meta.dat", BAD)],
+        found: Shown::Names(0, &[]),
+    },
+    Row {
+        name: "a topic with one message",
+        files: &[
+            (b"t.diskqueue.000000.dat", RECORD),
+            (b"t.diskqueue.meta.dat", ONE),
+            (b"nsqd.dat", NAMES),
+        ],
+        found: Shown::Names(
+            1,
+            &[Listed {
+                name: b"t",
+                paused: false,
+                messages: &[FIRST],
+                channels: &[],
+            }],
+        ),
+    },
+    Row {
+        name: "a channel with one message",
+        files: &[
+            (
+                b"nsqd.dat",
+                br#"{"topics":[{"name":"t","paused":true,"channels":[{"name":"c"}]}]}"#,
+            ),
+            (b"t:c.diskqueue.000000.dat", RECORD),
+            (b"t:c.diskqueue.meta.dat", ONE),
+        ],
+        found: Shown::Names(
+            0,
+            &[Listed {
+                name: b"t",
+                paused: true,
+                messages: &[],
+                channels: &[Channel {
+                    name: b"c",
+                    paused: false,
+                    messages: &[FIRST],
+                }],
+            }],
+        ),
+    },
+    Row {
+        name: "a file of names that is an array",
+        files: &[(b"nsqd.dat", b"[]")],
+        found: Shown::BadData,
+    },
+    Row {
+        name: "a bad file of names comes before a spent epoch",
+        files: &[(b"nsqd.dat", br#"{"id_epoch":16777215,"topics":[{}]}"#)],
+        found: Shown::BadData,
+    },
+    Row {
+        name: "the last epoch",
+        files: &[(
+            b"nsqd.dat",
+            br#"{"id_epoch":16777215,"topics":[{"name":"t"}]}"#,
+        )],
+        found: Shown::EpochSpent,
+    },
+    Row {
+        name: "a spent epoch comes before bad metadata",
+        files: &[
+            (
+                b"nsqd.dat",
+                br#"{"id_epoch":16777215,"topics":[{"name":"t"}]}"#,
+            ),
+            (b"t.diskqueue.meta.dat", BAD),
+        ],
+        found: Shown::EpochSpent,
+    },
+    Row {
+        name: "the epoch before the last",
+        files: &[(b"nsqd.dat", br#"{"id_epoch":16777214}"#)],
+        found: Shown::Names(16_777_214, &[]),
+    },
+    Row {
+        name: "bad metadata of a topic",
+        files: &[(b"nsqd.dat", NAMES), (b"t.diskqueue.meta.dat", BAD)],
+        found: Shown::BadData,
+    },
+    Row {
+        name: "bad metadata of a channel that isn't listed",
+        files: &[(b"nsqd.dat", CHANNEL), (b"t:d.diskqueue.meta.dat", BAD)],
+        found: Shown::Names(
+            0,
+            &[Listed {
+                name: b"t",
+                paused: false,
+                messages: &[],
+                channels: &[Channel {
+                    name: b"c",
+                    paused: false,
+                    messages: &[],
+                }],
+            }],
+        ),
+    },
+    Row {
+        name: "bad metadata of a channel",
+        files: &[
+            (b"nsqd.dat", CHANNEL),
+            (b"t:d.diskqueue.meta.dat", BAD),
+            (b"t:c.diskqueue.meta.dat", BAD),
+        ],
+        found: Shown::BadData,
+    },
+];
+
+/// The files of a folder.
+fn files_of(alloc: Global, files: &[(&[u8], &[u8])]) -> Result<Vec<NamedFile>, Memory> {
+    let mut named = Vec::new(alloc);
+    for (name, bytes) in files {
+        let name = Body::copy(alloc, name)?;
+        let bytes = Body::copy(alloc, bytes)?;
+        named.push(NamedFile { name, bytes })?;
+    }
+    Ok(named)
+}
+
+/// Whether it is this message.
+fn is_sent(message: &Message, sent: &Sent) -> bool {
+    message.stamp == sent.stamp
+        && message.attempts == sent.attempts
+        && message.id.bytes() == sent.id
+        && message.body.bytes() == sent.body
+        && message.delay == 0
+}
+
+/// Whether these messages are found.
+fn are_sent(messages: &[Message], sent: &[Sent]) -> bool {
+    for (message, sent) in messages.iter().zip(sent) {
+        if !is_sent(message, sent) {
+            return false;
+        }
+    }
+    messages.len() == sent.len()
+}
+
+/// Whether these channels are found.
+fn shows_channels(found: &[FoundChannel], channels: &[Channel]) -> bool {
+    for (found, channel) in found.iter().zip(channels) {
+        if found.name.bytes() != channel.name || found.paused != channel.paused {
+            return false;
+        }
+        if !are_sent(&found.messages, channel.messages) {
+            return false;
+        }
+    }
+    found.len() == channels.len()
+}
+
+/// Whether it is this topic.
+fn is_listed(found: &FoundTopic, listed: &Listed) -> bool {
+    found.name.bytes() == listed.name
+        && found.paused == listed.paused
+        && are_sent(&found.messages, listed.messages)
+        && shows_channels(&found.channels, listed.channels)
+}
+
+/// Whether this epoch and these topics are found.
+fn shows(names: &FoundNames, epoch: u32, topics: &[Listed]) -> bool {
+    for (found, listed) in names.topics.iter().zip(topics) {
+        if !is_listed(found, listed) {
+            return false;
+        }
+    }
+    names.epoch == epoch && names.topics.len() == topics.len()
+}
+
+fn holds(alloc: Global, row: &Row) -> Result<bool, Memory> {
+    let files = files_of(alloc, row.files)?;
+    Ok(match (found(alloc, &files)?, &row.found) {
+        (Finding::BadData, Shown::BadData) => true,
+        (Finding::EpochSpent, Shown::EpochSpent) => true,
+        (Finding::Names(names), Shown::Names(epoch, topics)) => shows(&names, *epoch, topics),
+        _ => false,
+    })
 }
 
 #[test]
-fn a_topic_with_one_message(rt: HostRuntime) -> Result<(), Fail> {
-    let mut folder = Folder::new(rt.alloc());
-    folder.put("t.diskqueue.000000.dat", RECORD)?;
-    folder.put("t.diskqueue.meta.dat", b"1\n0,0\n0,32\n")?;
-    folder.put("nsqd.dat", NAMES)?;
-    let names = folder.names()?;
-    assert!(rt; names.epoch == 1 && names.topics.len() == 1);
-    let topic = &names.topics[0];
-    assert!(rt; topic.name.bytes() == b"t".as_slice() && !topic.paused);
-    assert!(rt; topic.channels.is_empty() && topic.messages.len() == 1);
-    assert!(rt; is_first(&topic.messages[0]));
-    Ok(())
-}
-
-#[test]
-fn a_channel_with_one_message(rt: HostRuntime) -> Result<(), Fail> {
-    let mut folder = Folder::new(rt.alloc());
-    folder.put(
-        "nsqd.dat",
-        br#"{"topics":[{"name":"t","paused":true,"channels":[{"name":"c"}]}]}"#,
-    )?;
-    folder.put("t:c.diskqueue.000000.dat", RECORD)?;
-    folder.put("t:c.diskqueue.meta.dat", b"1\n0,0\n0,32\n")?;
-    let names = folder.names()?;
-    assert!(rt; names.epoch == 0 && names.topics.len() == 1);
-    let topic = &names.topics[0];
-    assert!(rt; topic.paused && topic.messages.is_empty() && topic.channels.len() == 1);
-    let channel = &topic.channels[0];
-    assert!(rt; channel.name.bytes() == b"c".as_slice() && !channel.paused);
-    assert!(rt; channel.messages.len() == 1 && is_first(&channel.messages[0]));
-    Ok(())
-}
-
-#[test]
-fn a_bad_file_of_names(rt: HostRuntime) -> Result<(), Fail> {
-    let mut folder = Folder::new(rt.alloc());
-    folder.put("nsqd.dat", b"[]")?;
-    assert!(rt; folder.is_bad()?);
-    let mut folder = Folder::new(rt.alloc());
-    folder.put("nsqd.dat", br#"{"id_epoch":16777215,"topics":[{}]}"#)?;
-    assert!(rt; folder.is_bad()?);
-    Ok(())
-}
-
-#[test]
-fn the_last_epochs(rt: HostRuntime) -> Result<(), Fail> {
-    let mut folder = Folder::new(rt.alloc());
-    folder.put(
-        "nsqd.dat",
-        br#"{"id_epoch":16777215,"topics":[{"name":"t"}]}"#,
-    )?;
-    assert!(rt; folder.is_spent()?);
-    folder.put("t.diskqueue.meta.dat", b"1\n0\n")?;
-    assert!(rt; folder.is_spent()?);
-    let mut folder = Folder::new(rt.alloc());
-    folder.put("nsqd.dat", br#"{"id_epoch":16777214}"#)?;
-    let names = folder.names()?;
-    assert!(rt; names.epoch == 16_777_214 && names.topics.is_empty());
-    Ok(())
-}
-
-#[test]
-fn bad_metadata_of_a_listed_queue(rt: HostRuntime) -> Result<(), Fail> {
-    let mut folder = Folder::new(rt.alloc());
-    folder.put("nsqd.dat", NAMES)?;
-    folder.put("t.diskqueue.meta.dat", b"1\n0\n")?;
-    assert!(rt; folder.is_bad()?);
-    let mut folder = Folder::new(rt.alloc());
-    folder.put(
-        "nsqd.dat",
-        br#"{"topics":[{"name":"t","channels":[{"name":"c"}]}]}"#,
-    )?;
-    folder.put("t:d.diskqueue.meta.dat", b"1\n0\n")?;
-    assert!(rt; !folder.is_bad()?);
-    folder.put("t:c.diskqueue.meta.dat", b"1\n0\n")?;
-    assert!(rt; folder.is_bad()?);
+fn rows(rt: HostRuntime) -> Result<(), Fail> {
+    for row in &ROWS {
+        let holds = holds(rt.alloc(), row)?;
+        assert!(rt; holds, "{}", row.name);
+    }
     Ok(())
 }

@@ -1,0 +1,32 @@
+ghost use Rattle.std.specs.Prelude.{◌≡◌, IfOk};
+ghost use Rattle.http_wire.specs.Target.{path_of, query_of, pairs_of};
+
+use form_urlencoded::parse;
+use nsq_base::{Body, Memory, Pair, Pairs};
+use std::alloc::Global;
+
+/// What stands before the target's first question mark, and what behind it.
+pub(crate) fn split_target(target: &[u8]) -> (&[u8], &[u8])
+    ensures path { result.0.now ≡ path_of target.now }
+    ensures query { result.1.now ≡ query_of target.now }
+{
+    match target.iter().position(|&byte| byte == b'?') {
+        Some(place) => (&target[..place], &target[place + 1..]),
+        None => (target, &[]),
+    }
+}
+
+/// The pairs of a query.
+pub(crate) fn read_query(alloc: Global, query: &[u8]) -> Result<Pairs, Memory>
+    ensures { IfOk result (λ pairs. pairs ≡ pairs_of query.now) }
+{
+    let mut pairs = Vec::new(alloc);
+    for pair in parse(alloc, query).into_owned() {
+        let (name, value) = pair?;
+        pairs.push(Pair {
+            name: Body::of(name.into_bytes()),
+            value: Body::of(value.into_bytes()),
+        })?;
+    }
+    Ok(Pairs::of(pairs))
+}

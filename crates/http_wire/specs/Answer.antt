@@ -22,11 +22,15 @@ phrase_of status =
 abbrev pub type_of : Bool → List ℕ
 type_of json = if json then codes "application/json; charset=utf-8" else codes "text/plain; charset=utf-8"
 
--- an answer: its status line, the fields that say its body's type and length and that the connection ends, an empty line, and the
--- body
-abbrev pub answer_bytes : ℕ → Bool → List ℕ → List ℕ
-answer_bytes status json body =
-    codes "HTTP/1.1 " ++ decimal status ++ codes " " ++ phrase_of status
-    ++ codes "\r\nContent-Type: " ++ type_of json
-    ++ codes "\r\nContent-Length: " ++ decimal (length body)
+-- an answer of these parts: the status line, the fields that say the body's type and length and that the connection ends, an
+-- empty line, and the body
+abbrev pub answer_of : (status phrase kind length body : List ℕ) → List ℕ
+answer_of status phrase kind length body =
+    codes "HTTP/1.1 " ++ status ++ codes " " ++ phrase
+    ++ codes "\r\nContent-Type: " ++ kind
+    ++ codes "\r\nContent-Length: " ++ length
     ++ codes "\r\nConnection: close\r\n\r\n" ++ body
+
+-- the answer of a status to which this body belongs, as JSON or as plain text
+abbrev pub answer_bytes : ℕ → Bool → List ℕ → List ℕ
+answer_bytes status json body = answer_of (decimal status) (phrase_of status) (type_of json) (decimal (length body)) body

@@ -19,7 +19,7 @@ fields_of head = map name_and_value head.fields
 -- long the body is
 pub record IsGoodHead (text : List ℕ) (head : RequestHead) (size : ℕ) : Type 0 where
   pub reads : ReadsRequest text head []
-  pub room : length head.fields ≤ most_fields
+  pub few : length head.fields ≤ most_fields
   pub sized : IsBodySize (fields_of head) size
 
 -- a good head stands at the front, with as many bytes as this, and announces a body of this size

@@ -23,5 +23,5 @@ pair_of encoded = record { name = text_of encoded.0; value = text_of encoded.1 }
 
 -- the pairs of a query, in their order: the parts between the ampersands, each parted at its first equals sign; an empty part is
 -- no pair
-unfoldable pub pairs_of : List ℕ → List Pair
+abbrev pub pairs_of : List ℕ → List Pair
 pairs_of query = map pair_of (raw_pairs query)

@@ -1,5 +1,5 @@
 ghost use Rattle.std.specs.Prelude.{◌≡◌, ◌++◌, OnOk, OnErr};
-ghost use Rattle.http_wire.specs.Answer.{IsStatus, phrase_of, type_of, answer_bytes};
+ghost use Rattle.http_wire.specs.Answer.{IsStatus, phrase_of, type_of, answer_of, answer_bytes};
 
 use crate::append::append_all;
 use http::StatusCode;
@@ -23,17 +23,39 @@ pub fn write_answer(
 {
     let mut digits = Buffer::new();
     let mut length = Buffer::new();
+    append_answer(
+        digits.format(status).as_bytes(),
+        phrase_of(status),
+        type_of(json),
+        length.format(body.len()).as_bytes(),
+        body,
+        out,
+    )
+}
+
+/// Appends an answer of these parts. After Memory `out` is as before.
+fn append_answer<'a>(
+    status: &'a [u8],
+    phrase: &'a [u8],
+    kind: &'a [u8],
+    length: &'a [u8],
+    body: &'a [u8],
+    out: &mut Vec<u8>,
+) -> Result<(), Memory>
+    ensures ok { OnOk result (out.new.items ≡ out.old.items ++ answer_of status.now phrase.now kind.now length.now body.now) }
+    ensures err { OnErr result (out.new.items ≡ out.old.items) }
+{
     append_all(
         out,
         &[
             b"HTTP/1.1 ",
-            digits.format(status).as_bytes(),
+            status,
             b" ",
-            phrase_of(status),
+            phrase,
             b"\r\nContent-Type: ",
-            type_of(json),
+            kind,
             b"\r\nContent-Length: ",
-            length.format(body.len()).as_bytes(),
+            length,
             b"\r\nConnection: close\r\n\r\n",
             body,
         ],

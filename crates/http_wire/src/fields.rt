@@ -1,4 +1,4 @@
-ghost use Rattle.std.specs.Prelude.{◌≡◌, ◌<◌, ◌≤◌, ◌^◌, ◌∷◌, [], ℕ, length, map, All, MatchOption};
+ghost use Rattle.std.specs.Prelude.{◌≡◌, ◌<◌, ◌^◌, ◌∷◌, [], ℕ, length, map, All, IfSome, MatchOption};
 ghost use Rattle.httparse.specs.Spans.{IsHeaderWithin, header_bytes};
 ghost use Rattle.nsq_base.specs.Decimal.{IsDecimal};
 ghost use Rattle.http_wire.specs.Fields.{values_of, IsBodySize};
@@ -15,7 +15,7 @@ pub(crate) fn first_named<'a, 'b>(
     name: &[u8],
 ) -> Option<(&'a [u8], &'b [HeaderSpan])>
     requires { All (IsHeaderWithin (length head.now)) fields.now }
-    ensures within { MatchOption result (length fields.now ≤ length fields.now) (λ found. All (IsHeaderWithin (length head.now)) found.1.now) }
+    ensures within { IfSome result (λ found. All (IsHeaderWithin (length head.now)) found.1.now) }
     ensures values { MatchOption result (values_of name.now (map (header_bytes head.now) fields.now) ≡ [])
         (λ found. values_of name.now (map (header_bytes head.now) fields.now) ≡ found.0.now ∷ values_of name.now (map (header_bytes head.now) found.1.now)) }
 {

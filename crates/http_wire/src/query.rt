@@ -1,4 +1,5 @@
 ghost use Rattle.std.specs.Prelude.{◌≡◌, IfOk};
+ghost use Rattle.form_urlencoded.specs.Form.{split_once};
 ghost use Rattle.http_wire.specs.Target.{path_of, query_of, pairs_of};
 
 use form_urlencoded::parse;
@@ -10,9 +11,17 @@ pub(crate) fn split_target(target: &[u8]) -> (&[u8], &[u8])
     ensures path { result.0.now ≡ path_of target.now }
     ensures query { result.1.now ≡ query_of target.now }
 {
-    match target.iter().position(|&byte| byte == b'?') {
-        Some(place) => (&target[..place], &target[place + 1..]),
-        None => (target, &[]),
+    split_once(target, b'?')
+}
+
+/// The bytes before the first such byte, and those behind it.
+fn split_once(bytes: &[u8], separator: u8) -> (&[u8], &[u8])
+    ensures before { result.0.now ≡ (split_once separator bytes.now).0 }
+    ensures behind { result.1.now ≡ (split_once separator bytes.now).1 }
+{
+    match bytes.iter().position(|&byte| byte == separator) {
+        Some(place) => (&bytes[..place], &bytes[place + 1..]),
+        None => (bytes, &[]),
     }
 }
 

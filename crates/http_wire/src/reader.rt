@@ -10,7 +10,8 @@ use std::marker::Model;
 
 /// A reader of the first request of a connection, whose bytes come in pieces. It keeps all that it is fed and asks for no more
 /// memory than that, whatever length a head announces. It looks for the end of the head once at each byte, and reads the head
-/// again only where the body came behind it in a further piece.
+/// again only where the body came behind it in a further piece. Whoever reads stops feeding once something else than More was
+/// given: then no more is kept than a head, a body within the limit, and a piece.
 #[derive(Drop)]
 pub struct RequestReader {
     alloc: Global,

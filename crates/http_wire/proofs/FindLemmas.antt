@@ -1,14 +1,15 @@
 -- Lemmas on what is found at the front of bytes whose head has come, and on what a reader remembers.
-use Rattle.std.proofs.Common.{◌≡◌, ◌≢◌, ℕ, ◌+◌, ◌-◌, ◌<◌, ◌≤◌, true, false, List, [], ◌∷◌, ◌++◌, length, take, drop, refl, sym, ap, ◌∙◌, subst, arith, inl, inr, append_assoc, length-append, length-drop}
-use Rattle.std.proofs.lemmas.List.{take-append-le, take_rest}
+use Rattle.std.proofs.Common.{◌≡◌, ℕ, ◌+◌, ◌<◌, ◌≤◌, true, false, List, [], ◌++◌, length, take, drop, sym, ap, ◌∙◌, subst, arith, inl, inr, append_assoc, length-append}
+use Rattle.std.specs.Prelude.{min}
+use Rattle.std.proofs.lemmas.List.{take-append-le, append-nil}
 use Rattle.httparse.specs.Grammar.{AllPass, RequestHead}
 use Rattle.http_wire.specs.declared.head.Head.{Head}
 use Rattle.http_wire.specs.declared.request.Request.{Request}
 use Rattle.http_wire.specs.declared.search.Search.{Search}
-use Rattle.http_wire.specs.Head.{longest_head, is_line_end, EndsHead, EndsAt, IsJudged}
+use Rattle.http_wire.specs.Head.{longest_head, is_line_end, EndsHead, EndsAt}
 use Rattle.http_wire.specs.Fields.{transfer_encoding, values_of}
 use Rattle.http_wire.specs.Target.{path_of, query_of, pairs_of}
-use Rattle.http_wire.specs.Request.{fields_of, IsGoodHead, HasHead, IsBadHead, IsNoLength, Announces, IsTooBig, IsOpenBody, IsUnfinished, request_of, IsWhole}
+use Rattle.http_wire.specs.Request.{fields_of, IsGoodHead, HasHead, IsBadHead, IsNoLength, Announces, IsTooBig, IsUnfinished, IsWhole}
 use Rattle.http_wire.specs.Judged.{Says}
 use Rattle.http_wire.specs.Remembering.{Waits, Remembers}
 use Rattle.http_wire.specs.Searching.{HasNoEnd, IsSearched}
@@ -86,3 +87,21 @@ remembers_more limit bytes piece search needed r = record {
   searched = searched_more bytes piece search.begin search.done r.searched;
   waits = λ more l. subst (λ (x : List ℕ). IsUnfinished limit x) (sym (append_assoc bytes piece more)) (r.waits (piece ++ more) (omega (arith, l, ap length (append_assoc bytes piece more))));
 }
+
+-- what a search without an end tells of the bytes that it went over
+pub next_open : (limit : ℕ) (slice items : List ℕ) → slice ≡ items → length items < longest_head → HasNoEnd slice (min (length slice) longest_head) → IsUnfinished limit items
+next_open limit slice items e short none =
+    open_head limit items short (λ n l ends. none n (omega (arith, l, short, ap length e)) (subst (λ (x : List ℕ). EndsHead (take n x)) (sym e) ends))
+
+pub next_endless : (slice items : List ℕ) → slice ≡ items → longest_head ≤ length items → HasNoEnd slice (min (length slice) longest_head) → IsBadHead items
+next_endless slice items e long none =
+    endless items longest_head (omega arith) long (λ n l ends. none n (omega (arith, l, long, ap length e)) (subst (λ (x : List ℕ). EndsHead (take n x)) (sym e) ends))
+
+pub remembers : (limit : ℕ) (one other items : List ℕ) (search : Search) (needed : ℕ) → one ≡ items → other ≡ items → IsSearched one search.begin search.done → Waits limit other needed → Remembers limit items search needed
+remembers limit one other items search needed e f searched waits = record {
+  searched = subst (λ (x : List ℕ). IsSearched x search.begin search.done) e searched;
+  waits = subst (λ (x : List ℕ). Waits limit x needed) f waits;
+}
+
+pub waits_now : (limit : ℕ) (bytes : List ℕ) (needed : ℕ) → length bytes < needed → Waits limit bytes needed → IsUnfinished limit bytes
+waits_now limit bytes needed short waits = subst (λ (x : List ℕ). IsUnfinished limit x) (append-nil bytes) (waits [] (omega (arith, short, ap length (append-nil bytes))))

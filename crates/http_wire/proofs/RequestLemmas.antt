@@ -1,13 +1,12 @@
 -- Lemmas on what the bytes of a connection are.
-use Rattle.std.proofs.Common.{◌≡◌, ◌≢◌, ℕ, ◌+◌, ◌-◌, ◌<◌, ◌≤◌, true, false, List, [], ◌∷◌, ◌++◌, length, take, drop, refl, sym, ap, ◌∙◌, subst, arith, inl, inr, append_assoc, length-append, length-drop, ⊎_elim}
-use Rattle.std.proofs.lemmas.List.{take-append-le, drop-append-le, append-nil}
+use Rattle.std.proofs.Common.{◌≡◌, ◌≢◌, ℕ, ◌+◌, ◌≤◌, List, [], ◌++◌, length, take, drop, refl, sym, ap, ◌∙◌, subst, arith, inl, inr, length-append, length-drop, ⊎_elim}
+use Rattle.std.proofs.lemmas.List.{take-append-le, drop-append-le}
 use Rattle.httparse.specs.Grammar.{RequestHead}
 use Rattle.httparse.proofs.GrammarLemmas.{request_unique}
 use Rattle.http_wire.specs.declared.request.Request.{Request}
 use Rattle.http_wire.specs.Head.{longest_head, EndsAt, IsJudged}
 use Rattle.http_wire.specs.Fields.{content_length, transfer_encoding, values_of, HasNone, IsBodySize}
 use Rattle.http_wire.specs.Request.{fields_of, IsGoodHead, HasHead, IsBadHead, IsNoLength, Announces, IsTooBig, IsOpenBody, IsUnfinished, request_of, IsWhole, Outcome, Whole, Unfinished, BadHead, NoLength, TooBig, IsRequest}
-use Rattle.http_wire.specs.Laws.{OneRequest, RequestsStay}
 use Rattle.http_wire.proofs.HeadLemmas.{EndsAt_more, EndsAt_less, EndsAt_unique}
 use Rattle.http_wire.proofs.FieldLemmas.{length_unique}
 

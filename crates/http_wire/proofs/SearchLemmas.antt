@@ -1,14 +1,14 @@
 -- Lemmas on the search for the end of a head.
-use Rattle.std.proofs.Common.{◌≡◌, ◌≢◌, ℕ, ◌+◌, ◌-◌, ◌<◌, ◌≤◌, true, false, List, [], ◌∷◌, ◌++◌, length, take, drop, get_or, refl, sym, ap, ◌∙◌, subst, arith, length-append, length-drop, length-take, take-append-drop, ⊎_elim, add-one}
-use Rattle.std.specs.Prelude.{◌==◌, IsTrue, min, max, suc, zero, slice_index}
-use Rattle.std.proofs.lemmas.Bool.{cases_lt}
+use Rattle.std.proofs.Common.{◌≡◌, ℕ, ◌+◌, ◌-◌, ◌<◌, ◌≤◌, true, false, List, length, take, drop, get_or, refl, sym, ap, ◌∙◌, subst, arith, length-drop, take-append-drop, ⊎_elim, add-one}
+use Rattle.std.specs.Prelude.{◌==◌, max, suc, zero}
+use Rattle.std.proofs.lemmas.Bool.{cases_lt, eqb-true}
 use Rattle.std.proofs.lemmas.Bool.Decides.{nat_tests}
-use Rattle.std.proofs.lemmas.List.{take-take, take_all, length-take-le, get_or-take, get_or-drop}
+use Rattle.std.proofs.lemmas.List.{take-take, length-take-le, get_or-take, get_or-drop}
 use Rattle.std.proofs.lemmas.List.Elements.{All-take}
 use Rattle.memchr.specs.Find.{Nowhere, NoneBefore, Passes, is_byte}
 use Rattle.httparse.specs.Grammar.{AllPass}
-use Rattle.http_wire.specs.Head.{longest_head, is_line_end, EndsBlank, EndsHead, EndsAt}
-use Rattle.http_wire.specs.Searching.{HasNoEnd, IsBegun, IsSearched}
+use Rattle.http_wire.specs.Head.{is_line_end, EndsBlank, EndsHead, EndsAt}
+use Rattle.http_wire.specs.Searching.{HasNoEnd, IsBegun}
 use Rattle.http_wire.proofs.HeadLemmas.{blank_last, EndsAt_more}
 
 -- bytes that don't end with a line feed end no head
@@ -85,3 +85,19 @@ front_ends bytes m begin within ends = subst (λ (x : List ℕ). AllPass is_line
 
 pub back_ends : (bytes : List ℕ) (m begin : ℕ) → begin ≤ m → AllPass is_line_end (take begin (take m bytes)) → AllPass is_line_end (take begin bytes)
 back_ends bytes m begin within ends = subst (λ (x : List ℕ). AllPass is_line_end x) (take-take begin m bytes within) ends
+
+-- the byte that is found is a line feed
+pub found_at : (bytes slice : List ℕ) (done place : ℕ) → slice ≡ drop done bytes → Passes (is_byte 10) slice place → (get_or bytes (done + place) 0 == 10) ≡ true
+found_at bytes slice done place e there = subst (λ (x : ℕ). (x == 10) ≡ true) (ap (λ (x : List ℕ). get_or x place 0) e ∙ get_or-drop done bytes place 0) there
+
+-- the head begins before a line feed that stands no earlier
+pub begins_before : (bytes : List ℕ) (begin end : ℕ) → IsBegun bytes begin → begin ≤ end → end < length bytes → (get_or bytes end 0 == 10) ≡ true → begin < end
+begins_before bytes begin end begun order within feed =
+    ⊎_elim (λ (before : begin < end). before) (λ (behind : end ≤ begin).
+    (let same : begin ≡ end = omega arith in
+    let other : is_line_end (get_or bytes end 0) ≡ false = subst (λ (x : ℕ). is_line_end (get_or bytes x 0) ≡ false) same (begun.head (omega arith)) in
+    let ends : is_line_end (get_or bytes end 0) ≡ true = feed_ends (get_or bytes end 0) feed in
+    absurd (cc))) (cases_lt begin end)
+  where
+    feed_ends : (x : ℕ) → (x == 10) ≡ true → is_line_end x ≡ true
+    feed_ends x e = subst (λ (y : ℕ). is_line_end y ≡ true) (sym (eqb-true x 10 e)) refl

@@ -1,5 +1,5 @@
 -- What is found at the front of bytes whose head has come, and what a reader remembers.
-use Rattle.std.specs.Prelude.{ℕ, ◌<◌, List, ◌++◌, length}
+use Rattle.std.specs.Prelude.{ℕ, List}
 use Rattle.http_wire.specs.declared.found.Found.{Found}
 use Rattle.http_wire.specs.declared.found.Found.TheVariants as found
 use Rattle.http_wire.specs.declared.request.Request.{Request}

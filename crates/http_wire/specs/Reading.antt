@@ -1,10 +1,8 @@
 -- What a reader of a request in pieces holds, and what it gives.
-use Rattle.std.specs.Prelude.{ℕ, ◌<◌, ◌≤◌, List, ◌++◌, length, take}
-use Rattle.httparse.specs.Grammar.{AllPass}
+use Rattle.std.specs.Prelude.{ℕ, List}
 use Rattle.http_wire.specs.declared.request.Request.{Request}
 use Rattle.http_wire.specs.declared.got.GotRequest.{GotRequest}
 use Rattle.http_wire.specs.declared.got.GotRequest.TheVariants as got
-use Rattle.http_wire.specs.Head.{is_line_end, EndsHead}
 use Rattle.http_wire.specs.Request.{Whole, Unfinished, BadHead, NoLength, TooBig, IsRequest}
 
 -- a reader: the greatest size of a body, and all bytes that it was fed, in their order

@@ -72,11 +72,10 @@ impl RequestReader {
         let (search, end) = find_end(&self.bytes, self.search);
         self.search = search;
         let Some(end) = end else {
-            return if self.bytes.len() < LONGEST_HEAD {
-                GotRequest::More
-            } else {
-                GotRequest::BadHead
-            };
+            if self.bytes.len() < LONGEST_HEAD {
+                return GotRequest::More;
+            }
+            return GotRequest::BadHead;
         };
         match find(self.alloc, self.limit, &self.bytes, end) {
             Found::Whole(request) => GotRequest::Whole(request),

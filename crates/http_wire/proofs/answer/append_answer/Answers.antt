@@ -1,4 +1,4 @@
-use Rattle.std.proofs.Common.{◌≡◌, ◌∙◌, ◌++◌, ap, List, ℕ}
+use Rattle.std.proofs.Common.{◌∙◌, ◌++◌, ap, List, ℕ}
 use Rattle.std.proofs.lemmas.Result.{on_ok_weaker}
 use Rattle.http_wire.proofs.AnswerLemmas.{answer_parts}
 use Rattle.http_wire.proofs.answer.append_answer.Goals as goal

@@ -1,4 +1,4 @@
-use Rattle.std.proofs.Common.{◌≡◌, ◌∙◌, map, length, arith}
+use Rattle.std.proofs.Common.{◌∙◌, map, arith}
 use Rattle.std.proofs.lemmas.List.{length-map}
 use Rattle.httparse.specs.Spans.{header_bytes}
 use Rattle.http_wire.proofs.FieldLemmas.{named_here, named_other, named_never}

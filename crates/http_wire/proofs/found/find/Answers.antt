@@ -1,9 +1,9 @@
-use Rattle.std.proofs.Common.{◌≡◌, ◌-◌, ℕ, List, length, take, drop, ap, refl, arith}
+use Rattle.std.proofs.Common.{length, take, drop, ap, refl, arith}
 use Rattle.std.proofs.lemmas.List.{take_rest, length-drop}
 use Rattle.http_wire.specs.Target.{path_of, query_of, pairs_of}
 use Rattle.http_wire.specs.declared.request.Request.{Request}
 use Rattle.http_wire.proofs.HeadLemmas.{EndsAt_take}
-use Rattle.http_wire.proofs.FindLemmas.{bad_head, no_length, too_big, open_body, whole}
+use Rattle.http_wire.proofs.FindLemmas.{bad_head, too_big, open_body, whole}
 use Rattle.http_wire.proofs.found.find.Goals as goal
 
 pub read_head-requires : goal.read_head-requires

@@ -90,7 +90,7 @@ fn start_line(line: &[u8]) -> Option<Head<'_>> {
     ) else {
         return None;
     };
-    let versioned = version == b"HTTP/1.0" || version == b"HTTP/1.1";
+    let versioned = matches!(version, b"HTTP/1.0" | b"HTTP/1.1");
     let visible = target.iter().all(|byte| *byte > b' ' && *byte != 127);
     if !is_token(method)
         || target.is_empty()

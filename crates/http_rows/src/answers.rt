@@ -1,6 +1,7 @@
 use http_wire::write_answer;
 use nsq_base::Memory;
 use std::alloc::Global;
+use std::test::Fail;
 
 /// A status of an answer.
 #[derive(Clone, Copy)]

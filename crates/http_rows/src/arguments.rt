@@ -1,6 +1,7 @@
 use http_wire::{GotRequest, RequestReader};
 use nsq_base::Memory;
 use std::alloc::Global;
+use std::test::Fail;
 
 /// A request's bytes, a name, and the value that counts for it.
 struct Row {

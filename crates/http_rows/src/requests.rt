@@ -4,6 +4,7 @@ use http_plain::{Plain, request_of};
 use http_wire::Request;
 use nsq_base::{Body, Memory, Pair, Pairs};
 use std::alloc::Global;
+use std::test::Fail;
 
 /// What a row's bytes are.
 #[derive(Clone, Copy)]

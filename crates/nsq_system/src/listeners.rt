@@ -123,6 +123,13 @@ impl<N: Net + Clock> Listeners<N> {
         }
     }
 
+    /// How often an accept failed.
+    pub fn faults(&self) -> u64
+        ensures { result ≡ accept_faults_of self.now }
+    {
+        self.faults
+    }
+
     /// The address of the listener of the TCP protocol, with the port that it got where 0 was asked for.
     pub fn tcp_address(&self) -> io::Result<SocketAddr> {
         self.tcp.local_addr()

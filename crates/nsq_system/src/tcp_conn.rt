@@ -99,6 +99,20 @@ impl TcpConn {
         })
     }
 
+    /// How often a read failed.
+    pub fn read_faults(&self) -> u64
+        ensures { result ≡ read_faults_of self.now }
+    {
+        self.read_faults
+    }
+
+    /// How often a write failed, or bytes that were taken couldn't be sent.
+    pub fn write_faults(&self) -> u64
+        ensures { result ≡ write_faults_of self.now }
+    {
+        self.write_faults
+    }
+
     /// Sends what was gathered, if anything was. It may wait. After `Failed` the gathered bytes are lost.
     pub fn flush(&mut self) -> Did
         ensures gathered { gathered_of self.new ≡ [] }

@@ -31,6 +31,13 @@ impl<N: Net<Stream = TcpStream>> TcpDialer<N> {
             faults: 0,
         }
     }
+
+    /// How often a dial failed.
+    pub fn faults(&self) -> u64
+        ensures { result ≡ dial_faults_of self.now }
+    {
+        self.faults
+    }
 }
 
 impl<N: Net<Stream = TcpStream>> Dialer for TcpDialer<N> {

@@ -1,0 +1,130 @@
+use crate::folder_steps::{Step, answers};
+use nsq_base::Memory;
+use nsq_fakes::{Failing, FolderCall, MemFolder};
+use nsq_outside::{Did, Length, ReadAt};
+use std::alloc::Global;
+use std::test::Fail;
+
+/// Files, each with its name and its bytes.
+type Files = &'static [(&'static str, &'static [u8])];
+
+struct Row {
+    name: &'static str,
+    files: Files,
+    fails: &'static [Failing],
+    steps: &'static [Step],
+    /// Files that are there then.
+    there: Files,
+    /// Names that no file has then.
+    absent: &'static [&'static str],
+}
+
+const TWO_FILES: Files = &[("a", b"one"), ("b", b"two")];
+
+const ROWS: [Row; 4] = [
+    Row {
+        name: "reads and writes",
+        files: TWO_FILES,
+        fails: &[],
+        steps: &[
+            Step::WriteAt("a", 1, b"xyz", Did::Done),
+            Step::Len("a", Length::Is(4)),
+            Step::WriteAt("c", 2, b"!", Did::Done),
+            Step::ReadAt("a", 2, ReadAt::Got(2), b"yz--"),
+            Step::Cut("a", 2, Did::Done),
+        ],
+        there: &[("a", b"ox"), ("b", b"two"), ("c", b"\0\0!")],
+        absent: &[],
+    },
+    Row {
+        name: "a rename takes the place of a file",
+        files: TWO_FILES,
+        fails: &[],
+        steps: &[
+            Step::Rename("a", "b", Did::Done),
+            Step::List(&["b"]),
+            Step::Sync("b", Did::Done),
+        ],
+        there: &[("b", b"one")],
+        absent: &["a"],
+    },
+    Row {
+        name: "a file that is removed is absent",
+        files: TWO_FILES,
+        fails: &[],
+        steps: &[
+            Step::Remove("b", Did::Done),
+            Step::SyncNames(Did::Done),
+            Step::Len("b", Length::Absent),
+        ],
+        there: &[("a", b"one")],
+        absent: &["b"],
+    },
+    Row {
+        name: "calls that are to fail do, by their numbers of one method and of all",
+        files: TWO_FILES,
+        fails: &[
+            Failing {
+                call: FolderCall::WriteAt,
+                from: 1,
+                to: 2,
+            },
+            Failing {
+                call: FolderCall::Any,
+                from: 4,
+                to: 5,
+            },
+        ],
+        steps: &[
+            Step::Sync("a", Did::Done),
+            Step::WriteAt("a", 0, b"1", Did::Done),
+            Step::WriteAt("a", 0, b"2", Did::Failed),
+            Step::WriteAt("a", 1, b"3", Did::Done),
+            Step::Remove("a", Did::Failed),
+            Step::ReadAt("a", 0, ReadAt::Got(3), b"13e"),
+            Step::Remove("a", Did::Done),
+        ],
+        there: &[("b", b"two")],
+        absent: &["a"],
+    },
+];
+
+/// A folder with these files, of which these calls fail.
+fn made(alloc: Global, files: Files, fails: &[Failing]) -> Result<MemFolder, Memory> {
+    let mut list = Vec::new(alloc);
+    for (name, bytes) in files {
+        list.push((String::from_str(alloc, name)?, bytes.to_vec(alloc)?))?;
+    }
+    MemFolder::new(alloc, list, fails.to_vec(alloc)?)
+}
+
+/// Whether these files are there, and none of the absent ones.
+fn has(folder: &MemFolder, there: Files, absent: &[&str]) -> bool {
+    let mut all = true;
+    for (name, bytes) in there {
+        all = all && folder.file(name) == Some(bytes);
+    }
+    for name in absent {
+        all = all && folder.file(name).is_none();
+    }
+    all
+}
+
+fn holds(alloc: Global, row: &Row) -> Result<bool, Memory> {
+    let mut folder = made(alloc, row.files, row.fails)?;
+    for step in row.steps {
+        if !answers(alloc, &mut folder, *step)? {
+            return Ok(false);
+        }
+    }
+    Ok(has(&folder, row.there, row.absent))
+}
+
+#[test]
+fn rows(rt: HostRuntime) -> Result<(), Fail> {
+    for row in &ROWS {
+        let holds = holds(rt.alloc(), row)?;
+        assert!(rt; holds, "{}", row.name);
+    }
+    Ok(())
+}

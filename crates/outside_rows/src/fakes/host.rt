@@ -1,0 +1,235 @@
+ghost use Rattle.std.specs.Prelude.{◌≡◌, ◌≤◌, [], false, IfOk, IsTrue, IsSome, length};
+ghost use Rattle.nsq_fakes.specs.MemHosts.{content_of, state_of};
+
+use super::journal::{Seen, keeps};
+use super::{Pieces, made_conn};
+use nsq_base::Memory;
+use nsq_fakes::{MemClock, MemConn, MemFolder, MemHost, MemJournal, Start};
+use nsq_outside::{
+    Accept, Clock, Dialled, Did, End, Host, Journal, Kind, Kit, Read, dial, get, put,
+};
+use std::alloc::Global;
+use std::sync::Wait;
+use std::test::Fail;
+
+/// What a host answers when it was started and is asked for one caller, what dials of addresses answer then, and what it
+/// keeps of all that. Whoever comes is sent back the first piece that it sends, up to 8 bytes.
+struct Row {
+    name: &'static str,
+    callers: &'static [(Kind, Pieces)],
+    dialled: &'static [Pieces],
+    beside: bool,
+    /// The kind of the caller that is served.
+    served: Option<Kind>,
+    /// Addresses, each with whether a dial gives a connection.
+    dials: &'static [(&'static str, bool)],
+    prints: &'static [&'static [u8]],
+    tells: &'static [&'static [u8]],
+    given: &'static [Kind],
+    /// What was written to the connections that came back, each with its number.
+    back: &'static [(u64, &'static [u8])],
+    printed: &'static [u8],
+}
+
+const ROWS: [Row; 3] = [
+    Row {
+        name: "a caller is served through the bounds",
+        callers: &[(Kind::Http, &[Some(b"GET /ping")])],
+        dialled: &[],
+        beside: true,
+        served: Some(Kind::Http),
+        dials: &[],
+        prints: &[],
+        tells: &[],
+        given: &[Kind::Http],
+        back: &[(1, b"GET /pin")],
+        printed: b"",
+    },
+    Row {
+        name: "a dial gives the next connection, until none is left",
+        callers: &[],
+        dialled: &[&[Some(b"hi")]],
+        beside: false,
+        served: None,
+        dials: &[("127.0.0.1:4160", true), ("127.0.0.1:4161", false)],
+        prints: &[],
+        tells: &[],
+        given: &[],
+        back: &[(2, b"hi")],
+        printed: b"",
+    },
+    Row {
+        name: "a host keeps what it is told",
+        callers: &[],
+        dialled: &[],
+        beside: true,
+        served: None,
+        dials: &[],
+        prints: &[b"a", b"b"],
+        tells: &[b"c"],
+        given: &[],
+        back: &[],
+        printed: b"ab",
+    },
+];
+
+/// Sends back the first piece of a connection.
+fn echo<R: Wait, H: Host<Seen>>(rt: &R, conn: &mut H::Conn) {
+    let mut buffer = [0u8; 8];
+    if let Read::Got(count) = get(rt, conn, &mut buffer) {
+        let _ = put(rt, conn, &buffer[..count]);
+    }
+}
+
+/// Notes a reading of the clock.
+fn note_time<C: Clock, J: Journal<Seen>>(clock: &mut C, journal: &mut J)
+    requires { J.is_aside journal.old ≡ false }
+    ensures { J.is_aside journal.new ≡ false }
+{
+    let moment = clock.now();
+    if journal.ready(&Seen(moment)).is_ok() {
+        journal.note(End::Done);
+    }
+}
+
+/// Serves one caller, and gives its kind.
+fn serve_one<R: Wait, H: Host<Seen>>(rt: &R, host: &mut H) -> Option<Kind>
+    requires home { IsSome (H.state host.old).kit }
+    requires room { IsTrue H.tells → length (H.content host.old).back ≤ length (H.content host.old).given }
+{
+    if host.start(rt, "127.0.0.1:4150", "127.0.0.1:4151", "data") == Did::Failed {
+        return None;
+    }
+    let mut kit = host.lend();
+    note_time(&mut kit.clock, &mut kit.journal);
+    let kind = match host.accept(rt) {
+        Accept::Caller(kind, mut conn) => {
+            echo::<R, H>(rt, &mut conn);
+            host.done(1, conn);
+            Some(kind)
+        }
+        Accept::Nothing | Accept::Halt | Accept::Failed => None,
+    };
+    host.restore(kit);
+    kind
+}
+
+/// Dials an address, sends back the first piece, and hands the connection back.
+fn serve_link<R: Wait, H: Host<Seen>>(rt: &R, host: &mut H, address: &str) -> bool {
+    match dial(rt, host, address) {
+        Dialled::Linked(mut conn) => {
+            echo::<R, H>(rt, &mut conn);
+            host.done(2, conn);
+            true
+        }
+        Dialled::Failed => false,
+    }
+}
+
+/// A kit with the clock at 7.
+fn home_kit(alloc: Global) -> Result<Kit<MemFolder, MemClock, MemJournal<Seen>>, Memory> {
+    Ok(Kit {
+        folder: MemFolder::new(alloc, Vec::new(alloc), Vec::new(alloc))?,
+        clock: MemClock::new(alloc, [7].to_vec(alloc)?)?,
+        journal: MemJournal::new(alloc),
+    })
+}
+
+/// A host with the callers and the connections of a row. Its kit is at home, and no connection came back yet.
+fn made(alloc: Global, row: &Row) -> Result<MemHost<Seen>, Memory>
+    ensures home { IfOk result (λ host. IsSome (state_of host).kit) }
+    ensures back { IfOk result (λ host. (content_of host).back ≡ []) }
+{
+    let mut callers = Vec::new(alloc);
+    for (kind, pieces) in row.callers {
+        callers.push((*kind, made_conn(alloc, pieces, &[], &[])?))?;
+    }
+    let mut dialled = Vec::new(alloc);
+    for pieces in row.dialled {
+        dialled.push(made_conn(alloc, pieces, &[], &[])?)?;
+    }
+    MemHost::new(alloc, callers, dialled, home_kit(alloc)?, row.beside)
+}
+
+/// Whether nobody will call any more.
+fn is_halt(accept: Accept<MemConn>) -> bool {
+    match accept {
+        Accept::Halt => true,
+        Accept::Caller(_, _) | Accept::Nothing | Accept::Failed => false,
+    }
+}
+
+/// Whether these connections came back.
+fn is_back(back: &[(u64, MemConn)], want: &[(u64, &[u8])]) -> bool {
+    let mut all = back.len() == want.len();
+    for ((number, conn), (want_number, written)) in back.iter().zip(want) {
+        all = all && number == want_number && conn.bytes_written() == *written;
+    }
+    all
+}
+
+/// Whether these lines were told.
+fn is_told(lines: &[Vec<u8>], want: &[&[u8]]) -> bool {
+    let mut all = lines.len() == want.len();
+    for (line, want) in lines.iter().zip(want) {
+        all = all && line.as_slice() == *want;
+    }
+    all
+}
+
+/// Whether the addresses that were asked for are those of a row, in order.
+fn is_asked(asked: &[String], want: &[(&str, bool)]) -> bool {
+    let mut all = asked.len() == want.len();
+    for (address, want) in asked.iter().zip(want) {
+        all = all && address.as_str() == want.0;
+    }
+    all
+}
+
+/// Whether a host was started once, with the address of HTTP.
+fn is_started(starts: &[Start]) -> bool {
+    match starts.first() {
+        Some(start) => starts.len() == 1 && start.http.as_str() == "127.0.0.1:4151",
+        None => false,
+    }
+}
+
+/// Whether a host keeps what a row says, and its kit the reading of the clock.
+fn keeps_all(host: &MemHost<Seen>, row: &Row) -> bool {
+    let noted = match host.kit() {
+        Some(kit) => keeps(&kit.journal, &[(7, End::Done)]),
+        None => false,
+    };
+    is_started(host.starts())
+        && noted
+        && host.beside() == row.beside
+        && host.given() == row.given
+        && host.printed() == row.printed
+        && is_back(host.back(), row.back)
+        && is_told(host.lines(), row.tells)
+        && is_asked(host.asked(), row.dials)
+}
+
+fn holds<R: Wait>(rt: &R, alloc: Global, row: &Row) -> Result<bool, Memory> {
+    let mut host = made(alloc, row)?;
+    let mut all = serve_one(rt, &mut host) == row.served;
+    for (address, linked) in row.dials {
+        all = serve_link(rt, &mut host, address) == *linked && all;
+    }
+    for text in row.prints {
+        all = host.print(rt, text) == Did::Done && all;
+    }
+    for line in row.tells {
+        host.tell(rt, line);
+    }
+    Ok(all && is_halt(host.accept(rt)) && keeps_all(&host, row))
+}
+
+#[test]
+fn rows(rt: HostRuntime) -> Result<(), Fail> {
+    for row in &ROWS {
+        let holds = holds(&rt, rt.alloc(), row)?;
+        assert!(rt; holds, "{}", row.name);
+    }
+    Ok(())
+}

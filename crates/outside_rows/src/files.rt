@@ -1,0 +1,4 @@
+//! Rows of the system's files and clock.
+
+mod clock;
+mod folder;

@@ -1,0 +1,11 @@
+//! Rows of the outside: of its fakes in memory, and of its adapters over real sockets, files and the system's clock.
+#![tactic(auto)]
+
+#[cfg(test)]
+mod fakes;
+#[cfg(test)]
+mod files;
+#[cfg(test)]
+mod folder_steps;
+#[cfg(test)]
+mod sockets;

@@ -9,6 +9,7 @@ mod ask;
 mod ended;
 mod entry;
 mod items;
+pub mod laws;
 mod stats;
 
 pub use ask::{Ask, Said};

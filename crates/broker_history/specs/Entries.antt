@@ -1,5 +1,5 @@
 -- Histories, and which kind of thing an entry is.
-use Rattle.std.specs.Prelude.{ℕ, ◌+◌, ◌==◌, Bool, true, false, not, ◌&&◌, ◌||◌, if◌then◌else◌, List, [], ◌∷◌, length, filter, None}
+use Rattle.std.specs.Prelude.{◌≡◌, ℕ, ◌+◌, ◌==◌, Bool, true, false, not, ◌&&◌, ◌||◌, if◌then◌else◌, List, [], ◌∷◌, length, filter, None}
 use Rattle.std.specs.List.{list_any}
 use Rattle.nsq_outside.specs.declared.journal.End.{End}
 use Rattle.nsq_outside.specs.declared.journal.End.TheVariants.{Faulted}
@@ -45,6 +45,9 @@ is_free_act act = is_move act || is_stuck_topic act
 -- the act is common: it names 0, and stands in turns of any connection
 abbrev pub is_common : Act → Bool
 is_common act = is_free_act act || is_tick act
+
+abbrev pub IsCommon : Entry × End → Type 0
+IsCommon e = is_common e.0.act ≡ true
 
 abbrev pub is_began : Act → Bool
 is_began Began = true

@@ -1,0 +1,3 @@
+pub mod Histories
+pub mod Stops
+pub mod Own

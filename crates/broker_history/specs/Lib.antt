@@ -1,0 +1,17 @@
+pub mod State
+pub mod Channels
+pub mod Topics
+pub mod Identify
+pub mod Reply
+pub mod Said
+pub mod Changes
+pub mod Credit
+pub mod Entries
+pub mod Step
+pub mod Before
+pub mod Legal
+pub mod Moments
+pub mod Talk
+pub mod Found
+pub mod Left
+pub mod Laws

@@ -20,6 +20,11 @@ const TAKEN: u64 = 1;
 
 const COUNTED: u64 = 2;
 
+// The bell while no thread sleeps, and while one may.
+const QUIET: u64 = 0;
+
+const CALLED: u32 = 1;
+
 // How often a thread looks at the word before it sleeps.
 const LOOKS: u32 = 40;
 
@@ -35,7 +40,7 @@ impl<S: Stands> Turnstile<S> {
         self.table.shared.compare_exchange::<Win>(seat, 0, 0, TAKEN) == 0
     }
 
-    // Looks for a free turn a while, and takes it.
+    // Looks for a free turn a while, and takes it. Where others sleep already it doesn't: fewer threads at the word are faster.
     fn spin(&self, seat: &mut Place<S>) -> bool
         requires of { seat.old.table_id ≡ self.now.table.shared.table_id }
         requires pass { IsPassSeat seat.old }
@@ -44,6 +49,9 @@ impl<S: Stands> Turnstile<S> {
         ensures won { MatchBool result (Wins (λ b. told S.tells S.entries b.value) S.number S.is_common (λ p b. S.descends p b.value) seat.old.me seat.new.me) (seat.new.me ≡ seat.old.me) }
     {
         for _ in 0..LOOKS {
+            if self.bell.load(SeqCst) != QUIET {
+                return false;
+            }
             spin_loop();
             if self.table.shared.peek(0) == 0 {
                 if self.try_win(seat) {
@@ -54,7 +62,8 @@ impl<S: Stands> Turnstile<S> {
         false
     }
 
-    // Sleeps until a turn is free, and takes it. A giver wakes one of those that sleep, so each that wakes tries, and may sleep again.
+    // Sleeps until a turn is free, and takes it. The bell is set before each try and before each sleep: a giver whose turn the try
+    // still finds will see it set, and one of those that sleep wakes and sets it again for the others. Who wins leaves it set.
     fn sleep<R: Wait>(&self, rt: &R, seat: &mut Place<S>)
         requires of { seat.old.table_id ≡ self.now.table.shared.table_id }
         requires pass { IsPassSeat seat.old }
@@ -62,15 +71,12 @@ impl<S: Stands> Turnstile<S> {
         ensures same { IsSameSeat seat.old seat.new }
         ensures won { Wins (λ b. told S.tells S.entries b.value) S.number S.is_common (λ p b. S.descends p b.value) seat.old.me seat.new.me }
     {
-        self.sleepers.fetch_add(1, SeqCst);
         for _ in rt.forever() {
+            self.bell.store(CALLED as u64, SeqCst);
             if self.try_win(seat) {
-                self.sleepers.fetch_sub(1, SeqCst);
                 return;
             }
-            let word = self.table.shared.peek(0);
-            let expected = if word == COUNTED { 2 } else { 1 };
-            self.table.shared.park(rt, 0, expected);
+            self.bell.park(rt, CALLED);
         }
         unreachable!()
     }
@@ -89,6 +95,16 @@ impl<S: Stands> Turnstile<S> {
             return;
         }
         self.sleep(rt, seat);
+    }
+
+    // Wakes a thread where one may sleep. A word that is free has to stand before this looks.
+    fn wake_one(&self) {
+        if self.bell.load(SeqCst) == QUIET {
+            return;
+        }
+        if self.bell.swap(QUIET, SeqCst) != QUIET {
+            self.bell.wake_one();
+        }
     }
 
     // Waits for the turn, and takes the value out.
@@ -129,9 +145,7 @@ impl<S: Stands> Turnstile<S> {
         let empty = shared.exchange(seat, 0, home);
         let None = empty else { unreachable!() };
         shared.store::<Free>(seat, 0, 0);
-        if self.sleepers.load(SeqCst) > 0 {
-            shared.wake_one(0);
-        }
+        self.wake_one();
     }
 
     // Cuts a new seat off the first pass's, with the number that this call picks.

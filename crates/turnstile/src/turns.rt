@@ -26,7 +26,7 @@ impl<S: Stands> Turnstile<S> {
             Ok((table, seat)) => {
                 let turnstile = Turnstile {
                     table,
-                    sleepers: AtomicU64::new(0),
+                    bell: AtomicU64::new(0),
                 };
                 Ok((turnstile, Pass { seat }))
             }
@@ -108,7 +108,7 @@ impl<S: Stands> Turnstile<S> {
         ensures kept { KeepsJoined pass (told S.tells S.entries result) }
         ensures named { NamesJoined pass (told S.tells S.entries result) }
     {
-        let Turnstile { table, sleepers: _ } = self;
+        let Turnstile { table, bell: _ } = self;
         let Pass { seat } = pass;
         let mut closed = table.close_with(seat);
         let Some(value) = closed.take(0) else {

@@ -17,7 +17,7 @@ pub struct Turnstile<S: Stands> {
         Law,
         Global,
     >,
-    // How many threads sleep, or are about to. The giver looks at it to know whether to wake one.
-    pub(crate) sleepers: AtomicU64,
+    // 1 while a thread may sleep, which a giver then wakes, and 0 else.
+    pub(crate) bell: AtomicU64,
     ghost sized: { (table.shared.table_id.words ≡ 1) × (table.shared.table_id.slots ≡ 1) },
 }

@@ -1,4 +1,5 @@
 pub mod Failings
+pub mod Made
 pub mod MemFiles
 pub mod MemFolders
 pub mod Pieces

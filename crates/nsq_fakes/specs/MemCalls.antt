@@ -13,3 +13,8 @@ IsFailing calls = Contains calls.fails.items calls.next
 -- one call came
 abbrev pub Counts : Calls → Calls → Type 0
 Counts old new = (new.fails.items ≡ old.fails.items) × (new.next ≡ min (old.next + 1) (2 ^ 64 - 1))
+
+-- the faults are forgotten: none is counted any more. Which calls fail stays, and so does the number of the next one
+pub record ForgetsFaults (old new : Calls) : Type 0 where
+  pub none : new.faults.count ≡ 0
+  pub rest : new ≡ record old { faults = new.faults }

@@ -1,7 +1,7 @@
 -- What a connection in memory shows.
 use Rattle.std.specs.Prelude.{ℕ, ◌≡◌, ◌<◌, ◌⊎◌, List, drop, length, map, IsSomeAnd, slice_get, min, Bool, true, false}
 use Rattle.nsq_fakes.specs.Scripts.{to_come, rest_of, IsMark, IsAtEnd, IsWhole, PassesFirst, PassesBytes}
-use Rattle.nsq_fakes.specs.MemCalls.{FailsAt, IsFailing, Counts}
+use Rattle.nsq_fakes.specs.MemCalls.{FailsAt, IsFailing, Counts, ForgetsFaults}
 use Rattle.nsq_outside.specs.Hosts.{IsFresh, IsFreshLink}
 use Rattle.nsq_outside.specs.declared.conn.Read.{Read}
 use Rattle.nsq_outside.specs.declared.conn.Read.TheVariants.{Got, Nothing, End, Failed as ReadFailed}
@@ -26,7 +26,7 @@ has_ended conn = conn.ended
 
 -- how often a read failed
 abbrev pub read_faults_of : MemConn → ℕ
-read_faults_of conn = conn.reads.faults
+read_faults_of conn = conn.reads.faults.count
 
 -- the bytes that were written
 abbrev pub written_of : MemConn → List ℕ
@@ -34,7 +34,7 @@ written_of conn = conn.written.items
 
 -- how often a write failed
 abbrev pub write_faults_of : MemConn → ℕ
-write_faults_of conn = conn.writes.faults
+write_faults_of conn = conn.writes.faults.count
 
 -- nothing was called yet, and the reads and the writes of these numbers fail
 abbrev pub FailsAtCalls : List ℕ → List ℕ → MemConn → Type 0
@@ -76,8 +76,8 @@ IsAllOrNone offered WriteFailed = Unit {0}
 -- the pieces to be read and the reads and writes that fail are as before, and so are the numbers of the next ones; what failed is forgotten
 pub record IsRestarted (old new : MemConn) : Type 0 where
   pub script : new.script ≡ old.script
-  pub reads : new.reads ≡ record old.reads { faults = 0 }
-  pub writes : new.writes ≡ record old.writes { faults = 0 }
+  pub reads : ForgetsFaults old.reads new.reads
+  pub writes : ForgetsFaults old.writes new.writes
 
 -- the first of the connections to come is given, so restarted, and the others are still to come; or all are
 abbrev pub LinksFirst : List MemConn → List MemConn → Dialled MemConn → Type 0

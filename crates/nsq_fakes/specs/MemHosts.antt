@@ -26,7 +26,7 @@ content_of host = record {
 
 -- its kit, whether callers get threads, and its counts of faults
 abbrev pub state_of : {E : Type 0} → MemHost E → HostState MemFolder MemClock (MemJournal E)
-state_of host = record { kit = host.kit; beside = host.beside; accept_faults = host.accept_faults; print_faults = host.print_faults; tell_faults = host.tell_faults }
+state_of host = record { kit = host.kit; beside = host.beside; accept_faults = host.accept_faults.count; print_faults = host.print_faults.count; tell_faults = host.tell_faults.count }
 
 -- what was dialled, and what the connections to come will send
 abbrev pub dials_of : {E : Type 0} → MemHost E → DialerContent
@@ -34,7 +34,7 @@ dials_of host = dialled_of host.dialer
 
 -- how often a dial failed
 abbrev pub dial_faults_of : {E : Type 0} → MemHost E → ℕ
-dial_faults_of host = host.dialer.faults
+dial_faults_of host = host.dialer.faults.count
 
 -- a connection that it gives to a caller is unused
 abbrev pub IsUnusedCaller : Accept MemConn → Type 0

@@ -1,26 +1,28 @@
 ghost use Rattle.std.specs.Prelude.{◌≡◌, ◌≤◌, ◌↔◌, IsTrue, true};
 ghost use Rattle.nsq_outside.specs.Causes.{Rose, CountsFault};
 
+use nsq_outside::Faults;
+
 /// The calls of one method: which of them fail, by their numbers from 0, and how many failed.
 #[derive(Drop)]
 pub struct Calls {
     fails: Vec<u64>,
     next: u64,
-    pub faults: u64,
+    pub faults: Faults,
 }
 
 impl Calls {
-    ghost use Rattle.nsq_fakes.specs.MemCalls.{FailsAt, IsFailing, Counts};
+    ghost use Rattle.nsq_fakes.specs.MemCalls.{FailsAt, IsFailing, Counts, ForgetsFaults};
 
     /// No call came yet. Those with these numbers will fail.
     pub fn new(fails: Vec<u64>) -> Calls
         ensures fails { FailsAt fails.items result }
-        ensures no_fault { result.faults ≡ 0 }
+        ensures no_fault { result.faults.count ≡ 0 }
     {
         Calls {
             fails,
             next: 0,
-            faults: 0,
+            faults: Faults::none(),
         }
     }
 
@@ -28,9 +30,9 @@ impl Calls {
     pub fn next_fails(&mut self) -> bool
         ensures failing { IsTrue result ↔ IsFailing self.old }
         ensures counted { Counts self.old self.new }
-        ensures faults { self.old.faults ≤ self.new.faults }
-        ensures cause { IsTrue result → Rose self.old.faults self.new.faults }
-        ensures fault { CountsFault self.old.faults self.new.faults result }
+        ensures faults { self.old.faults.count ≤ self.new.faults.count }
+        ensures cause { IsTrue result → Rose self.old.faults.count self.new.faults.count }
+        ensures fault { CountsFault self.old.faults.count self.new.faults.count result }
     {
         let call = self.next;
         self.next = call.saturating_add(1);
@@ -43,18 +45,18 @@ impl Calls {
 
     /// Counts a fault.
     pub fn add_fault(&mut self)
-        ensures faults { self.old.faults ≤ self.new.faults }
-        ensures rose { Rose self.old.faults self.new.faults }
-        ensures fault { CountsFault self.old.faults self.new.faults true }
+        ensures faults { self.old.faults.count ≤ self.new.faults.count }
+        ensures rose { Rose self.old.faults.count self.new.faults.count }
+        ensures fault { CountsFault self.old.faults.count self.new.faults.count true }
         ensures calls { self.new ≡ record self.old { faults = self.new.faults } }
     {
-        self.faults = self.faults.saturating_add(1);
+        self.faults.add();
     }
 
     /// As if none had failed yet. The numbers of the calls go on.
     pub fn forget_faults(&mut self)
-        ensures { self.new ≡ record self.old { faults = 0 } }
+        ensures { ForgetsFaults self.old self.new }
     {
-        self.faults = 0;
+        self.faults = Faults::none();
     }
 }

@@ -81,7 +81,7 @@ impl MemConn {
 
 impl Source for MemConn {
     ghost use Rattle.nsq_fakes.specs.MemConns.{pieces_of, left_of, has_ended, read_faults_of, written_of, write_faults_of, CountsRead, FollowsScript};
-    ghost use Rattle.nsq_outside.specs.Streams.{IsAmountRead, Reads, EndsWith, ReadFails, ReadCounts};
+    ghost use Rattle.nsq_outside.specs.Streams.{IsAmountRead, Reads, KeepsBuffer, EndsWith, ReadFails, ReadCounts};
 
     ghost tells_pieces = { true };
 
@@ -99,6 +99,7 @@ impl Source for MemConn {
         requires { 0 < length into.old }
         ensures amount { IsAmountRead result (length into.old) }
         ensures told { Reads (pieces_of self.old) (left_of self.old) (pieces_of self.new) (left_of self.new) into.new result }
+        ensures buffer { KeepsBuffer into.old into.new result }
         ensures end { EndsWith (has_ended self.old) (has_ended self.new) result }
         ensures written { written_of self.new ≡ written_of self.old }
         ensures write_faults { write_faults_of self.old ≤ write_faults_of self.new }
@@ -133,6 +134,8 @@ impl Source for MemConn {
         self.script.pass(count);
         Read::Got(count)
     }
+
+    ghost read_faults_fit = { λ conn. conn.reads.faults.fits };
 }
 
 impl Sink for MemConn {
@@ -171,6 +174,8 @@ impl Sink for MemConn {
         }
         Write::Took(from.len())
     }
+
+    ghost write_faults_fit = { λ conn. conn.writes.faults.fits };
 }
 
 impl Conn for MemConn {

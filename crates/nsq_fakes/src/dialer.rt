@@ -5,7 +5,7 @@ ghost use Rattle.nsq_fakes.specs.MemConns.{left_of, IsUnusedLink, LinksFirst};
 
 use crate::conn::MemConn;
 use nsq_base::Memory;
-use nsq_outside::Dialled;
+use nsq_outside::{Dialled, Faults};
 use std::alloc::Global;
 use std::collections::VecDeque;
 
@@ -16,7 +16,7 @@ pub struct MemDialer {
     coming: VecDeque<MemConn>,
     asked: Vec<String>,
     pub linked: Vec<String>,
-    pub faults: u64,
+    pub faults: Faults,
 }
 
 impl MemDialer {
@@ -24,7 +24,7 @@ impl MemDialer {
 
     pub fn new(alloc: Global, coming: Vec<MemConn>) -> MemDialer
         ensures dials { dialled_of result ≡ record { asked = []; linked = []; coming = map left_of coming.items } }
-        ensures no_fault { result.faults ≡ 0 }
+        ensures no_fault { result.faults.count ≡ 0 }
         ensures none_linked { vec_len result.linked ≡ 0 }
         ensures coming { result.coming.items ≡ coming.items }
     {
@@ -33,7 +33,7 @@ impl MemDialer {
             coming: VecDeque::from(coming),
             asked: Vec::new(alloc),
             linked: Vec::new(alloc),
-            faults: 0,
+            faults: Faults::none(),
         }
     }
 
@@ -48,9 +48,9 @@ impl MemDialer {
     pub fn dial(&mut self, address: &str) -> Dialled<MemConn>
         ensures told { Dials left_of (dialled_of self.old) (dialled_of self.new) address.now result }
         ensures fresh { IsUnusedLink result }
-        ensures faults { self.old.faults ≤ self.new.faults }
-        ensures cause { LinkFails self.old.faults self.new.faults result }
-        ensures counted { LinkCounts self.old.faults self.new.faults result }
+        ensures faults { self.old.faults.count ≤ self.new.faults.count }
+        ensures cause { LinkFails self.old.faults.count self.new.faults.count result }
+        ensures counted { LinkCounts self.old.faults.count self.new.faults.count result }
         ensures one { vec_len self.new.linked ≤ vec_len self.old.linked + 1 }
         ensures first { LinksFirst self.old.coming.items self.new.coming.items result }
     {
@@ -75,11 +75,11 @@ impl MemDialer {
     pub fn fail(&mut self) -> Dialled<MemConn>
         ensures failed { result ≡ Dialled.Failed }
         ensures fault { self.new ≡ record self.old { faults = self.new.faults } }
-        ensures faults { self.old.faults ≤ self.new.faults }
-        ensures rose { Rose self.old.faults self.new.faults }
-        ensures counted { CountsFault self.old.faults self.new.faults true }
+        ensures faults { self.old.faults.count ≤ self.new.faults.count }
+        ensures rose { Rose self.old.faults.count self.new.faults.count }
+        ensures counted { CountsFault self.old.faults.count self.new.faults.count true }
     {
-        self.faults = self.faults.saturating_add(1);
+        self.faults.add();
         Dialled::Failed
     }
 }

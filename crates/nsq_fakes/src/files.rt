@@ -62,6 +62,13 @@ pub fn bytes_at<'a>(files: &'a BTreeMap<String, Vec<u8>>, name: &str) -> &'a [u8
     }
 }
 
+/// How many bytes from a place on stand there and fit.
+pub fn amount_at(bytes: &[u8], at: u64, room: usize) -> usize
+    ensures { result ≡ min room (length bytes.now - at) }
+{
+    (bytes.len() as u64).saturating_sub(at).min(room as u64) as usize
+}
+
 /// Copies bytes from a place on to the start of `into`, as many as fit and stand there, and answers how many.
 pub fn copy_from_place(bytes: &[u8], at: u64, into: &mut [u8]) -> usize
     ensures amount { result ≡ min (length into.old) (length bytes.now - at) }

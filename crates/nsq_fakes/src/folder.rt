@@ -1,31 +1,36 @@
-ghost use Rattle.std.specs.Prelude.{◌≡◌, ◌≢◌, ◌≤◌, ◌↔◌, List, ℕ, IsTrue, true, false, IfOk, IfSome, IfNone, None, Option, option_map, OnErr, OnOk, IsOk};
+ghost use Rattle.std.specs.Prelude.{◌≡◌, ◌≢◌, ◌≤◌, ◌↔◌, ◌⊎◌, [], List, ℕ, IsTrue, true, false, IfOk, IfSome, IfNone, None, Option, option_map, OnErr, OnOk, IsOk};
 ghost use Rattle.nsq_outside.specs.Causes.{Rose, DidFails, CountsFault, DidCounts};
 ghost use Rattle.nsq_fakes.specs.MemFiles.{files_of, first_of, GrowsTo, MovesToNew};
 ghost use Rattle.nsq_fakes.specs.Failings.{count_of};
 
+use crate::called::{Called, keep_call};
 use crate::files;
 use crate::folder_calls::{Counts, Failing, FolderCall};
 use nsq_base::Memory;
-use nsq_outside::{Did, Folder, Length, Listing, ReadAt};
+use nsq_outside::{Did, Faults, Folder, Length, Listing, ReadAt};
 use std::alloc::Global;
 use std::collections::BTreeMap;
 
-/// A folder in memory, some of whose calls fail. A call that fails changes nothing but the counts of calls and of faults.
+/// A folder in memory, some of whose calls fail. A call that fails changes nothing but the record and the counts of calls and
+/// of faults.
 ///
 /// Else a call fails only where a file has, or would get, more than 2^62 bytes, or where bytes are read past that place; or
-/// for want of memory, which may meet a file that is made or grows, and a name that is new.
+/// for want of memory. That may meet a file that is made or grows, a name that is new, and each call, since the folder
+/// keeps the calls that are made: one for which it finds no memory fails, and a listing answers `Memory` then.
 #[derive(Drop)]
 pub struct MemFolder {
     alloc: Global,
     files: BTreeMap<String, Vec<u8>>,
     fails: Vec<Failing>,
     counts: Counts,
-    faults: u64,
+    called: Vec<Called>,
+    faults: Faults,
 }
 
 impl MemFolder {
     ghost use Rattle.nsq_fakes.specs.Failings.{CountsCall};
-    ghost use Rattle.nsq_fakes.specs.MemFolders.{counts_of, IsRefused};
+    ghost use Rattle.nsq_fakes.specs.Made.{Joins};
+    ghost use Rattle.nsq_fakes.specs.MemFolders.{counts_of, called_of, IsRefused, IsUnkept};
 
     /// A folder with these files, of which these calls fail. Of several files with one name the first counts.
     pub fn new(
@@ -36,14 +41,16 @@ impl MemFolder {
         ensures files { IfOk result (λ folder. (name : List ℕ) → files_of folder.files name ≡ first_of files.items name) }
         ensures fails { IfOk result (λ folder. folder.fails ≡ fails) }
         ensures calls { IfOk result (λ folder. (call : FolderCall) → count_of folder.counts call ≡ 0) }
-        ensures faults { IfOk result (λ folder. folder.faults ≡ 0) }
+        ensures called { IfOk result (λ folder. called_of folder ≡ []) }
+        ensures faults { IfOk result (λ folder. folder.faults.count ≡ 0) }
     {
         Ok(MemFolder {
             alloc,
             files: files::made_of(alloc, files)?,
             fails,
             counts: Counts::new(),
-            faults: 0,
+            called: Vec::new(alloc),
+            faults: Faults::none(),
         })
     }
 
@@ -57,21 +64,51 @@ impl MemFolder {
         }
     }
 
+    /// The calls that were made, in order, those that failed too. One for which there was no memory is missing.
+    pub fn called(&self) -> &[Called]
+        ensures { result.now ≡ called_of self.now }
+    {
+        &self.called
+    }
+
     /// Counts a call, and a fault where it is among those that fail.
     fn refuses(&mut self, call: FolderCall) -> bool
         requires { call ≢ FolderCall.Any }
         ensures refused { IsTrue result ↔ IsRefused self.old call }
         ensures counted { CountsCall (counts_of self.old) (counts_of self.new) call }
         ensures rest { self.new ≡ record self.old { counts = self.new.counts; faults = self.new.faults } }
-        ensures rose { IsTrue result → Rose self.old.faults self.new.faults }
-        ensures fault { CountsFault self.old.faults self.new.faults result }
-        ensures faults { self.old.faults ≤ self.new.faults }
+        ensures rose { IsTrue result → Rose self.old.faults.count self.new.faults.count }
+        ensures fault { CountsFault self.old.faults.count self.new.faults.count result }
+        ensures faults { self.old.faults.count ≤ self.new.faults.count }
     {
         let fails = self.counts.count(&self.fails, call);
         if fails {
-            self.faults = self.faults.saturating_add(1);
+            self.faults.add();
         }
         fails
+    }
+
+    /// Keeps a call, and counts it. It fails where it is among those that fail, or there is no memory to keep it; then its
+    /// fault is counted.
+    fn fails(&mut self, call: FolderCall, name: &str, to: &str) -> bool
+        requires { call ≢ FolderCall.Any }
+        ensures refused { IsRefused self.old call → IsTrue result }
+        ensures why { IsTrue result → IsRefused self.old call ⊎ IsUnkept self.old self.new }
+        ensures called { Joins (called_of self.old) (called_of self.new) call name.now to.now (IsTrue result) }
+        ensures counted { CountsCall (counts_of self.old) (counts_of self.new) call }
+        ensures rest { self.new ≡ record self.old { called = self.new.called; counts = self.new.counts; faults = self.new.faults } }
+        ensures rose { IsTrue result → Rose self.old.faults.count self.new.faults.count }
+        ensures fault { CountsFault self.old.faults.count self.new.faults.count result }
+        ensures faults { self.old.faults.count ≤ self.new.faults.count }
+    {
+        let is_kept = keep_call(self.alloc, &mut self.called, call, name, to).is_ok();
+        if self.refuses(call) {
+            return true;
+        }
+        if !is_kept {
+            self.faults.add();
+        }
+        !is_kept
     }
 
     /// The answer of a change, which counts a fault where there was no room.
@@ -79,14 +116,14 @@ impl MemFolder {
         ensures done { OnOk outcome (result ≡ Did.Done) }
         ensures failed { OnErr outcome (result ≡ Did.Failed) }
         ensures rest { self.new ≡ record self.old { faults = self.new.faults } }
-        ensures faults { self.old.faults ≤ self.new.faults }
-        ensures cause { DidFails self.old.faults self.new.faults result }
-        ensures counted { DidCounts self.old.faults self.new.faults result }
+        ensures faults { self.old.faults.count ≤ self.new.faults.count }
+        ensures cause { DidFails self.old.faults.count self.new.faults.count result }
+        ensures counted { DidCounts self.old.faults.count self.new.faults.count result }
     {
         match outcome {
             Ok(()) => Did::Done,
             Err(_) => {
-                self.faults = self.faults.saturating_add(1);
+                self.faults.add();
                 Did::Failed
             }
         }
@@ -94,16 +131,19 @@ impl MemFolder {
 }
 
 impl Folder for MemFolder {
-    ghost use Rattle.std.specs.Prelude.{◌+◌, ◌^◌, ◌<◌, ◌⊎◌, length, IsSomeAnd};
+    ghost use Rattle.std.specs.Prelude.{◌+◌, ◌^◌, ◌<◌, length, IsSomeAnd};
     ghost use Rattle.nsq_outside.specs.Files.{SameFiles, IsWithin, OnlyChanges, Lists, Appends, ListingFails, ListingCounts, HasLength, IsFileLength, LengthFails, LengthCounts, IsAmountAt, ReadsAt, IsReadWithin, ReadAtFails, ReadAtCounts, WritesAt, Cuts, Renames, Removes};
     ghost use Rattle.nsq_fakes.specs.Failings.{CountsCall};
-    ghost use Rattle.nsq_fakes.specs.MemFolders.{files_in, fails_of, counts_of, faults_of, IsRefused, ReadsPast};
+    ghost use Rattle.nsq_fakes.specs.Made.{Joins};
+    ghost use Rattle.nsq_fakes.specs.MemFolders.{files_in, fails_of, counts_of, called_of, faults_of, IsRefused, IsUnkept, ReadsPast};
 
     ghost tells_files = { true };
 
     ghost files = { files_in };
 
     ghost folder_faults = { faults_of };
+
+    ghost counts_exactly = { true };
 
     fn list(&mut self, alloc: Global, names: &mut Vec<String>) -> Listing
         ensures names { Lists (files_in self.old) names.old.items names.new.items result }
@@ -113,11 +153,16 @@ impl Folder for MemFolder {
         ensures cause { ListingFails (faults_of self.old) (faults_of self.new) result }
         ensures counted { ListingCounts (faults_of self.old) (faults_of self.new) result }
         ensures calls { CountsCall (counts_of self.old) (counts_of self.new) FolderCall.List }
+        ensures called { Joins (called_of self.old) (called_of self.new) FolderCall.List [] [] (result ≢ Listing.Done) }
         ensures fails { fails_of self.new ≡ fails_of self.old }
         ensures refused { (result ≡ Listing.Failed) ↔ IsRefused self.old FolderCall.List }
     {
+        let kept = keep_call(self.alloc, &mut self.called, FolderCall::List, "", "");
         if self.refuses(FolderCall::List) {
             return Listing::Failed;
+        }
+        if kept.is_err() {
+            return Listing::Memory;
         }
         match files::append_names(alloc, &self.files, names) {
             Ok(()) => Listing::Done,
@@ -133,17 +178,18 @@ impl Folder for MemFolder {
         ensures cause { LengthFails (faults_of self.old) (faults_of self.new) result }
         ensures counted { LengthCounts (faults_of self.old) (faults_of self.new) result }
         ensures calls { CountsCall (counts_of self.old) (counts_of self.new) FolderCall.Len }
+        ensures called { Joins (called_of self.old) (called_of self.new) FolderCall.Len name.now [] (result ≡ Length.Failed) }
         ensures fails { fails_of self.new ≡ fails_of self.old }
         ensures refused { IsRefused self.old FolderCall.Len → result ≡ Length.Failed }
-        ensures failed { result ≡ Length.Failed → IsRefused self.old FolderCall.Len ⊎ IsSomeAnd (files_in self.old name.now) (λ bytes. 2 ^ 62 < length bytes) }
+        ensures failed { result ≡ Length.Failed → IsRefused self.old FolderCall.Len ⊎ IsUnkept self.old self.new ⊎ IsSomeAnd (files_in self.old name.now) (λ bytes. 2 ^ 62 < length bytes) }
     {
-        if self.refuses(FolderCall::Len) {
+        if self.fails(FolderCall::Len, name, "") {
             return Length::Failed;
         }
         match self.files.get(name) {
             Some(bytes) if bytes.len() as u64 <= files::LIMIT => Length::Is(bytes.len() as u64),
             Some(_) => {
-                self.faults = self.faults.saturating_add(1);
+                self.faults.add();
                 Length::Failed
             }
             None => Length::Absent,
@@ -159,21 +205,22 @@ impl Folder for MemFolder {
         ensures cause { ReadAtFails (faults_of self.old) (faults_of self.new) result }
         ensures counted { ReadAtCounts (faults_of self.old) (faults_of self.new) result }
         ensures calls { CountsCall (counts_of self.old) (counts_of self.new) FolderCall.ReadAt }
+        ensures called { Joins (called_of self.old) (called_of self.new) FolderCall.ReadAt name.now [] (result ≡ ReadAt.Failed) }
         ensures fails { fails_of self.new ≡ fails_of self.old }
         ensures refused { IsRefused self.old FolderCall.ReadAt → result ≡ ReadAt.Failed }
-        ensures failed { result ≡ ReadAt.Failed → IsRefused self.old FolderCall.ReadAt ⊎ ReadsPast (files_in self.old name.now) at (length into.old) }
+        ensures failed { result ≡ ReadAt.Failed → IsRefused self.old FolderCall.ReadAt ⊎ IsUnkept self.old self.new ⊎ ReadsPast (files_in self.old name.now) at (length into.old) }
         ensures past { ReadsPast (files_in self.old name.now) at (length into.old) → result ≡ ReadAt.Failed }
     {
-        if self.refuses(FolderCall::ReadAt) {
+        if self.fails(FolderCall::ReadAt, name, "") {
             return ReadAt::Failed;
         }
         let bytes = files::bytes_at(&self.files, name);
-        let count = files::copy_from_place(bytes, at, into);
+        let count = files::amount_at(bytes, at, into.len());
         if count != 0 && at.saturating_add(count as u64) > files::LIMIT {
-            self.faults = self.faults.saturating_add(1);
+            self.faults.add();
             return ReadAt::Failed;
         }
-        ReadAt::Got(count)
+        ReadAt::Got(files::copy_from_place(bytes, at, into))
     }
 
     fn write_at(&mut self, name: &str, at: u64, from: &[u8]) -> Did
@@ -184,12 +231,13 @@ impl Folder for MemFolder {
         ensures cause { DidFails (faults_of self.old) (faults_of self.new) result }
         ensures counted { DidCounts (faults_of self.old) (faults_of self.new) result }
         ensures calls { CountsCall (counts_of self.old) (counts_of self.new) FolderCall.WriteAt }
+        ensures called { Joins (called_of self.old) (called_of self.new) FolderCall.WriteAt name.now [] (result ≡ Did.Failed) }
         ensures fails { fails_of self.new ≡ fails_of self.old }
         ensures refused { IsRefused self.old FolderCall.WriteAt → result ≡ Did.Failed }
         ensures failed { result ≡ Did.Failed → SameFiles (files_in self.old) (files_in self.new) }
-        ensures why { result ≡ Did.Failed → IsRefused self.old FolderCall.WriteAt ⊎ GrowsTo (files_in self.old name.now) (at + length from.now) }
+        ensures why { result ≡ Did.Failed → IsRefused self.old FolderCall.WriteAt ⊎ IsUnkept self.old self.new ⊎ GrowsTo (files_in self.old name.now) (at + length from.now) }
     {
-        if self.refuses(FolderCall::WriteAt) {
+        if self.fails(FolderCall::WriteAt, name, "") {
             return Did::Failed;
         }
         let outcome = files::write(self.alloc, &mut self.files, name, at, from);
@@ -204,28 +252,31 @@ impl Folder for MemFolder {
         ensures cause { DidFails (faults_of self.old) (faults_of self.new) result }
         ensures counted { DidCounts (faults_of self.old) (faults_of self.new) result }
         ensures calls { CountsCall (counts_of self.old) (counts_of self.new) FolderCall.Cut }
+        ensures called { Joins (called_of self.old) (called_of self.new) FolderCall.Cut name.now [] (result ≡ Did.Failed) }
         ensures fails { fails_of self.new ≡ fails_of self.old }
         ensures refused { IsRefused self.old FolderCall.Cut → result ≡ Did.Failed }
         ensures failed { result ≡ Did.Failed → SameFiles (files_in self.old) (files_in self.new) }
-        ensures why { result ≡ Did.Failed → IsRefused self.old FolderCall.Cut ⊎ GrowsTo (files_in self.old name.now) to }
+        ensures why { result ≡ Did.Failed → IsRefused self.old FolderCall.Cut ⊎ IsUnkept self.old self.new ⊎ GrowsTo (files_in self.old name.now) to }
     {
-        if self.refuses(FolderCall::Cut) {
+        if self.fails(FolderCall::Cut, name, "") {
             return Did::Failed;
         }
         let outcome = files::cut(self.alloc, &mut self.files, name, to);
         self.answer(outcome)
     }
 
-    fn sync(&mut self, _name: &str) -> Did
+    fn sync(&mut self, name: &str) -> Did
         ensures same { SameFiles (files_in self.old) (files_in self.new) }
         ensures faults { faults_of self.old ≤ faults_of self.new }
         ensures cause { DidFails (faults_of self.old) (faults_of self.new) result }
         ensures counted { DidCounts (faults_of self.old) (faults_of self.new) result }
         ensures calls { CountsCall (counts_of self.old) (counts_of self.new) FolderCall.Sync }
+        ensures called { Joins (called_of self.old) (called_of self.new) FolderCall.Sync name.now [] (result ≡ Did.Failed) }
         ensures fails { fails_of self.new ≡ fails_of self.old }
-        ensures refused { (result ≡ Did.Failed) ↔ IsRefused self.old FolderCall.Sync }
+        ensures refused { IsRefused self.old FolderCall.Sync → result ≡ Did.Failed }
+        ensures why { result ≡ Did.Failed → IsRefused self.old FolderCall.Sync ⊎ IsUnkept self.old self.new }
     {
-        if self.refuses(FolderCall::Sync) {
+        if self.fails(FolderCall::Sync, name, "") {
             return Did::Failed;
         }
         Did::Done
@@ -237,10 +288,12 @@ impl Folder for MemFolder {
         ensures cause { DidFails (faults_of self.old) (faults_of self.new) result }
         ensures counted { DidCounts (faults_of self.old) (faults_of self.new) result }
         ensures calls { CountsCall (counts_of self.old) (counts_of self.new) FolderCall.SyncNames }
+        ensures called { Joins (called_of self.old) (called_of self.new) FolderCall.SyncNames [] [] (result ≡ Did.Failed) }
         ensures fails { fails_of self.new ≡ fails_of self.old }
-        ensures refused { (result ≡ Did.Failed) ↔ IsRefused self.old FolderCall.SyncNames }
+        ensures refused { IsRefused self.old FolderCall.SyncNames → result ≡ Did.Failed }
+        ensures why { result ≡ Did.Failed → IsRefused self.old FolderCall.SyncNames ⊎ IsUnkept self.old self.new }
     {
-        if self.refuses(FolderCall::SyncNames) {
+        if self.fails(FolderCall::SyncNames, "", "") {
             return Did::Failed;
         }
         Did::Done
@@ -252,12 +305,13 @@ impl Folder for MemFolder {
         ensures cause { DidFails (faults_of self.old) (faults_of self.new) result }
         ensures counted { DidCounts (faults_of self.old) (faults_of self.new) result }
         ensures calls { CountsCall (counts_of self.old) (counts_of self.new) FolderCall.Rename }
+        ensures called { Joins (called_of self.old) (called_of self.new) FolderCall.Rename from.now to.now (result ≡ Did.Failed) }
         ensures fails { fails_of self.new ≡ fails_of self.old }
         ensures refused { IsRefused self.old FolderCall.Rename → result ≡ Did.Failed }
         ensures failed { result ≡ Did.Failed → SameFiles (files_in self.old) (files_in self.new) }
-        ensures why { result ≡ Did.Failed → IsRefused self.old FolderCall.Rename ⊎ MovesToNew (files_in self.old) from.now to.now }
+        ensures why { result ≡ Did.Failed → IsRefused self.old FolderCall.Rename ⊎ IsUnkept self.old self.new ⊎ MovesToNew (files_in self.old) from.now to.now }
     {
-        if self.refuses(FolderCall::Rename) {
+        if self.fails(FolderCall::Rename, from, to) {
             return Did::Failed;
         }
         let outcome = files::rename(self.alloc, &mut self.files, from, to);
@@ -271,14 +325,18 @@ impl Folder for MemFolder {
         ensures cause { DidFails (faults_of self.old) (faults_of self.new) result }
         ensures counted { DidCounts (faults_of self.old) (faults_of self.new) result }
         ensures calls { CountsCall (counts_of self.old) (counts_of self.new) FolderCall.Remove }
+        ensures called { Joins (called_of self.old) (called_of self.new) FolderCall.Remove name.now [] (result ≡ Did.Failed) }
         ensures fails { fails_of self.new ≡ fails_of self.old }
-        ensures refused { (result ≡ Did.Failed) ↔ IsRefused self.old FolderCall.Remove }
+        ensures refused { IsRefused self.old FolderCall.Remove → result ≡ Did.Failed }
+        ensures why { result ≡ Did.Failed → IsRefused self.old FolderCall.Remove ⊎ IsUnkept self.old self.new }
         ensures failed { result ≡ Did.Failed → SameFiles (files_in self.old) (files_in self.new) }
     {
-        if self.refuses(FolderCall::Remove) {
+        if self.fails(FolderCall::Remove, name, "") {
             return Did::Failed;
         }
         files::remove(&mut self.files, name);
         Did::Done
     }
+
+    ghost folder_faults_fit = { λ folder. folder.faults.fits };
 }

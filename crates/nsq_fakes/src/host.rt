@@ -7,7 +7,7 @@ use crate::folder::MemFolder;
 use crate::journal::MemJournal;
 use crate::start::Start;
 use nsq_base::Memory;
-use nsq_outside::{Accept, Dialer, Dialled, Did, Host, Kind, Kit, Twin};
+use nsq_outside::{Accept, Dialer, Dialled, Did, Faults, Host, Kind, Kit, Twin};
 use std::alloc::Global;
 use std::collections::VecDeque;
 use std::sync::Wait;
@@ -29,9 +29,9 @@ pub struct MemHost<E: Drop> {
     lines: Vec<Vec<u8>>,
     kit: Option<Kit<MemFolder, MemClock, MemJournal<E>>>,
     beside: bool,
-    accept_faults: u64,
-    print_faults: u64,
-    tell_faults: u64,
+    accept_faults: Faults,
+    print_faults: Faults,
+    tell_faults: Faults,
     ghost room: { vec_len given + vec_len dialer.linked ≤ vec_capacity back },
     ghost order: { length back.items ≤ length given.items + length dialer.linked.items },
 }
@@ -67,9 +67,9 @@ impl<E: Drop> MemHost<E> {
             lines: Vec::new(alloc),
             kit: Some(kit),
             beside,
-            accept_faults: 0,
-            print_faults: 0,
-            tell_faults: 0,
+            accept_faults: Faults::none(),
+            print_faults: Faults::none(),
+            tell_faults: Faults::none(),
         })
     }
 
@@ -167,6 +167,8 @@ impl<E: Drop> Dialer for MemHost<E> {
         }
         self.dialer.dial(address)
     }
+
+    ghost dial_faults_fit = { λ host. host.dialer.faults.fits };
 }
 
 impl<E: Drop + Twin + Send> Host<E> for MemHost<E> {
@@ -199,7 +201,7 @@ impl<E: Drop + Twin + Send> Host<E> for MemHost<E> {
         ensures to_link { to_link_of self.new ≡ to_link_of self.old }
     {
         if keep_start(self.alloc, &mut self.starts, tcp, http, path).is_err() {
-            self.accept_faults = self.accept_faults.saturating_add(1);
+            self.accept_faults.add();
             return Did::Failed;
         }
         Did::Done
@@ -222,7 +224,7 @@ impl<E: Drop + Twin + Send> Host<E> for MemHost<E> {
             return Accept::Halt;
         }
         if self.make_room().is_err() || self.given.reserve(1).is_err() {
-            self.accept_faults = self.accept_faults.saturating_add(1);
+            self.accept_faults.add();
             return Accept::Failed;
         }
         let Some((kind, mut conn)) = self.callers.pop_front() else {
@@ -302,7 +304,7 @@ impl<E: Drop + Twin + Send> Host<E> for MemHost<E> {
         ensures to_link { to_link_of self.new ≡ to_link_of self.old }
     {
         if self.printed.extend_from_slice(text).is_err() {
-            self.print_faults = self.print_faults.saturating_add(1);
+            self.print_faults.add();
             return Did::Failed;
         }
         Did::Done
@@ -318,13 +320,15 @@ impl<E: Drop + Twin + Send> Host<E> for MemHost<E> {
         ensures to_link { to_link_of self.new ≡ to_link_of self.old }
     {
         if keep_line(self.alloc, &mut self.lines, line).is_err() {
-            self.tell_faults = self.tell_faults.saturating_add(1);
+            self.tell_faults.add();
         }
     }
 
     ghost dial_keeps = { λ a b h. h };
 
     ghost back_given = { λ h told. Prim.simp length-map h.order };
+
+    ghost faults_fit = { λ h. record { accept = h.accept_faults.fits; print = h.print_faults.fits; tell = h.tell_faults.fits } };
 }
 
 /// Appends copies of what a host was started with.

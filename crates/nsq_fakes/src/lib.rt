@@ -4,6 +4,7 @@
 //! no code of a daemon or a tool does.
 #![tactic(auto)]
 
+mod called;
 mod calls;
 mod clock;
 mod conn;
@@ -16,6 +17,7 @@ mod journal;
 mod script;
 mod start;
 
+pub use called::Called;
 pub use clock::MemClock;
 pub use conn::MemConn;
 pub use folder::MemFolder;

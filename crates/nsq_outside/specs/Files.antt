@@ -98,12 +98,12 @@ abbrev pub IsAmountAt : ReadAt → ℕ → Type 0
 IsAmountAt (Got n) most = n ≤ most
 IsAmountAt NotRead most = Unit {0}
 
--- the bytes of the file from a place on, as many as fit and stand there, take the start of the buffer
+-- the bytes of the file from a place on, as many as fit and stand there, take the start of the buffer; a read that fails leaves it as it was
 abbrev pub ReadsAt : Option (List ℕ) → ℕ → List ℕ → List ℕ → ReadAt → Type 0
 ReadsAt file at old new (Got n) =
     let bytes = unwrap_or file [] in
     (n ≡ min (length old) (length bytes - at)) × (new ≡ take n (drop at bytes) ++ drop n old)
-ReadsAt file at old new NotRead = Unit {0}
+ReadsAt file at old new NotRead = new ≡ old
 
 -- Failed comes only with a rise
 abbrev pub ReadAtFails : ℕ → ℕ → ReadAt → Type 0

@@ -1,5 +1,5 @@
 -- What a host and a dialer tell, and what each call on them does.
-use Rattle.std.specs.Prelude.{ℕ, ◌≡◌, ◌≤◌, ◌⊎◌, List, [], ◌∷◌, ◌++◌, take, Bool, true, false, Option}
+use Rattle.std.specs.Prelude.{ℕ, ◌≡◌, ◌-◌, ◌^◌, ◌≤◌, ◌⊎◌, List, [], ◌∷◌, ◌++◌, take, Bool, true, false, Option}
 use Rattle.nsq_outside.specs.Causes.{Rose, CountsFault}
 use Rattle.nsq_outside.specs.declared.did.Did.{Did}
 use Rattle.nsq_outside.specs.declared.did.Did.TheVariants.{Done, Failed}
@@ -40,6 +40,12 @@ pub record HostState (F C J : Type 0) : Type 0 where
   pub accept_faults : ℕ
   pub print_faults : ℕ
   pub tell_faults : ℕ
+
+-- each count of faults is at most 2^64 - 1
+pub record FaultsFit {F C J : Type 0} (state : HostState F C J) : Type 0 where
+  pub accept : state.accept_faults ≤ 2 ^ 64 - 1
+  pub print : state.print_faults ≤ 2 ^ 64 - 1
+  pub tell : state.tell_faults ≤ 2 ^ 64 - 1
 
 -- nothing was read or written yet, and nothing failed
 pub record IsFresh {K : Type 0} (pieces : K → List (List ℕ)) (ended : K → Bool) (written : K → List ℕ) (read_faults write_faults : K → ℕ) (conn : K) : Type 0 where

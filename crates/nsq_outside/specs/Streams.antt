@@ -1,5 +1,5 @@
 -- What a read and a write of a stream do.
-use Rattle.std.specs.Prelude.{ℕ, ◌≡◌, ◌≤◌, ◌<◌, List, [], ◌∷◌, ◌++◌, take, Bool, true, false}
+use Rattle.std.specs.Prelude.{ℕ, ◌≡◌, ◌≤◌, ◌<◌, List, [], ◌∷◌, ◌++◌, take, drop, Bool, true, false}
 use Rattle.nsq_outside.specs.Causes.{Rose, CountsFault}
 use Rattle.nsq_outside.specs.declared.conn.Read.{Read}
 use Rattle.nsq_outside.specs.declared.conn.Read.TheVariants.{Got, Nothing, End, Failed}
@@ -19,6 +19,13 @@ Reads pieces left pieces' left' into (Got n) = (pieces' ≡ pieces ++ take n int
 Reads pieces left pieces' left' into Nothing = (pieces' ≡ pieces) × (left' ≡ left)
 Reads pieces left pieces' left' into End = (pieces' ≡ pieces) × (left' ≡ left) × (left ≡ [])
 Reads pieces left pieces' left' into Failed = (pieces' ≡ pieces) × (left' ≡ left)
+
+-- the buffer is as before, but for a piece at its start
+abbrev pub KeepsBuffer : List ℕ → List ℕ → Read → Type 0
+KeepsBuffer old new (Got n) = drop n new ≡ drop n old
+KeepsBuffer old new Nothing = new ≡ old
+KeepsBuffer old new End = new ≡ old
+KeepsBuffer old new Failed = new ≡ old
 
 -- after the end comes nothing but the end
 abbrev pub EndsWith : Bool → Bool → Read → Type 0

@@ -1,5 +1,5 @@
-ghost use Rattle.std.specs.Prelude.{◌≡◌, ◌<◌, ◌≤◌, List, ℕ, Bool, IsTrue, length};
-ghost use Rattle.nsq_outside.specs.Streams.{IsAmountRead, Reads, EndsWith, ReadFails, IsAmountWritten, Writes, WriteFails};
+ghost use Rattle.std.specs.Prelude.{◌≡◌, ◌-◌, ◌^◌, ◌<◌, ◌≤◌, List, ℕ, Bool, IsTrue, length};
+ghost use Rattle.nsq_outside.specs.Streams.{IsAmountRead, Reads, KeepsBuffer, EndsWith, ReadFails, IsAmountWritten, Writes, WriteFails};
 
 use std::sync::Wait;
 
@@ -37,14 +37,21 @@ pub trait Source {
     ghost may_read: { Self → Self → Type 0 };
 
     /// Reads a piece into the start of `into`. It may wait. After `End` it answers `End` again.
+    ///
+    /// A type that tells its content leaves the rest of the buffer, and after any other answer than `Got` all of it, as it
+    /// was. Of any other type these bytes may be any.
     fn read<R: Wait>(&mut self, rt: &R, into: &mut [u8]) -> Read
         requires { 0 < length into.old }
         ensures amount { IsAmountRead result (length into.old) }
         ensures told { IsTrue tells_pieces → Reads (pieces self.old) (left self.old) (pieces self.new) (left self.new) into.new result }
+        ensures buffer { IsTrue tells_pieces → KeepsBuffer into.old into.new result }
         ensures end { EndsWith (ended self.old) (ended self.new) result }
         ensures may { may_read self.old self.new }
         ensures faults { read_faults self.old ≤ read_faults self.new }
         ensures cause { ReadFails (read_faults self.old) (read_faults self.new) result };
+
+    /// The count of read faults is at most 2^64 - 1.
+    ghost read_faults_fit: { (source : Self) → read_faults source ≤ 2 ^ 64 - 1 };
 }
 
 /// The answer of a write.
@@ -78,6 +85,9 @@ pub trait Sink {
         ensures may { may_write self.old self.new }
         ensures faults { write_faults self.old ≤ write_faults self.new }
         ensures cause { WriteFails (write_faults self.old) (write_faults self.new) result };
+
+    /// The count of write faults is at most 2^64 - 1.
+    ghost write_faults_fit: { (sink : Self) → write_faults sink ≤ 2 ^ 64 - 1 };
 }
 
 /// A connection, which may move between threads. Reading writes nothing and writing reads nothing: callers see that from
@@ -93,6 +103,7 @@ pub fn get<R: Wait, K: Conn>(rt: &R, conn: &mut K, into: &mut [u8]) -> Read
     requires { 0 < length into.old }
     ensures amount { IsAmountRead result (length into.old) }
     ensures told { IsTrue K.tells_pieces → Reads (K.pieces conn.old) (K.left conn.old) (K.pieces conn.new) (K.left conn.new) into.new result }
+    ensures buffer { IsTrue K.tells_pieces → KeepsBuffer into.old into.new result }
     ensures end { EndsWith (K.ended conn.old) (K.ended conn.new) result }
     ensures faults { K.read_faults conn.old ≤ K.read_faults conn.new }
     ensures cause { ReadFails (K.read_faults conn.old) (K.read_faults conn.new) result }

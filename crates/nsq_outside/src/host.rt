@@ -1,6 +1,6 @@
-ghost use Rattle.std.specs.Prelude.{◌≡◌, ◌+◌, ◌<◌, ◌≤◌, ◌++◌, ◌∷◌, [], List, ℕ, Bool, IsTrue, true, false, None, Some, IsSome, IfSome, length};
+ghost use Rattle.std.specs.Prelude.{◌≡◌, ◌+◌, ◌-◌, ◌^◌, ◌<◌, ◌≤◌, ◌++◌, ◌∷◌, [], List, ℕ, Bool, IsTrue, true, false, None, Some, IsSome, IfSome, length};
 ghost use Rattle.nsq_outside.specs.Causes.{DidFails};
-ghost use Rattle.nsq_outside.specs.Hosts.{HostContent, HostState, DialerContent, Dials, IsFreshLink, LinkFails, Starts, Accepts, IsFreshCaller, AcceptFails, Prints, Tells, OnlyAcceptFaults, OnlyPrintFaults, OnlyTellFaults};
+ghost use Rattle.nsq_outside.specs.Hosts.{HostContent, HostState, DialerContent, Dials, IsFreshLink, LinkFails, Starts, Accepts, IsFreshCaller, AcceptFails, Prints, Tells, OnlyAcceptFaults, OnlyPrintFaults, OnlyTellFaults, FaultsFit};
 
 use crate::{Clock, Conn, Did, Folder, Journal};
 use std::sync::Wait;
@@ -38,6 +38,9 @@ pub trait Dialer {
         ensures may { may_dial self.old self.new }
         ensures faults { dial_faults self.old ≤ dial_faults self.new }
         ensures cause { LinkFails (dial_faults self.old) (dial_faults self.new) result };
+
+    /// The count of dial faults is at most 2^64 - 1.
+    ghost dial_faults_fit: { (dialer : Self) → dial_faults dialer ≤ 2 ^ 64 - 1 };
 }
 
 /// What a caller speaks: the TCP protocol or HTTP.
@@ -159,6 +162,9 @@ pub trait Host<E>: Dialer {
 
     /// No more connections were taken back than were given.
     ghost back_given: { (h : Self) → IsTrue Self.tells → length (content h).back ≤ length (content h).given + length (Self.dials h).linked };
+
+    /// Each of its counts of faults is at most 2^64 - 1.
+    ghost faults_fit: { (h : Self) → FaultsFit (state h) };
 }
 
 /// Opens a connection to an address, as `Dialer::dial`, and changes nothing else of the host.

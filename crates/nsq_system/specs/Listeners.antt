@@ -13,7 +13,7 @@ use Rattle.nsq_system.specs.declared.listeners.Tried.TheVariants.{Stream, Nobody
 
 -- how often an accept failed
 abbrev pub accept_faults_of : {N : Type 0} → Listeners N → ℕ
-accept_faults_of listeners = listeners.faults
+accept_faults_of listeners = listeners.faults.count
 
 -- from a caller's connection nothing was read yet, nothing was written, and it has no fault
 abbrev pub IsFreshTcpCaller : Accept TcpConn → Type 0

@@ -28,11 +28,11 @@ broken_of conn = conn.broken
 
 -- how often a read failed
 abbrev pub read_faults_of : TcpConn → ℕ
-read_faults_of conn = conn.read_faults
+read_faults_of conn = conn.read_faults.count
 
 -- how often a write failed
 abbrev pub write_faults_of : TcpConn → ℕ
-write_faults_of conn = conn.write_faults
+write_faults_of conn = conn.write_faults.count
 
 -- a TCP connection doesn't tell the pieces that were read
 abbrev pub no_pieces : TcpConn → List (List ℕ)

@@ -10,7 +10,7 @@ use Rattle.nsq_system.specs.declared.tcp_dialer.TcpDialer.{TcpDialer}
 
 -- how often a dial failed
 abbrev pub dial_faults_of : {N : Type 0} → TcpDialer N → ℕ
-dial_faults_of dialer = dialer.faults
+dial_faults_of dialer = dialer.faults.count
 
 -- a TCP dialer doesn't tell its content
 abbrev pub no_content : {N : Type 0} → TcpDialer N → DialerContent

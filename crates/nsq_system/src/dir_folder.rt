@@ -3,7 +3,7 @@ ghost use Rattle.nsq_outside.specs.Causes.{DidFails, Rose, CountsFault, DidCount
 
 use crate::open_files::{LIMIT, OpenFiles};
 use nsq_base::Memory;
-use nsq_outside::{Did, Folder, Length, Listing, ReadAt};
+use nsq_outside::{Did, Faults, Folder, Length, Listing, ReadAt};
 use std::alloc::Global;
 use std::io;
 use std::io::ErrorKind;
@@ -21,13 +21,13 @@ use std::rt::Files;
 #[derive(Drop)]
 pub struct DirFolder<R: Files> {
     files: OpenFiles<R>,
-    faults: u64,
+    faults: Faults,
 }
 
 impl<R: Files> Model for DirFolder<R> {
-    ghost use Rattle.std.specs.Prelude.{ℕ};
+    ghost use Rattle.nsq_outside.specs.declared.faults.Faults.{Faults};
 
-    ghost Value = { ℕ };
+    ghost Value = { Faults };
 
     ghost view = { λ folder. folder.faults };
 }
@@ -38,11 +38,11 @@ where
 {
     /// The folder at a path. It asks nothing of the system: a missing folder shows at the first call.
     pub fn new(rt: R, alloc: Global, path: &str) -> Result<DirFolder<R>, Memory>
-        ensures { IfOk result (λ folder. folder ≡ 0) }
+        ensures { IfOk result (λ folder. folder.count ≡ 0) }
     {
         Ok(DirFolder {
             files: OpenFiles::new(rt, alloc, path)?,
-            faults: 0,
+            faults: Faults::none(),
         })
     }
 
@@ -55,19 +55,19 @@ where
 
     /// Counts an error.
     fn count(&mut self)
-        ensures rose { Rose self.old self.new }
-        ensures counted { CountsFault self.old self.new true }
-        ensures faults { self.old ≤ self.new }
+        ensures rose { Rose self.old.count self.new.count }
+        ensures counted { CountsFault self.old.count self.new.count true }
+        ensures faults { self.old.count ≤ self.new.count }
     {
-        self.faults = self.faults.saturating_add(1);
+        self.faults.add();
     }
 
     /// The answer of a call on a file, which is closed after an error.
     fn answer(&mut self, name: &str, outcome: io::Result<()>) -> Did
         ensures failed { OnErr outcome (result ≡ Did.Failed) }
-        ensures faults { self.old ≤ self.new }
-        ensures cause { DidFails self.old self.new result }
-        ensures counted { DidCounts self.old self.new result }
+        ensures faults { self.old.count ≤ self.new.count }
+        ensures cause { DidFails self.old.count self.new.count result }
+        ensures counted { DidCounts self.old.count self.new.count result }
     {
         match outcome {
             Ok(()) => Did::Done,
@@ -99,13 +99,15 @@ where
 
     ghost files = { λ _ _. None };
 
-    ghost folder_faults = { λ folder. folder };
+    ghost folder_faults = { λ folder. folder.count };
+
+    ghost counts_exactly = { true };
 
     fn list(&mut self, alloc: Global, names: &mut Vec<String>) -> Listing
         ensures kept { Appends names.old.items names.new.items result }
-        ensures faults { self.old ≤ self.new }
-        ensures cause { ListingFails self.old self.new result }
-        ensures counted { ListingCounts self.old self.new result }
+        ensures faults { self.old.count ≤ self.new.count }
+        ensures cause { ListingFails self.old.count self.new.count result }
+        ensures counted { ListingCounts self.old.count self.new.count result }
     {
         match self.files.names(alloc) {
             Ok(mut added) => match names.append(&mut added) {
@@ -122,9 +124,9 @@ where
 
     fn len(&mut self, name: &str) -> Length
         ensures limit { IsFileLength result }
-        ensures faults { self.old ≤ self.new }
-        ensures cause { LengthFails self.old self.new result }
-        ensures counted { LengthCounts self.old self.new result }
+        ensures faults { self.old.count ≤ self.new.count }
+        ensures cause { LengthFails self.old.count self.new.count result }
+        ensures counted { LengthCounts self.old.count self.new.count result }
     {
         match self.files.len(name) {
             Ok(n) if n <= LIMIT => Length::Is(n),
@@ -140,9 +142,9 @@ where
     fn read_at(&mut self, name: &str, at: u64, into: &mut [u8]) -> ReadAt
         ensures amount { IsAmountAt result (length into.old) }
         ensures limit { IsReadWithin at result }
-        ensures faults { self.old ≤ self.new }
-        ensures cause { ReadAtFails self.old self.new result }
-        ensures counted { ReadAtCounts self.old self.new result }
+        ensures faults { self.old.count ≤ self.new.count }
+        ensures cause { ReadAtFails self.old.count self.new.count result }
+        ensures counted { ReadAtCounts self.old.count self.new.count result }
     {
         match self.files.read_at(name, at, into) {
             Ok(n) if n == 0 || at.saturating_add(n as u64) <= LIMIT => ReadAt::Got(n),
@@ -157,9 +159,9 @@ where
 
     fn write_at(&mut self, name: &str, at: u64, from: &[u8]) -> Did
         ensures limit { IsWithin (at + length from.now) result }
-        ensures faults { self.old ≤ self.new }
-        ensures cause { DidFails self.old self.new result }
-        ensures counted { DidCounts self.old self.new result }
+        ensures faults { self.old.count ≤ self.new.count }
+        ensures cause { DidFails self.old.count self.new.count result }
+        ensures counted { DidCounts self.old.count self.new.count result }
     {
         let outcome = self.files.write_at(name, at, from);
         self.answer(name, outcome)
@@ -167,27 +169,27 @@ where
 
     fn cut(&mut self, name: &str, to: u64) -> Did
         ensures limit { IsWithin to result }
-        ensures faults { self.old ≤ self.new }
-        ensures cause { DidFails self.old self.new result }
-        ensures counted { DidCounts self.old self.new result }
+        ensures faults { self.old.count ≤ self.new.count }
+        ensures cause { DidFails self.old.count self.new.count result }
+        ensures counted { DidCounts self.old.count self.new.count result }
     {
         let outcome = self.files.cut(name, to);
         self.answer(name, outcome)
     }
 
     fn sync(&mut self, name: &str) -> Did
-        ensures faults { self.old ≤ self.new }
-        ensures cause { DidFails self.old self.new result }
-        ensures counted { DidCounts self.old self.new result }
+        ensures faults { self.old.count ≤ self.new.count }
+        ensures cause { DidFails self.old.count self.new.count result }
+        ensures counted { DidCounts self.old.count self.new.count result }
     {
         let outcome = self.files.sync(name);
         self.answer(name, unless_absent(outcome))
     }
 
     fn sync_names(&mut self) -> Did
-        ensures faults { self.old ≤ self.new }
-        ensures cause { DidFails self.old self.new result }
-        ensures counted { DidCounts self.old self.new result }
+        ensures faults { self.old.count ≤ self.new.count }
+        ensures cause { DidFails self.old.count self.new.count result }
+        ensures counted { DidCounts self.old.count self.new.count result }
     {
         match self.files.sync_names() {
             Ok(()) => Did::Done,
@@ -199,20 +201,22 @@ where
     }
 
     fn rename(&mut self, from: &str, to: &str) -> Did
-        ensures faults { self.old ≤ self.new }
-        ensures cause { DidFails self.old self.new result }
-        ensures counted { DidCounts self.old self.new result }
+        ensures faults { self.old.count ≤ self.new.count }
+        ensures cause { DidFails self.old.count self.new.count result }
+        ensures counted { DidCounts self.old.count self.new.count result }
     {
         let outcome = self.files.rename(from, to);
         self.answer(from, unless_absent(outcome))
     }
 
     fn remove(&mut self, name: &str) -> Did
-        ensures faults { self.old ≤ self.new }
-        ensures cause { DidFails self.old self.new result }
-        ensures counted { DidCounts self.old self.new result }
+        ensures faults { self.old.count ≤ self.new.count }
+        ensures cause { DidFails self.old.count self.new.count result }
+        ensures counted { DidCounts self.old.count self.new.count result }
     {
         let outcome = self.files.remove(name);
         self.answer(name, unless_absent(outcome))
     }
+
+    ghost folder_faults_fit = { λ folder. folder.fits };
 }

@@ -5,7 +5,7 @@ ghost use Rattle.nsq_outside.specs.Hosts.{AcceptFails, AcceptCounts};
 use crate::tcp_conn::TcpConn;
 use mio::net::TcpListener;
 use mio::{Events, Interest, Poll, Token};
-use nsq_outside::{Accept, Kind};
+use nsq_outside::{Accept, Faults, Kind};
 use std::alloc::Global;
 use std::io::ErrorKind;
 use std::net::{Net, SocketAddr, TcpStream, ToSocketAddrs};
@@ -45,7 +45,7 @@ pub struct Listeners<N> {
     http: Option<TcpListener>,
     poll: Poll,
     events: Events,
-    faults: u64,
+    faults: Faults,
 }
 
 /// What a try to accept gave.
@@ -87,7 +87,7 @@ impl<N: Net + Clock> Listeners<N> {
             http,
             poll,
             events,
-            faults: 0,
+            faults: Faults::none(),
         })
     }
 
@@ -117,7 +117,7 @@ impl<N: Net + Clock> Listeners<N> {
                 Accept::Nothing
             }
             Tried::Broken => {
-                self.faults = self.faults.saturating_add(1);
+                self.faults.add();
                 Accept::Failed
             }
         }
@@ -127,7 +127,7 @@ impl<N: Net + Clock> Listeners<N> {
     pub fn faults(&self) -> u64
         ensures { result ≡ accept_faults_of self.now }
     {
-        self.faults
+        self.faults.count
     }
 
     /// The address of the listener of the TCP protocol, with the port that it got where 0 was asked for.

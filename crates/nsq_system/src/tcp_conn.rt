@@ -7,7 +7,7 @@ mod socket;
 
 use mio::unix::SourceFd;
 use mio::{Events, Interest, Poll, Token};
-use nsq_outside::{Conn, Did, Kind, Read, Sink, Source, Write};
+use nsq_outside::{Conn, Did, Faults, Kind, Read, Sink, Source, Write};
 use socket::{receive, send, send_all};
 use std::alloc::Global;
 use std::io;
@@ -61,8 +61,8 @@ pub struct TcpConn {
     writes: u32,
     ended: bool,
     broken: bool,
-    read_faults: u64,
-    write_faults: u64,
+    read_faults: Faults,
+    write_faults: Faults,
     ghost bound: { length gathered.items ≤ 16384 },
     ghost room: { 16384 ≤ vec_capacity gathered },
 }
@@ -94,8 +94,8 @@ impl TcpConn {
             writes: 0,
             ended: false,
             broken: false,
-            read_faults: 0,
-            write_faults: 0,
+            read_faults: Faults::none(),
+            write_faults: Faults::none(),
         })
     }
 
@@ -103,14 +103,14 @@ impl TcpConn {
     pub fn read_faults(&self) -> u64
         ensures { result ≡ read_faults_of self.now }
     {
-        self.read_faults
+        self.read_faults.count
     }
 
     /// How often a write failed, or bytes that were taken couldn't be sent.
     pub fn write_faults(&self) -> u64
         ensures { result ≡ write_faults_of self.now }
     {
-        self.write_faults
+        self.write_faults.count
     }
 
     /// Sends what was gathered, if anything was. It may wait. After `Failed` the gathered bytes are lost.
@@ -138,7 +138,7 @@ impl TcpConn {
         }
         self.gathered.clear();
         self.broken = true;
-        self.write_faults = self.write_faults.saturating_add(1);
+        self.write_faults.add();
         Did::Failed
     }
 
@@ -189,7 +189,7 @@ impl TcpConn {
             }
         }
         self.broken = true;
-        self.write_faults = self.write_faults.saturating_add(1);
+        self.write_faults.add();
         Write::Failed
     }
 
@@ -218,7 +218,7 @@ impl TcpConn {
             return Write::Failed;
         }
         if self.broken || self.gathered.extend_from_slice(from).is_err() {
-            self.write_faults = self.write_faults.saturating_add(1);
+            self.write_faults.add();
             return Write::Failed;
         }
         if !ends_with_error_frame(from) {
@@ -320,12 +320,14 @@ impl Source for TcpConn {
             Read::End => self.ended = true,
             Read::Failed => {
                 self.broken = true;
-                self.read_faults = self.read_faults.saturating_add(1);
+                self.read_faults.add();
             }
             Read::Got(_) | Read::Nothing => {}
         }
         answer
     }
+
+    ghost read_faults_fit = { λ conn. conn.read_faults.fits };
 }
 
 impl Sink for TcpConn {
@@ -365,6 +367,8 @@ impl Sink for TcpConn {
             Kind::Http => self.send_through(from),
         }
     }
+
+    ghost write_faults_fit = { λ conn. conn.write_faults.fits };
 }
 
 impl Conn for TcpConn {

@@ -1,7 +1,7 @@
 ghost use Rattle.std.specs.Prelude.{◌≡◌, ◌≤◌};
 
 use crate::tcp_conn::TcpConn;
-use nsq_outside::{Dialer, Dialled, Kind};
+use nsq_outside::{Dialer, Dialled, Faults, Kind};
 use std::alloc::Global;
 use std::net::{Net, TcpStream, ToSocketAddrs};
 use std::sync::Wait;
@@ -15,7 +15,7 @@ const DIAL_WAIT: u64 = 5;
 pub struct TcpDialer<N> {
     rt: N,
     alloc: Global,
-    faults: u64,
+    faults: Faults,
 }
 
 impl<N: Net<Stream = TcpStream>> TcpDialer<N> {
@@ -28,7 +28,7 @@ impl<N: Net<Stream = TcpStream>> TcpDialer<N> {
         TcpDialer {
             rt,
             alloc,
-            faults: 0,
+            faults: Faults::none(),
         }
     }
 
@@ -36,7 +36,7 @@ impl<N: Net<Stream = TcpStream>> TcpDialer<N> {
     pub fn faults(&self) -> u64
         ensures { result ≡ dial_faults_of self.now }
     {
-        self.faults
+        self.faults.count
     }
 }
 
@@ -68,9 +68,11 @@ impl<N: Net<Stream = TcpStream>> Dialer for TcpDialer<N> {
                 return Dialled::Linked(conn);
             }
         }
-        self.faults = self.faults.saturating_add(1);
+        self.faults.add();
         Dialled::Failed
     }
+
+    ghost dial_faults_fit = { λ dialer. dialer.faults.fits };
 }
 
 /// A connection to the first of these addresses that answers.

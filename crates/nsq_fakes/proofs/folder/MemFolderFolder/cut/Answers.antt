@@ -7,6 +7,6 @@ use Rattle.nsq_fakes.proofs.folder.MemFolderFolder.cut.Goals as goal
 pub returns-clause-bytes : goal.returns-clause-bytes
 returns-clause-bytes c =
     let after : c.answer.new.self.files ≡ c.cut-outcome.new.files = ap (λ (folder : MemFolder). folder.files) c.answer.ensures.rest in
-    let before : c.refuses.new.self.files ≡ c.args.self.now.files = ap (λ (folder : MemFolder). folder.files) c.refuses.ensures.rest in
+    let before : c.fails.new.self.files ≡ c.args.self.now.files = ap (λ (folder : MemFolder). folder.files) c.fails.ensures.rest in
     rw (after, ← before)
-    (cut_outcome (files_of c.refuses.new.self.files) (files_of c.cut-outcome.new.files) c.args.name.now c.args.to c.cut-outcome.result c.answer.result c.answer.ensures.done c.answer.ensures.failed c.cut-outcome.ensures.ok c.cut-outcome.ensures.err)
+    (cut_outcome (files_of c.fails.new.self.files) (files_of c.cut-outcome.new.files) c.args.name.now c.args.to c.cut-outcome.result c.answer.result c.answer.ensures.done c.answer.ensures.failed c.cut-outcome.ensures.ok c.cut-outcome.ensures.err)

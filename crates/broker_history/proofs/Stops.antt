@@ -1,6 +1,5 @@
 -- A legal history has one Stop at most.
-use Rattle.std.proofs.Common.{◌≡◌, ℕ, ◌≤◌, ◌+◌, Bool, true, false, not, ◌&&◌, if◌then◌else◌, List, [], ◌∷◌, ◌++◌, Option, None, Some, is_some, map, fold, take, refl, sym, ap, ◌∙◌, arith}
-use Rattle.std.proofs.lemmas.Bool.{false≢true}
+use Rattle.std.proofs.Common.{◌≡◌, ℕ, ◌≤◌, ◌+◌, Bool, true, false, not, ◌&&◌, if◌then◌else◌, List, [], ◌∷◌, ◌++◌, Option, None, Some, is_some, map, take, refl, sym, ap, ◌∙◌, arith}
 use Rattle.nsq_outside.specs.declared.journal.End.{End}
 use Rattle.nsq_outside.specs.declared.journal.End.TheVariants.{Done, Faulted, Skip}
 use Rattle.v2_frame.specs.declared.command.Command.{Command}
@@ -13,9 +12,9 @@ use Rattle.broker_history.specs.declared.entry.Act.TheVariants.{Began, Did, Refu
 use Rattle.broker_history.specs.declared.entry.Entry.{Entry}
 use Rattle.broker_history.specs.State.{State, Topic, Channel, Client, Phase, Fresh, Subscribed, Closing, Lost, Route, is_empty, topic_of, channel_of, client_of, with_topic, without_client, clients_of, is_ephemeral_channel}
 use Rattle.nsq_base.specs.Name.{is_ephemeral}
-use Rattle.broker_history.specs.Changes.{made, lost, with_fewer, without_topic, without_channel, deleted_in, deleted_channel, deleted_channels, deleted_topic, deleted, deleted_first, channels_in, topic_changed, emptied, set_paused, left_channel, left_by, gone_client, gone, AtTopic, at_client, changed_client}
+use Rattle.broker_history.specs.Changes.{made, lost, with_fewer, without_topic, without_channel, deleted_in, deleted_channel, deleted_channels, deleted, channels_in, topic_changed, emptied, set_paused, left_channel, left_by, gone_client, gone, AtTopic, at_client, changed_client}
 use Rattle.broker_history.specs.Identify.{Identity, identity_of}
-use Rattle.broker_history.specs.Step.{AtOwn, CarriesOut, DoesCommand, DoesDid, DoesSend, DoesMove, DoesMoveTo, DoesAct, IsAllowedAct, Step, with_identity, carried_out, broken_off, asked_state, is_done, is_kept_off}
+use Rattle.broker_history.specs.Step.{AtOwn, CarriesOut, DoesCommand, DoesMove, DoesMoveTo, DoesAct, IsAllowedAct, Step, with_identity, carried_out, broken_off, asked_state, is_done, is_kept_off}
 use Rattle.broker_history.specs.Entries.{History, is_stop, stops_of, is_faulted, faults_of, faults_apart}
 use Rattle.broker_history.specs.Legal.{Legal}
 use Rattle.broker_history.proofs.Histories.{Runs, runs_from_legal}

@@ -33,7 +33,8 @@ abbrev pub moves_in : ℕ → History → ℕ
 moves_in at [] = 0
 moves_in at (e ∷ h) = if is_held e.0.act then moves_in at h else moves_at_front at (e ∷ h)
 
--- how many due moves of this moment stand just before the end of a history, with nothing but held back ones between
+-- how many due moves of this moment stand just before the end of a history, with nothing but held back ones between: a held back one may stand
+-- behind all of them, and where one stands among them, those before it don't stand just before any more, and aren't counted
 abbrev pub moves_before : (at : ℕ) → History → ℕ
 moves_before at h = moves_in at (reverse h)
 

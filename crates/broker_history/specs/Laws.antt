@@ -1,14 +1,26 @@
 -- What follows from the definitions, each the contract of a function that does nothing.
 use Rattle.std.specs.List.{AllByRecursion}
-use Rattle.std.specs.Prelude.{◌≡◌, ℕ, ◌+◌, ◌≤◌, ◌<◌, Bool, true, false, List, [], ◌∷◌, ◌++◌, All}
+use Rattle.std.specs.Prelude.{◌≡◌, ℕ, ◌+◌, ◌≤◌, ◌<◌, true, false, List, [], ◌∷◌, ◌++◌, Some}
 use Rattle.nsq_outside.specs.declared.journal.End.{End}
 use Rattle.broker_history.specs.declared.entry.Entry.{Entry}
 use Rattle.v2_frame.specs.declared.fault.Limits.{Limits}
 use Rattle.broker_history.specs.declared.ended.Ended.{Ended}
-use Rattle.broker_history.specs.declared.entry.Act.TheVariants.{Gone}
-use Rattle.broker_history.specs.State.{State}
+use Rattle.broker_history.specs.declared.entry.Act.TheVariants.{Gone, Sent}
+use Rattle.broker_history.specs.Copies.{ChannelGoesOn}
+use Rattle.broker_history.specs.Channels.{Moves, MovesLive, JoinsLive, HasLive}
+use Rattle.broker_history.specs.Topics.{Fits, HasWaiting}
+use Rattle.broker_history.specs.State.{Copy, Waiting, Channel, State, channel_at, is_ephemeral_channel, is_live, queued, flying, flying_of}
+use Rattle.broker_history.specs.Step.{Step}
 use Rattle.broker_history.specs.Entries.{History, IsCommon, own, has_stop, stops_of, faults_of, faults_apart}
 use Rattle.broker_history.specs.Legal.{Legal}
+use Rattle.broker_history.specs.Credit.{rdy, in_flight_with}
+use Rattle.broker_history.specs.Moments.{IsTimed, HasReadings}
+use Rattle.broker_history.specs.Found.{start}
+use Rattle.broker_history.specs.Left.{IsAllLeft}
+use Rattle.history.specs.Found.{FoundChannel, FoundTopic, Found}
+use Rattle.nsq_base.specs.Name.{is_ephemeral}
+use Rattle.nsq_base.specs.declared.options.Options.{Options}
+use Rattle.v2_frame.specs.declared.message.Message.{Message}
 use Rattle.broker_history.specs.Talk.{has_gone, stops_before_gone, IsTalk, IsTalkIn}
 
 -- two legal histories, the second from where the first leads, are one
@@ -65,3 +77,60 @@ TalksWithoutGone = (limits : Limits) (number wanted : ℕ) (h : History) (pieces
 abbrev pub TalksWithGone : Type 0
 TalksWithGone = (limits : Limits) (number wanted : ℕ) (h : History) (e : Entry × End) (pieces : List (List ℕ)) (out : List ℕ) (ended : Ended) → e.0.conn ≡ number → e.0.act ≡ Gone → has_gone number h ≡ false
     → IsTalk limits (has_stop h) wanted pieces (own number h ++ e ∷ []) out ended → IsTalkIn limits number (h ++ e ∷ []) wanted pieces out ended
+
+-- a copy has one place: a step that leaves a channel lets its copies go on, each as one copy in one place
+abbrev pub CopiesHaveOnePlace : Type 0
+CopiesHaveOnePlace = (s t : State) (e : Entry × End) (topic channel : List ℕ) (k k' : Channel) → Step s e t → channel_at s topic channel ≡ Some k → channel_at t topic channel ≡ Some k'
+    → ChannelGoesOn (is_ephemeral_channel topic channel) k k'
+
+-- each message is sent within its client's RDY: before it is, fewer copies are in flight with the client than its last accepted RDY
+abbrev pub SentWithinReady : Type 0
+SentWithinReady = (s t : State) (e : Entry × End) (m : Message) → Step s e t → e.0.act ≡ Sent m → in_flight_with s e.0.conn < rdy s e.0.conn
+
+-- entries that were noted in turns have their moments by the readings: the number of these never falls, and grows by one at least with each act
+abbrev pub TurnsHaveReadings : Type 0
+TurnsHaveReadings = (coming : ℕ → ℕ) (first made : ℕ) (h : History) → IsTimed coming first h made → (readings : ℕ) × HasReadings coming first h readings × (readings ≤ made)
+
+-- what was found is durable
+pub record IsDurable (found : FoundTopic) : Type 0 where
+  pub name : is_ephemeral found.name ≡ false
+  pub channels : AllByRecursion (λ (c : FoundChannel). is_ephemeral c.name ≡ false) found.channels
+
+-- a run starts from what was found: as long as nothing happens, all of it is left, under the new epoch
+abbrev pub StartsFromFound : Type 0
+StartsFromFound = (found : Found) (options : Options) (moment : ℕ) → AllByRecursion IsDurable found.topics → IsAllLeft (start found options moment) (record found { epoch = found.epoch + 1 })
+
+-- this copy becomes that one
+abbrev pub Becomes : (from to : Copy) → Copy → Copy → Type 0
+Becomes from to x y = (x ≡ from) × (y ≡ to)
+
+-- what a channel of the program keeps moves as a state's does: where one live copy of it becomes another, so does one of the state's, and what is
+-- kept is the live ones of what the state's comes to
+abbrev pub LiveMovesAreMoves : Type 0
+LiveMovesAreMoves = (from to : Copy) (kept kept' copies : List Copy) → is_live from.place ≡ true → HasLive kept copies → MovesLive (Becomes from to) kept kept'
+    → (copies' : List Copy) × Moves (Becomes from to) copies copies' × HasLive kept' copies'
+
+-- and where a copy joins it, it joins the state's
+abbrev pub LiveJoinsAreJoins : Type 0
+LiveJoinsAreJoins = (x : Copy) (kept kept' copies : List Copy) → HasLive kept copies → JoinsLive x kept kept' → HasLive kept' (copies ++ x ∷ [])
+
+-- it has as many copies queued, in flight with a client, and in flight of an id
+pub record CountsLive (kept copies : List Copy) : Type 0 where
+  pub queues : queued kept ≡ queued copies
+  pub flies : (number : ℕ) → flying number kept ≡ flying number copies
+  pub of : (id : List ℕ) → flying_of id kept ≡ flying_of id copies
+
+abbrev pub LiveCountsAreCounts : Type 0
+LiveCountsAreCounts = (kept copies : List Copy) → HasLive kept copies → CountsLive kept copies
+
+-- what a topic of the program keeps is taken as a state's is: where one of its messages goes, a waiting one that it fits may be taken
+pub record TakenFrom (kept : List Message) (m : Message) (waiting : List Waiting) : Type 0 where
+  pub before : List Waiting
+  pub waits : Waiting
+  pub after : List Waiting
+  pub was : waiting ≡ before ++ waits ∷ after
+  pub fits : Fits waits m
+  pub left : HasWaiting kept (before ++ after)
+
+abbrev pub KeptIsTaken : Type 0
+KeptIsTaken = (m : Message) (front back : List Message) (waiting : List Waiting) → HasWaiting (front ++ m ∷ back) waiting → TakenFrom (front ++ back) m waiting

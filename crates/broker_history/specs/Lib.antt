@@ -14,4 +14,5 @@ pub mod Moments
 pub mod Talk
 pub mod Found
 pub mod Left
+pub mod Copies
 pub mod Laws

@@ -67,9 +67,12 @@ not_in_flight word = error (word ++ codes " message not in flight")
 abbrev pub most_ids : ℕ
 most_ids = 2 ^ 40
 
--- whether so many further ids are left
+-- whether so many further ids are left, where so many were used
+abbrev pub are_left : (used count : ℕ) → Bool
+are_left used count = nat_le (used + count) most_ids
+
 abbrev pub has_ids : State → ℕ → Bool
-has_ids s count = nat_le (s.ids_used + count) most_ids
+has_ids s count = are_left s.ids_used count
 
 -- a delay that a client gives in milliseconds, in nanoseconds; one below 0 counts as 0
 abbrev pub span_of : ℤ → ℕ
@@ -104,39 +107,49 @@ copies_in (Some k) = k.copies
 abbrev pub has_in_flight : State → Client → (id : List ℕ) → Bool
 has_in_flight s c id = nat_lt 0 (flying_with c.number id (copies_in (client_channel s c.route)))
 
--- the reply to a publish of so many messages
-abbrev pub publish_reply : State → (word : List ℕ) → (count : ℕ) → Frame
-publish_reply s word count = if has_ids s count then ok_frame else ids_spent word
+-- the reply to a publish of so many messages, where so many ids were used
+abbrev pub publish_reply : (used : ℕ) → (word : List ℕ) → (count : ℕ) → Frame
+publish_reply used word count = if are_left used count then ok_frame else ids_spent word
+
+-- the reply to DPUB
+abbrev pub delayed_reply : Options → (used : ℕ) → ℤ → Frame
+delayed_reply o used delay = if is_delay o delay then publish_reply used (codes "E_DPUB_FAILED") 1 else error (codes "E_INVALID bad delay")
 
 -- the reply to IDENTIFY, by what the client said
 abbrev pub identified : Options → Option Identity → Frame
 identified o None = error (codes "E_BAD_BODY bad JSON")
 identified o (Some said) = if said.negotiates then response (features_text o said) else ok_frame
 
--- the reply to a command on a message in flight
-abbrev pub flight_reply : State → Client → (word id : List ℕ) → Option Frame
-flight_reply s c word id = if is_fresh c.phase then Some wrong_state else (if has_in_flight s c id then None else Some (not_in_flight word))
+-- the reply to a command on a message, which is in flight with the client or isn't
+abbrev pub flight_reply : Phase → (word : List ℕ) → (flies : Bool) → Option Frame
+flight_reply phase word flies = if is_fresh phase then Some wrong_state else (if flies then None else Some (not_in_flight word))
 
--- the reply to RDY, by the client's phase: one that is closing is judged no further, and gets no messages
+-- the reply to RDY: a client that is closing is judged no further, and gets no messages
 abbrev pub ready_reply : Options → Phase → ℤ → Option Frame
 ready_reply o Fresh count = Some wrong_state
 ready_reply o Subscribed count = if is_ready_count o count then None else Some (error (codes "E_INVALID bad count"))
 ready_reply o Closing count = None
 ready_reply o Lost count = None
 
--- the reply to a command of a client, by the first cause that holds, or none
+-- the reply to a command, by the first cause that holds, or none: it depends on the options, on how many ids were used, on the client's phase,
+-- and on which messages are in flight with it
+module _ (o : Options) (used : ℕ) (phase : Phase) (flies : (id : List ℕ) → Bool) where
+  abbrev pub reply_by : Command → Option Frame
+  reply_by (Identify body) = Some (if is_fresh phase then identified o (identity_of o body) else wrong_state)
+  reply_by (Sub topic channel) = Some (if is_fresh phase then ok_frame else wrong_state)
+  reply_by (Pub topic body) = Some (publish_reply used (codes "E_PUB_FAILED") 1)
+  reply_by (Mpub topic bodies) = Some (publish_reply used (codes "E_MPUB_FAILED") (length bodies))
+  reply_by (Dpub topic delay body) = Some (delayed_reply o used delay)
+  reply_by (Rdy count) = ready_reply o phase count
+  reply_by (Fin id) = flight_reply phase (codes "E_FIN_FAILED") (flies id)
+  reply_by (Req id delay) = flight_reply phase (codes "E_REQ_FAILED") (flies id)
+  reply_by (Touch id) = flight_reply phase (codes "E_TOUCH_FAILED") (flies id)
+  reply_by Cls = Some (if is_subscribed phase then response (codes "CLOSE_WAIT") else wrong_state)
+  reply_by Nop = None
+
+-- the reply to a command of a client
 abbrev pub reply_to : State → Client → Command → Option Frame
-reply_to s c (Identify body) = Some (if is_fresh c.phase then identified s.options (identity_of s.options body) else wrong_state)
-reply_to s c (Sub topic channel) = Some (if is_fresh c.phase then ok_frame else wrong_state)
-reply_to s c (Pub topic body) = Some (publish_reply s (codes "E_PUB_FAILED") 1)
-reply_to s c (Mpub topic bodies) = Some (publish_reply s (codes "E_MPUB_FAILED") (length bodies))
-reply_to s c (Dpub topic delay body) = Some (if is_delay s.options delay then publish_reply s (codes "E_DPUB_FAILED") 1 else error (codes "E_INVALID bad delay"))
-reply_to s c (Rdy count) = ready_reply s.options c.phase count
-reply_to s c (Fin id) = flight_reply s c (codes "E_FIN_FAILED") id
-reply_to s c (Req id delay) = flight_reply s c (codes "E_REQ_FAILED") id
-reply_to s c (Touch id) = flight_reply s c (codes "E_TOUCH_FAILED") id
-reply_to s c Cls = Some (if is_subscribed c.phase then response (codes "CLOSE_WAIT") else wrong_state)
-reply_to s c Nop = None
+reply_to s c command = reply_by s.options s.ids_used c.phase (has_in_flight s c) command
 
 -- the reply to a command of this connection; none where its client isn't there
 abbrev pub reply : State → ℕ → Command → Option Frame

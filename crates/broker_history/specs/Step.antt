@@ -243,7 +243,7 @@ pub record MayBeSent (s : State) (at : ℕ) (c : Client) : Type 0 where
 -- nothing is to be sent to a client
 pub record IsIdle (s : State) (at : ℕ) (c : Client) : Type 0 where
   pub quiet : is_quiet at c ≡ true
-  pub none : may_get c (client_channel s c.route) && has_message (client_channel s c.route) ≡ false
+  pub none : (may_get c (client_channel s c.route) && has_message (client_channel s c.route)) ≡ false
 
 -- what ends Done alone
 abbrev pub IfDone : End → Type 0 → Type 0

@@ -138,11 +138,12 @@ fn is_value_byte(byte: u8) -> bool {
 /// The value without spaces and tabs at its ends.
 fn trimmed(value: &[u8]) -> &[u8] {
     let mut value = value;
-    while let [b' ' | b'\t', rest @ ..] = value {
-        value = rest;
-    }
-    while let [rest @ .., b' ' | b'\t'] = value {
-        value = rest;
+    for _ in 0..value.len() {
+        value = match value {
+            [b' ' | b'\t', rest @ ..] => rest,
+            [rest @ .., b' ' | b'\t'] => rest,
+            _ => return value,
+        };
     }
     value
 }

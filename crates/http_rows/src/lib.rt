@@ -6,8 +6,18 @@ mod answers;
 #[cfg(test)]
 mod arguments;
 #[cfg(test)]
+mod bodies;
+#[cfg(test)]
+mod lengths;
+#[cfg(test)]
+mod limits;
+#[cfg(test)]
+mod lines;
+#[cfg(test)]
 mod pieces;
 #[cfg(test)]
 mod requests;
 #[cfg(test)]
-mod rows;
+mod starts;
+#[cfg(test)]
+mod targets;

@@ -1,10 +1,16 @@
 use crate::pieces::{at_each_byte, in_two_pieces};
-use crate::rows::{ROWS, Row};
 use http_plain::{Plain, request_of};
 use http_wire::Request;
 use nsq_base::{Body, Memory, Pair, Pairs};
 use std::alloc::Global;
-use std::test::Fail;
+
+/// The bytes of a connection, a limit for bodies, and what the bytes are.
+pub(crate) struct Row {
+    pub(crate) name: &'static str,
+    pub(crate) bytes: &'static [Part],
+    pub(crate) limit: u32,
+    pub(crate) wanted: Wanted,
+}
 
 /// What a row's bytes are.
 #[derive(Clone, Copy)]
@@ -85,20 +91,11 @@ fn wanted_of(alloc: Global, wanted: Wanted) -> Result<Plain, Memory> {
 
 /// Whether the plain program and the reader give what the row wants: the reader for all bytes, at each cut into two pieces, and
 /// byte by byte, where it gives what the plain program does for the bytes so far. Long rows are cut at some places alone.
-fn holds(alloc: Global, row: &Row) -> Result<bool, Memory> {
+pub(crate) fn holds(alloc: Global, row: &Row) -> Result<bool, Memory> {
     let bytes = bytes_of(alloc, row.bytes)?;
     let wanted = wanted_of(alloc, row.wanted)?;
     let plain = request_of(alloc, row.limit, &bytes)?;
     let cut = in_two_pieces(alloc, row.limit, &bytes, &wanted)?;
     let each = at_each_byte(alloc, row.limit, &bytes, &wanted)?;
     Ok(plain == wanted && cut && each)
-}
-
-#[test]
-fn rows(rt: HostRuntime) -> Result<(), Fail> {
-    for row in &ROWS {
-        let holds = holds(rt.alloc(), row)?;
-        assert!(rt; holds, "{}", row.name);
-    }
-    Ok(())
 }

@@ -89,22 +89,31 @@ is_rate None = false
 is_rate (Some (pos n)) = nat_le n 99
 is_rate (Some (negsuc k)) = false
 
--- each member is of its kind and in its range; buffers and compression may be anything, since nothing is buffered or compressed
-abbrev pub accepts : Options → json.Members → Bool
-accepts o ms =
-    is_text (get_member (codes "client_id") ms)
-    && is_text (get_member (codes "hostname") ms)
-    && is_text (get_member (codes "user_agent") ms)
-    && is_flag (get_member (codes "feature_negotiation") ms)
-    && is_heartbeat o (number_in (get_member (codes "heartbeat_interval") ms))
+-- each member that is a text is one, or absent
+abbrev pub has_texts : json.Members → Bool
+has_texts ms = is_text (get_member (codes "client_id") ms) && is_text (get_member (codes "hostname") ms) && is_text (get_member (codes "user_agent") ms)
+
+-- each member that is a truth value is one, or absent; compression may be asked for, and isn't done
+abbrev pub has_flags : json.Members → Bool
+has_flags ms =
+    is_flag (get_member (codes "feature_negotiation") ms)
+    && is_flag (get_member (codes "tls_v1") ms)
+    && is_flag (get_member (codes "snappy") ms)
+    && is_flag (get_member (codes "deflate") ms)
+
+-- each member that is a number is one in its range, or absent; buffers may be asked for, of any size, and nothing is buffered
+abbrev pub has_numbers : Options → json.Members → Bool
+has_numbers o ms =
+    is_heartbeat o (number_in (get_member (codes "heartbeat_interval") ms))
     && is_timeout o (number_in (get_member (codes "msg_timeout") ms))
     && is_rate (number_in (get_member (codes "sample_rate") ms))
     && is_number (number_in (get_member (codes "output_buffer_size") ms))
     && is_number (number_in (get_member (codes "output_buffer_timeout") ms))
     && is_number (number_in (get_member (codes "deflate_level") ms))
-    && is_flag (get_member (codes "tls_v1") ms)
-    && is_flag (get_member (codes "snappy") ms)
-    && is_flag (get_member (codes "deflate") ms)
+
+-- each member is of its kind and in its range
+abbrev pub accepts : Options → json.Members → Bool
+accepts o ms = has_texts ms && has_flags ms && has_numbers o ms
 
 -- what the members say, where each is good; what isn't said is as without IDENTIFY
 abbrev pub said_by : Options → json.Members → Identity

@@ -1,10 +1,9 @@
 //! The plain program of the broker's definitions: slow functions that compute them on small inputs, for rows.
 #![tactic(auto)]
 
-mod identify;
+mod identities;
 mod phase;
-mod reply;
-
+mod replies;
 
 pub use phase::Phase;
-pub use reply::reply;
+pub use replies::reply;

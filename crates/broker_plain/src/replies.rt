@@ -4,7 +4,7 @@ ghost use Rattle.broker_history.specs.Reply.{are_left, delayed_reply, error, fli
 ghost use Rattle.broker_history.specs.State.{is_fresh, is_subscribed};
 ghost use Rattle.broker_plain.specs.Phases.{phase_of, is_span_to, is_count_to};
 
-use crate::identify::identified;
+use crate::identities::identified;
 use crate::phase::Phase;
 use nsq_base::{Body, Memory, Options};
 use std::alloc::Global;
@@ -93,12 +93,7 @@ fn publish_reply(alloc: Global, used: u64, word: &[u8], count: u64) -> Result<Fr
 }
 
 // The reply to DPUB.
-fn delayed_reply(
-    alloc: Global,
-    options: &Options,
-    used: u64,
-    delay: i64,
-) -> Result<Frame, Memory>
+fn delayed_reply(alloc: Global, options: &Options, used: u64, delay: i64) -> Result<Frame, Memory>
     ensures { IfOk result (λ frame. frame ≡ delayed_reply options.now used delay) }
 {
     if is_delay(options.max_req_timeout, delay) {

@@ -183,7 +183,7 @@ module _ {X E P : Type 0} (list : X → List E) (number : E → ℕ) (is_common 
       ))
 
   -- the one pass that holds the turn
-  holds_turn : (s : St) (r : Rule s) (id : ℕ) (v : V) → IsAt s.views id v → 0 < v.turn → (o : IsOut r.word r.longest s) × (id ≡ o.holder) × (v ≡ o.view)
+  pub holds_turn : (s : St) (r : Rule s) (id : ℕ) (v : V) → IsAt s.views id v → 0 < v.turn → (o : IsOut r.word r.longest s) × (id ≡ o.holder) × (v ≡ o.view)
   holds_turn s r id v here turn = ⊎_elim
       (λ (h : IsHome list descends r.word r.longest r.root s). absurd (let none : v.turn ≡ 0 = h.nobody id v here in omega arith))
       (λ (o : IsOut r.word r.longest s). dite (ℕ_discrete id o.holder)

@@ -2,6 +2,8 @@
 #![tactic(auto)]
 
 #[cfg(test)]
+mod own;
+#[cfg(test)]
 mod pairs;
 #[cfg(test)]
 mod scripts;

@@ -3,12 +3,11 @@ ghost use Rattle.nsq_fakes.specs.MemHosts.{state_of};
 
 mod histories;
 
-use crate::run::nsqd_run;
 use history::Entry;
 use nsq_base::{Body, Memory};
-use nsq_outside::{
-    Failing, FolderCall, Kind, Kit, MemClock, MemConn, MemFolder, MemHost, MemJournal, Piece,
-};
+use nsq_fakes::{Failing, FolderCall, MemClock, MemConn, MemFolder, MemHost, MemJournal, Piece};
+use nsq_outside::{Kind, Kit};
+use nsqd_core::nsqd_run;
 use std::alloc::Global;
 use std::process::Abort;
 use std::sync::Wait;

@@ -4,7 +4,7 @@ ghost use Rattle.broker_core.specs.Answers.{IsShortAnswer};
 use crate::{Ended, serve_v2};
 use broker_core::{Call, Desk, Turned};
 use nsq_base::{Body, Memory};
-use nsq_outside::{MemConn, Piece};
+use nsq_fakes::{MemConn, Piece};
 use std::alloc::Global;
 use std::sync::Wait;
 use std::test::Fail;

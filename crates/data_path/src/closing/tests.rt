@@ -1,7 +1,7 @@
 use super::*;
 use crate::{Refused, open};
 use nsq_base::Options;
-use nsq_outside::{Failing, FolderCall, MemClock, MemFolder, MemJournal};
+use nsq_fakes::{Failing, FolderCall, MemClock, MemFolder, MemJournal};
 use std::test::Fail;
 
 /// Opens an empty folder, of which these calls fail, and shuts it at once: how that went, and the folder.

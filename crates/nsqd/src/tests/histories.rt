@@ -3,14 +3,12 @@ ghost use Rattle.std.specs.Prelude.{IfOk, IsSome};
 ghost use Rattle.nsq_fakes.specs.MemHosts.{state_of};
 
 use super::{BAD_SIZE, NOT_BUILT, OK};
-use crate::run::nsqd_run;
 use history::plain::{Finding, FoundNames, State, found, is_legal, is_talk};
 use history::{Act, Ended, Entry};
 use nsq_base::{Body, Memory, Options};
-use nsq_outside::{
-    Did, End, Failing, Folder, FolderCall, Host, Kind, Kit, Listing, MemClock, MemConn, MemFolder,
-    MemHost, MemJournal, Piece, Twin,
-};
+use nsq_fakes::{Failing, FolderCall, MemClock, MemConn, MemFolder, MemHost, MemJournal, Piece};
+use nsq_outside::{Did, End, Folder, Host, Kind, Kit, Listing, Twin};
+use nsqd_core::nsqd_run;
 use queue_image::NamedFile;
 use std::alloc::Global;
 use std::sync::Wait;

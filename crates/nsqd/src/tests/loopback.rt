@@ -3,12 +3,12 @@
 ghost use Rattle.std.specs.Prelude.{IfOk};
 ghost use Rattle.nsq_base.specs.Options.{IsInRange};
 
-use crate::ending::line;
 use crate::host::SysHost;
-use crate::run::{close, serve};
 use crate::tests::ONE_TOPIC;
 use nsq_base::{Body, Memory, Options};
-use nsq_outside::{Clock as _, SysClock};
+use nsq_outside::Clock as _;
+use nsq_system::SysClock;
+use nsqd_core::{close, line, serve};
 use std::alloc::Global;
 use std::io::{Read as _, Write as _};
 use std::net::{Net, TcpListener, TcpStream};

@@ -3,13 +3,11 @@ ghost use Rattle.std.specs.Prelude.{◌≡◌, [], None, IfOk, IsSome};
 ghost use Rattle.nsq_fakes.specs.MemJournals.{notes_of, kept_of};
 
 use super::{DATA, META, NAMES, ONE_TOPIC, PUBLISH, RECORD};
-use crate::run::nsqd_run;
 use history::{Act, Entry};
 use nsq_base::{Body, Memory};
-use nsq_outside::{
-    Accept, Dialer, Dialled, Did, End, Host, Journal, Kind, Kit, MemClock, MemConn, MemFolder,
-    MemHost, MemJournal, Piece,
-};
+use nsq_fakes::{MemClock, MemConn, MemFolder, MemHost, MemJournal, Piece};
+use nsq_outside::{Accept, Dialer, Dialled, Did, End, Host, Journal, Kind, Kit};
+use nsqd_core::nsqd_run;
 use std::alloc::Global;
 use std::sync::Wait;
 use std::test::Fail;

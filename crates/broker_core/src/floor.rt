@@ -16,9 +16,6 @@ use nsq_base::{Memory, Options};
 use nsq_outside::{Clock, Did, End, Folder, Journal, Kit};
 use std::alloc::Global;
 
-#[cfg(test)]
-mod tests;
-
 /// A daemon's topics and clients with its folder, its clock and its journal. One turn is one event of the history.
 #[derive(Drop)]
 pub struct Floor<F: Folder, C: Clock, J: Journal<Entry>> {

@@ -109,6 +109,3 @@ fn end_of(saved: ShutEnd, flushed: Flushed) -> ShutEnd
         (ShutEnd::Clean, Flushed::Done) => ShutEnd::Clean,
     }
 }
-
-#[cfg(test)]
-mod tests;

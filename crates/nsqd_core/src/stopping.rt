@@ -71,6 +71,3 @@ pub(crate) fn refusal(why: Why) -> Ending
         Why::Memory => Ending::Memory,
     }
 }
-
-#[cfg(test)]
-mod tests;

@@ -1,8 +1,9 @@
-//! Whole runs whose journal finds no memory for the Stop, once or twice.
+//! Whole runs over one caller, whose journal finds no memory for the Stop, once or twice.
 ghost use Rattle.std.specs.Prelude.{◌≡◌, [], None, IfOk, IsSome};
 ghost use Rattle.nsq_fakes.specs.MemJournals.{notes_of, kept_of};
 
-use super::{DATA, META, NAMES, ONE_TOPIC, PUBLISH, RECORD};
+use crate::hosts::words_of;
+use crate::texts::{DATA, META, NAMES, ONE_RECORD, ONE_TOPIC, PUBLISH, RECORD};
 use history::{Act, Entry};
 use nsq_base::{Body, Memory};
 use nsq_fakes::{MemClock, MemConn, MemFolder, MemHost, MemJournal, Piece};
@@ -70,7 +71,7 @@ impl WantingHost {
     /// Whether the one message that was published, and the names, are in the files.
     fn is_kept(&self) -> bool {
         self.file(DATA) == Some(RECORD)
-            && self.file(META) == Some(b"1\n0,0\n0,32\n".as_slice())
+            && self.file(META) == Some(ONE_RECORD)
             && self.file(NAMES) == Some(ONE_TOPIC)
     }
 
@@ -242,28 +243,54 @@ fn host_of(alloc: Global, wants: u64) -> Result<WantingHost, Memory>
 /// The status of a run over one caller, and the host behind it.
 fn run_wanting<R: Wait>(rt: &R, alloc: Global, wants: u64) -> Result<(u8, WantingHost), Memory> {
     let mut host = host_of(alloc, wants)?;
-    let mut words = Vec::new(alloc);
-    words.push(String::from_str(alloc, "nsqd")?)?;
+    let words = words_of(alloc, &[])?;
     let status = nsqd_run(rt, alloc, &words, &mut host);
     Ok((status, host))
 }
 
-#[test]
-fn a_stop_that_finds_memory_the_second_time(rt: HostRuntime) -> Result<(), Fail> {
-    let (status, host) = run_wanting(&rt, rt.alloc(), 1)?;
-    assert_eq!(rt; status, 0);
-    assert_eq!(rt; host.stops(), 1);
-    assert_eq!(rt; host.line(), b"".as_slice());
-    assert!(rt; host.is_kept());
-    Ok(())
+struct Row {
+    name: &'static str,
+    /// How many times no memory is found for the Stop.
+    wants: u64,
+    status: u8,
+    line: &'static [u8],
+    /// How many Stops are noted.
+    stops: u64,
+}
+
+const ROWS: [Row; 2] = [
+    Row {
+        name: "a Stop that finds memory the second time",
+        wants: 1,
+        status: 0,
+        line: b"",
+        stops: 1,
+    },
+    Row {
+        name: "a Stop that finds no memory",
+        wants: 2,
+        status: 5,
+        line: b"nsqd: out of memory",
+        stops: 0,
+    },
+];
+
+/// Whether a run ends so, and keeps what was published.
+fn holds<R: Wait>(rt: &R, alloc: Global, row: &Row) -> Result<bool, Memory> {
+    let (status, host) = run_wanting(rt, alloc, row.wants)?;
+    Ok(
+        status == row.status
+            && host.line() == row.line
+            && host.stops() == row.stops
+            && host.is_kept(),
+    )
 }
 
 #[test]
-fn a_stop_that_finds_no_memory(rt: HostRuntime) -> Result<(), Fail> {
-    let (status, host) = run_wanting(&rt, rt.alloc(), 2)?;
-    assert_eq!(rt; status, 5);
-    assert_eq!(rt; host.stops(), 0);
-    assert_eq!(rt; host.line(), b"nsqd: out of memory".as_slice());
-    assert!(rt; host.is_kept());
+fn rows(rt: HostRuntime) -> Result<(), Fail> {
+    for row in &ROWS {
+        let holds = holds(&rt, rt.alloc(), row)?;
+        assert!(rt; holds, "{}", row.name);
+    }
     Ok(())
 }

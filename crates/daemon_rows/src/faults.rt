@@ -3,7 +3,7 @@
 
 use crate::hosts::{Given, run};
 use crate::three::{LONGEST, Told, run_three, three, told_of};
-use history::plain::{Finding, FoundNames, found};
+use history_plain::{Finding, FoundNames, found};
 use nsq_base::{Body, Memory};
 use nsq_fakes::{Failing, FolderCall, MemFolder};
 use nsq_outside::{Did, Folder, Host, Kit, Listing};

@@ -2,8 +2,8 @@
 
 use crate::hosts::{Caller, Given, Outcome, plain, run};
 use crate::texts::{BAD_SIZE, NOT_BUILT, OK};
-use history::plain::{State, is_legal, is_talk};
 use history::{Act, Ended, Entry};
+use history_plain::{State, is_legal, is_talk};
 use nsq_base::{Body, Memory, Options};
 use nsq_fakes::MemConn;
 use nsq_outside::{End, Twin};

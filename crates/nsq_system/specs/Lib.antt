@@ -3,3 +3,4 @@ pub mod TcpConns
 pub mod TcpDialers
 pub mod SysClocks
 pub mod Listeners
+pub mod Forgetting

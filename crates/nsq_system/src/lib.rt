@@ -1,9 +1,11 @@
-//! What the operating system gives, behind the traits of the outside: sockets, listeners, a folder on disk and a clock.
+//! What the shipped host has, behind the traits of the outside: sockets, listeners, a folder on disk and a clock of the system,
+//! and a journal that forgets.
 //!
 //! These objects tell no content, and count their faults.
 #![tactic(auto)]
 
 mod dir_folder;
+mod forgetful;
 mod listeners;
 mod open_files;
 mod sys_clock;
@@ -11,6 +13,7 @@ mod tcp_conn;
 mod tcp_dialer;
 
 pub use dir_folder::DirFolder;
+pub use forgetful::Forgetful;
 pub use listeners::Listeners;
 pub use sys_clock::SysClock;
 pub use tcp_conn::TcpConn;

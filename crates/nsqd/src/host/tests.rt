@@ -18,7 +18,9 @@ const TRIES: u32 = 1000;
 
 /// The folders of the rows, in the one that the tests run in.
 const FILES: &str = "nsqd_host_files";
+
 const PUBLISHED: &str = "nsqd_loopback_published";
+
 const IN_USE: &str = "nsqd_loopback_in_use";
 
 /// The file of names that a publish to the topic `t` leaves.

@@ -1,8 +1,9 @@
 ghost use Rattle.std.specs.Prelude.{◌≡◌, ◌≤◌, ℕ, List, [], IsTrue, IsSome, IfOk, IfErr, IfSome};
 ghost use Rattle.nsq_outside.specs.Files.{Files};
 ghost use Rattle.queue_image.specs.FileNames.{meta_file};
-ghost use Rattle.disk_queue.specs.Holding.{IsIdle};
-ghost use Rattle.disk_queue.specs.Opened.{IsOpened, IsTidied, FilesOfChange, OpenFails};
+ghost use Rattle.queue_image.specs.Metas.{IsIdle};
+ghost use Rattle.disk_queue.specs.Opened.{IsOpened, IsTidied, FilesOfChange};
+ghost use Rattle.queue_opening.specs.Refusals.{OpenFails};
 ghost use Rattle.v2_frame.specs.declared.message.Message.{Message};
 ghost use Rattle.backlog.specs.Seen.{ForMessages, IsOpenedAt, fresh_backlog, ring_depth, disk_depth};
 ghost use Rattle.backlog.specs.Lists.{OnDisk, Stands, WasFound, OpenRefused};

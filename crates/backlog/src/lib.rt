@@ -7,8 +7,6 @@
 
 mod answers;
 mod backlog;
-#[cfg(test)]
-mod tests;
 mod writing;
 
 pub use answers::{Depths, Drawn, Flushed, Gone, PutAll, PutOne};

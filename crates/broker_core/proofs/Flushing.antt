@@ -7,7 +7,7 @@ use Rattle.nsq_outside.specs.Files.{Files}
 use Rattle.nsq_base.specs.Name.{IsEphemeral}
 use Rattle.queue_image.specs.FileNames.{meta_file, IsOwnFile}
 use Rattle.queue_image.specs.Finds.{IsFound, Records}
-use Rattle.disk_queue.specs.declared.standing.QueueOptions.{QueueOptions}
+use Rattle.queue_files.specs.declared.options.QueueOptions.{QueueOptions}
 use Rattle.disk_queue.specs.Seen.{Seen, fresh_queue}
 use Rattle.disk_queue.specs.Holding.{Holds, IsIdle, SaveStands, OwnChange}
 use Rattle.v2_frame.specs.declared.message.Message.{Message}

@@ -5,7 +5,6 @@ pub mod Keeping
 pub mod Standing
 pub mod Leading
 pub mod Answering
-pub mod Whole
 pub mod Flushing
 pub mod Leaving
 pub mod Keepable

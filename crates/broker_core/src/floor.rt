@@ -1,7 +1,7 @@
 ghost use Rattle.std.specs.Prelude.{◌≡◌, ◌≢◌, ◌+◌, ◌<◌, ◌≤◌, ◌^◌, ℕ, [], All, length, IsTrue, false, IfOk, IfErr};
 ghost use Rattle.nsq_base.specs.Options.{IsInRange};
 ghost use Rattle.nsq_outside.specs.Causes.{DidFails};
-ghost use Rattle.disk_queue.specs.Replaced.{Replaces, OnlyTwoChange};
+ghost use Rattle.queue_files.specs.Replaced.{Replaces, OnlyTwoChange};
 ghost use Rattle.broker_core.specs.Floors.{settings_of};
 ghost use Rattle.broker_core.specs.Flushes.{FlushFails, TopicsChange, WhereDone, IsUnwritten, IsFoundRoom, CanKeepAll, flushed_rooms, kept_topics};
 ghost use Rattle.broker_core.specs.Moments.{moment_of};
@@ -15,9 +15,6 @@ use disk_queue::replace_file;
 use nsq_base::{Memory, Options};
 use nsq_outside::{Clock, Did, End, Folder, Journal, Kit};
 use std::alloc::Global;
-
-#[cfg(test)]
-mod tests;
 
 /// A daemon's topics and clients with its folder, its clock and its journal. One turn is one event of the history.
 #[derive(Drop)]

@@ -6,8 +6,6 @@ ghost use Rattle.broker_core.specs.Turns.{IsActOf, HasNoAct, turned_by};
 ghost use Rattle.broker_core.specs.declared.call.Call.TheVariants as call;
 
 use crate::replies::{answer_to, error, ok_frame, refusal};
-#[cfg(test)]
-use crate::room::Room;
 use crate::rooms::Rooms;
 use crate::{Act, Call, Flushed, KeptTopic, Settings, Turned};
 use nsq_base::{Body, Memory, MsgId, Topic};
@@ -301,14 +299,4 @@ impl Table {
 }
 
 #[cfg(test)]
-impl Table {
-    /// The topics, in byte order.
-    pub fn rooms(&self) -> &[Room] {
-        self.topics.rooms()
-    }
-
-    /// Uses all ids but the last one.
-    pub fn spend_ids(&mut self) {
-        self.ids_used = MOST_IDS - 1;
-    }
-}
+mod tests;

@@ -13,7 +13,7 @@ use Rattle.queue_image.specs.FileNames.IsFileOf.{own}
 use Rattle.queue_image.specs.Finds.{Records}
 use Rattle.queue_image.proofs.Naming.{long_name}
 use Rattle.queue_image.proofs.Keeping.{finding_keeps}
-use Rattle.disk_queue.specs.Replaced.{OnlyTwoChange}
+use Rattle.queue_files.specs.Replaced.{OnlyTwoChange}
 use Rattle.history.specs.Data.{KeptTopic, CanKeep, names_text, data_name, last_epoch, durable}
 use Rattle.history.specs.Found.{Pairwise, FoundTopic, FindsTopic, IsLeft, HasMessages, compared, left_in, least_record, longest_record}
 use Rattle.history.specs.Found.IsFound.{names as shows_names, spent as shows_spent}

@@ -1,6 +1,6 @@
 ghost use Rattle.std.specs.Prelude.{◌≡◌, ◌≤◌, All, IsTrue};
 ghost use Rattle.nsq_outside.specs.Files.{SameFiles};
-ghost use Rattle.disk_queue.specs.Replaced.{OnlyTwoChange};
+ghost use Rattle.queue_files.specs.Replaced.{OnlyTwoChange};
 ghost use Rattle.history.specs.Data.{data_name};
 ghost use Rattle.history.specs.State.{State};
 ghost use Rattle.broker_core.specs.Floors.{Stands};
@@ -109,6 +109,3 @@ fn end_of(saved: ShutEnd, flushed: Flushed) -> ShutEnd
         (ShutEnd::Clean, Flushed::Done) => ShutEnd::Clean,
     }
 }
-
-#[cfg(test)]
-mod tests;

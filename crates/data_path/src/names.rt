@@ -109,6 +109,3 @@ fn write_end(start: &[u8], name: &[u8], paused: bool, out: &mut Vec<u8>) -> Resu
         &[start, br#""name":""#, name, br#"","paused":"#, flag, b"}"],
     )
 }
-
-#[cfg(test)]
-mod tests;

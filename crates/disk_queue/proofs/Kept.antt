@@ -16,17 +16,19 @@ use Rattle.queue_image.proofs.Reading.{in_order, keeps, record_keeps}
 use Rattle.queue_image.proofs.Lists.{list_grows, list_turns}
 use Rattle.queue_image.proofs.Naming.{one_number, metadata_apart}
 use Rattle.disk_queue.specs.Seen.{Seen, unmarked, forgotten, fresh_queue, after_stage}
-use Rattle.disk_queue.specs.Holding.{Holds, IsNext, staged_part, Says, IsIdle, SaveStands, OwnChange}
-use Rattle.disk_queue.specs.Parts.{IsSound, WritesRecord, WritesPlace, StageWrites, place_for, base_for, with_record}
+use Rattle.disk_queue.specs.Holding.{Holds, IsNext, staged_part, SaveStands, OwnChange}
+use Rattle.queue_image.specs.Metas.{Says, IsIdle}
+use Rattle.disk_queue.specs.Parts.{IsSound, WritesPlace, StageWrites, place_for, base_for, with_record}
+use Rattle.queue_files.specs.FileCalls.{WritesRecord}
 use Rattle.disk_queue.specs.Answers.{StageTooLong, StaysWhereTooLong}
-use Rattle.disk_queue.specs.Replaced.{OnlyTwoChange}
+use Rattle.queue_files.specs.Replaced.{OnlyTwoChange}
 use Rattle.disk_queue.specs.declared.standing.Staged.{Staged}
-use Rattle.disk_queue.specs.declared.standing.QueueOptions.{QueueOptions}
+use Rattle.queue_files.specs.declared.options.QueueOptions.{QueueOptions}
 use Rattle.disk_queue.specs.declared.answers.Stage.{Stage}
 use Rattle.disk_queue.specs.declared.answers.Stage.TheVariants.{Staged as IsStaged, Fault, TooLong}
 use Rattle.queue_image.specs.declared.positions.Positions.{Positions}
 use Rattle.disk_queue.specs.declared.standing.LastSave.{LastSave}
-use Rattle.disk_queue.proofs.WrittenBytes.{take-cut, cut-inside, length-cut_to, take-written, has-written, take-less, as-long}
+use Rattle.queue_files.proofs.WrittenBytes.{take-cut, cut-inside, length-cut_to, take-written, has-written, take-less, as-long}
 
 -- nothing changed that is read before a place in a file, from the file on that is read first
 pub record Before (bytes bytes' : ℕ → List ℕ) (from file at : ℕ) : Type 0 where

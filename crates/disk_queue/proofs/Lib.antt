@@ -1,14 +1,6 @@
-pub mod WrittenBytes
 pub mod Kept
-pub mod FileSteps
 pub mod Saves
 pub mod Others
-pub mod OpeningSizes
-pub mod OpeningWalks
-pub mod OpeningPlans
-pub mod OpeningFinds
-pub mod OpeningAsides
-pub mod OpeningTidies
 pub mod Peeks
 pub mod Sound
 pub mod Turning

@@ -8,7 +8,7 @@ use Rattle.nsq_outside.specs.declared.did.Did.TheVariants.{Done, Failed}
 use Rattle.queue_image.specs.FileNames.{data_file, meta_file, meta_temp, IsOwnFile}
 use Rattle.queue_image.specs.FileNames.IsOwnFile.{numbered, metadata}
 use Rattle.queue_image.specs.Places.{IsOrdered, IsInRange}
-use Rattle.queue_image.specs.Metas.{meta_text}
+use Rattle.queue_image.specs.Metas.{meta_text, IsIdle}
 use Rattle.queue_image.specs.Finds.{IsFound, Records}
 use Rattle.queue_image.specs.Finds.IsFound.{fresh, empty}
 use Rattle.queue_image.specs.Between.Reads.{arrives}
@@ -16,10 +16,11 @@ use Rattle.queue_image.specs.declared.positions.Positions.{Positions}
 use Rattle.queue_image.proofs.MetaLemmas.{reads_back}
 use Rattle.queue_image.proofs.Naming.{one_number, metadata_apart}
 use Rattle.disk_queue.specs.Seen.{Seen, unmarked, ended, emptied, after_save}
-use Rattle.disk_queue.specs.Holding.{Holds, SaveStands, IsIdle, OwnChange}
+use Rattle.disk_queue.specs.Holding.{Holds, SaveStands, OwnChange}
 use Rattle.disk_queue.specs.Answers.{IsKept}
-use Rattle.disk_queue.specs.Replaced.{Replaces, OnlyTwoChange}
-use Rattle.disk_queue.specs.Parts.{IsSound, Gone, OnlyNumbersChange, OnlySaveChanges, Rewrites}
+use Rattle.queue_files.specs.Replaced.{Replaces, OnlyTwoChange}
+use Rattle.disk_queue.specs.Parts.{IsSound, OnlySaveChanges, Rewrites}
+use Rattle.queue_files.specs.FileCalls.{Gone, OnlyNumbersChange}
 use Rattle.disk_queue.specs.Emptying.{EmptySeen, Deletes, IsForgotten, IsGone}
 use Rattle.disk_queue.specs.declared.answers.Sync.{Sync}
 use Rattle.disk_queue.specs.declared.answers.Sync.TheVariants.{Done as Saved, Failed as Unsaved}

@@ -14,15 +14,15 @@ use Rattle.queue_image.proofs.MetaLemmas.{reads_back}
 use Rattle.queue_image.proofs.Naming.{metadata_apart}
 use Rattle.disk_queue.specs.Seen.{opened_queue}
 use Rattle.disk_queue.specs.Holding.{SaveStands}
-use Rattle.disk_queue.specs.Opened.{IsOpened, IsSetAside, IsTidied, IsTidiedAt, RefusedWhere, FilesOfChange}
-use Rattle.disk_queue.specs.Planned.{IsPlan, IsPlanned, FindsBadMeta}
-use Rattle.disk_queue.specs.Tidied.{OnlyTidied, IsTidy, IsWritten, OnlyWritten}
+use Rattle.disk_queue.specs.Opened.{IsOpened, IsTidied, IsTidiedAt, RefusedWhere, FilesOfChange}
+use Rattle.queue_opening.specs.Tidied.{IsSetAside, OnlyTidied, IsTidy, IsWritten, OnlyWritten}
+use Rattle.queue_opening.specs.Planned.{IsPlan, IsPlanned, FindsBadMeta}
 use Rattle.queue_image.specs.declared.positions.Positions.{Positions}
-use Rattle.disk_queue.specs.declared.standing.QueueOptions.{QueueOptions}
-use Rattle.disk_queue.specs.declared.answers.Open.{Open}
-use Rattle.disk_queue.specs.declared.answers.Open.TheVariants.{Fault, BadMeta as IsBadMeta, Memory}
-use Rattle.disk_queue.specs.declared.queue.opening.plan.Plan.{Plan}
-use Rattle.disk_queue.proofs.OpeningWalks.{file_order}
+use Rattle.queue_files.specs.declared.options.QueueOptions.{QueueOptions}
+use Rattle.queue_opening.specs.declared.refusal.Open.{Open}
+use Rattle.queue_opening.specs.declared.refusal.Open.TheVariants.{Fault, BadMeta as IsBadMeta, Memory}
+use Rattle.queue_opening.specs.declared.plan.Plan.{Plan}
+use Rattle.queue_opening.proofs.Walks.{file_order}
 use Rattle.disk_queue.proofs.OpeningLists.{Listed, listed, ends_all, gone_below, aside_own, aside_from, tidied_at}
 
 abbrev pub bad_of : Finding → List ℕ

@@ -7,7 +7,7 @@ use Rattle.nsq_outside.specs.declared.did.Did.TheVariants.{Done, Failed}
 use Rattle.queue_image.specs.FileNames.{data_file, meta_file, meta_temp}
 use Rattle.queue_image.specs.FileNames.IsOwnFile.{numbered, metadata, written}
 use Rattle.queue_image.specs.Places.{IsOrdered, IsAtEnd}
-use Rattle.queue_image.specs.Metas.{meta_text}
+use Rattle.queue_image.specs.Metas.{meta_text, IsIdle}
 use Rattle.queue_image.specs.Between.{Between, IsSaved}
 use Rattle.queue_image.specs.Finds.{IsFound, Records}
 use Rattle.queue_image.specs.Finds.IsFound.{fresh, empty}
@@ -20,10 +20,11 @@ use Rattle.queue_image.proofs.Keeping.{saved_is_found}
 use Rattle.queue_image.proofs.MetaLemmas.{reads_back}
 use Rattle.queue_image.proofs.Naming.{one_number, metadata_apart}
 use Rattle.disk_queue.specs.Seen.{Seen, unmarked, committed, after_stage, after_save, IsUnchanged}
-use Rattle.disk_queue.specs.Holding.{Holds, staged_part, IsIdle, SaveStands, OwnChange}
+use Rattle.disk_queue.specs.Holding.{Holds, staged_part, SaveStands, OwnChange}
 use Rattle.disk_queue.specs.Answers.{IsKept, KeptWhereDone, FoundUnlessFailed, NotDueWhere, Saves, PutSaves}
-use Rattle.disk_queue.specs.Replaced.{OnlyTwoChange, Replaces}
-use Rattle.disk_queue.specs.Parts.{IsSound, OnlySaveChanges, OnlyNumbersChange, Gone, Rewrites, PutChanges}
+use Rattle.queue_files.specs.Replaced.{OnlyTwoChange, Replaces}
+use Rattle.disk_queue.specs.Parts.{IsSound, OnlySaveChanges, Rewrites, PutChanges}
+use Rattle.queue_files.specs.FileCalls.{OnlyNumbersChange, Gone}
 use Rattle.disk_queue.specs.declared.answers.Stage.TheVariants.{Staged}
 use Rattle.disk_queue.specs.declared.answers.Put.TheVariants.{Stored}
 use Rattle.disk_queue.specs.declared.answers.Sync.{Sync}

@@ -3,12 +3,12 @@ use Rattle.std.specs.Prelude.{ℕ, ◌≡◌, ◌≢◌, ◌+◌, ◌≤◌, ◌
 use Rattle.nsq_outside.specs.Causes.{Rose}
 use Rattle.nsq_outside.specs.Files.{Files}
 use Rattle.queue_image.specs.FileNames.{data_file, meta_file, meta_temp}
-use Rattle.queue_image.specs.Metas.{meta_text}
+use Rattle.queue_image.specs.Metas.{meta_text, IsIdle}
 use Rattle.queue_image.specs.Finds.{IsFound, Records}
 use Rattle.disk_queue.specs.Seen.{Seen, unmarked, emptied, after_save}
-use Rattle.disk_queue.specs.Holding.{Holds, SaveStands, IsIdle}
+use Rattle.disk_queue.specs.Holding.{Holds, SaveStands}
 use Rattle.disk_queue.specs.Answers.{IsKept}
-use Rattle.disk_queue.specs.Replaced.{OnlyTwoChange}
+use Rattle.queue_files.specs.Replaced.{OnlyTwoChange}
 use Rattle.disk_queue.specs.declared.answers.Sync.TheVariants as sync
 use Rattle.disk_queue.specs.declared.answers.Emptied.{Emptied}
 use Rattle.disk_queue.specs.declared.answers.Emptied.TheVariants.{Done, Fault}

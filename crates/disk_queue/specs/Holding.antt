@@ -1,8 +1,8 @@
 -- What the files of a queue hold.
-use Rattle.std.specs.Prelude.{ℕ, ◌≡◌, ◌^◌, ◌<◌, ◌≤◌, ◌⊎◌, List, Option, Some, None, length, IfSome, IsTrue}
+use Rattle.std.specs.Prelude.{ℕ, ◌≡◌, ◌^◌, ◌<◌, ◌≤◌, List, Option, None, length, IfSome, IsTrue}
 use Rattle.nsq_outside.specs.Files.{Files}
-use Rattle.queue_image.specs.Places.{IsAtEnd, IsOrdered}
-use Rattle.queue_image.specs.Metas.{IsMeta}
+use Rattle.queue_image.specs.Places.{IsOrdered}
+pub use Rattle.queue_image.specs.Metas.{Says, IsIdle}
 use Rattle.queue_image.specs.Records.{HasRecord}
 use Rattle.queue_image.specs.Between.{Between, content}
 use Rattle.queue_image.specs.FileNames.{data_file, meta_file, IsOwnFile}
@@ -29,17 +29,6 @@ pub record Holds (q : Seen) (files : Files) (bodies waiting : List (List ℕ)) :
   pub count : length waiting ≡ q.staged.count
   pub within : q.staged.file ≤ 2 ^ 40
   pub mark : IfSome q.mark (IsNext q.options.least q.options.limit (content files q.name) q.positions)
-
--- a file is metadata that says these positions
-pub record Says (file : Option (List ℕ)) (p : Positions) : Type 0 where
-  pub text : List ℕ
-  pub depth : ℕ
-  pub there : file ≡ Some text
-  pub is : IsMeta text (record { depth = depth; positions = p })
-
--- there is no metadata, or one with two equal positions: an opening finds an empty list
-abbrev pub IsIdle : Option (List ℕ) → Type 0
-IsIdle file = (file ≡ None) ⊎ ((p : Positions) × Says file p × IsAtEnd p)
 
 -- what the last save left still stands. Where none failed since the last finished one, the metadata says that one's positions; where
 -- none was made, it is idle. The data files below the file that was read at the last finished one are gone

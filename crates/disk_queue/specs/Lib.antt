@@ -1,13 +1,10 @@
 pub mod Seen
 pub mod Holding
 pub mod Answers
-pub mod Replaced
 pub mod Parts
 pub mod Laws
 pub mod Reading
 pub mod Emptying
 pub mod Opened
-pub mod Walked
-pub mod Planned
-pub mod Tidied
 pub mod Peeking
+pub use Rattle.queue_files.specs.Replaced

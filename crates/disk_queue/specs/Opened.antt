@@ -1,6 +1,5 @@
 -- What an opening of a queue makes of its files.
-use Rattle.std.specs.Prelude.{ℕ, ◌≡◌, ◌≢◌, ◌+◌, ◌^◌, ◌<◌, ◌≤◌, min, List, [], length, Some, None, IsSome, Contains}
-use Rattle.nsq_outside.specs.Causes.{Rose}
+use Rattle.std.specs.Prelude.{ℕ, ◌≡◌, ◌≢◌, ◌+◌, ◌^◌, ◌<◌, ◌≤◌, min, List, [], length, Some, None, Contains}
 use Rattle.nsq_outside.specs.Files.{Files, SameFiles, cut_to}
 use Rattle.queue_image.specs.FileNames.{data_file, meta_file, meta_temp, set_aside, IsFileOf}
 use Rattle.queue_image.specs.Places.{IsAtEnd}
@@ -8,10 +7,13 @@ use Rattle.queue_image.specs.Between.{content}
 use Rattle.queue_image.specs.Finds.{IsFound, Records, BadMeta}
 use Rattle.queue_image.specs.declared.positions.Positions.{Positions}
 use Rattle.disk_queue.specs.Seen.{Seen}
-use Rattle.disk_queue.specs.Holding.{Holds, Says}
+use Rattle.disk_queue.specs.Holding.{Holds}
+use Rattle.queue_image.specs.Metas.{Says}
 use Rattle.disk_queue.specs.Answers.{IsKept}
-use Rattle.disk_queue.specs.declared.answers.Open.{Open}
-use Rattle.disk_queue.specs.declared.answers.Open.TheVariants.{Fault, BadMeta as IsBadMeta, Memory}
+pub use Rattle.queue_opening.specs.Tidied.{IsSetAside}
+pub use Rattle.queue_opening.specs.Refusals.{OpenFails}
+use Rattle.queue_opening.specs.declared.refusal.Open.{Open}
+use Rattle.queue_opening.specs.declared.refusal.Open.TheVariants.{Fault, BadMeta as IsBadMeta, Memory}
 
 -- the queue has the list that is found, and that is saved: another opening finds it and no bad file
 pub record IsOpened (q : Seen) (old new : Files) : Type 0 where
@@ -22,13 +24,6 @@ pub record IsOpened (q : Seen) (old new : Files) : Type 0 where
   pub kept : IsKept q new bodies
   pub ends : length (content new q.name q.positions.write_file) ≡ q.positions.write_at
   pub nothing : bodies ≡ [] → IsAtEnd q.positions × (q.positions.write_at ≡ 0)
-
--- the data file of that number, if there was one, has `.bad` added to its name now, in place of a file that had this name; where there was
--- none, that one stays; only a new write file has its number
-pub record IsSetAside (name : List ℕ) (old new : Files) (write k : ℕ) : Type 0 where
-  pub moved : IsSome (old (data_file name k)) → new (set_aside (data_file name k)) ≡ old (data_file name k)
-  pub gone : k ≢ write → new (data_file name k) ≡ None
-  pub stays : old (data_file name k) ≡ None → new (set_aside (data_file name k)) ≡ old (set_aside (data_file name k))
 
 -- with metadata of these positions, where these files are bad. Set aside are those above the write file and the bad ones, and none else;
 -- those below the read file are gone, and the good ones before the write file stay. Writing goes on in the write file, cut at the write position;
@@ -65,9 +60,3 @@ RefusedWhere least limit name old new Memory = SameFiles old new
 -- no file changes but those of the queue, those set aside among them
 abbrev pub FilesOfChange : List ℕ → Files → Files → Type 0
 FilesOfChange name old new = (file : List ℕ) → ¬ IsFileOf name file → new file ≡ old file
-
--- a fault comes only with a rise
-abbrev pub OpenFails : ℕ → ℕ → Open → Type 0
-OpenFails before now Fault = Rose before now
-OpenFails before now IsBadMeta = Unit {0}
-OpenFails before now Memory = Unit {0}

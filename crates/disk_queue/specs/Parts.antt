@@ -3,24 +3,20 @@ use Rattle.std.specs.Prelude.{ℕ, ◌≡◌, ◌≢◌, ◌+◌, ◌*◌, ◌^�
 use Rattle.nsq_outside.specs.Files.{Files, cut_to, written_at}
 use Rattle.nsq_outside.specs.declared.did.Did.{Did}
 use Rattle.nsq_outside.specs.declared.did.Did.TheVariants.{Done, Failed}
-use Rattle.queue_image.specs.Places.{IsOrdered, IsInRange, IsAtEnd, rolls}
+use Rattle.queue_image.specs.Places.{IsOrdered, IsInRange, IsAtEnd, rolls, distance}
 use Rattle.queue_image.specs.FileNames.{data_file, meta_file, meta_temp}
 use Rattle.queue_image.specs.Records.{record_bytes}
 use Rattle.queue_image.specs.Metas.{meta_text}
 use Rattle.disk_queue.specs.Seen.{Seen, behind}
 use Rattle.disk_queue.specs.Holding.{staged_part}
 use Rattle.disk_queue.specs.Answers.{IsUnsaved}
-use Rattle.disk_queue.specs.Replaced.{OnlyTwoChange}
+use Rattle.queue_files.specs.Replaced.{OnlyTwoChange}
 use Rattle.queue_image.specs.declared.positions.Positions.{Positions}
 use Rattle.disk_queue.specs.declared.standing.Staged.{Staged}
 use Rattle.disk_queue.specs.declared.answers.Stage.{Stage}
 use Rattle.disk_queue.specs.declared.answers.Stage.TheVariants.{Staged as IsStaged, Fault as StageFault, TooLong as StageTooLong}
 use Rattle.disk_queue.specs.declared.answers.Put.{Put}
 use Rattle.disk_queue.specs.declared.answers.Put.TheVariants.{Stored, Fault, TooLong}
-
--- how far into the files a place is, with room for the longest file in each
-abbrev pub distance : ℕ → ℕ → ℕ
-distance file at = file * 2 ^ 62 + at
 
 -- behind a record of n bytes at the read position reading is still in range, and not past the write position
 pub record IsAhead (p : Positions) (n : ℕ) : Type 0 where
@@ -43,11 +39,6 @@ pub record IsSound (q : Seen) : Type 0 where
   pub making : ¬ IsTrue q.saved.finished → IsAtEnd q.saved.positions
   pub marked : IfSome q.mark (λ n. IsAhead q.positions n)
   pub limit : q.options.limit < 2 ^ 32
-
--- the name of a queue and the number of one of its data files
-pub record DataFile : Type 0 where
-  pub name : List ℕ
-  pub number : ℕ
 
 -- where a record of that many bytes is written: at the start of the next file where it rolls there
 abbrev pub place_for : Seen → ℕ → Staged
@@ -85,25 +76,6 @@ abbrev pub StageWrites : Seen → Files → Files → List ℕ → Stage → Typ
 StageWrites q old new body IsStaged = new (data_file q.name (place_for q (length body)).file) ≡ Some (with_record q old body)
 StageWrites q old new body StageFault = Unit {0}
 StageWrites q old new body (StageTooLong _) = Unit {0}
-
--- a record stands at a place in a file; where that failed, what stood before the place stays
-abbrev pub WritesRecord : Option (List ℕ) → Option (List ℕ) → ℕ → List ℕ → Did → Type 0
-WritesRecord old new at body Done = new ≡ Some (written_at (unwrap_or old []) at (record_bytes body))
-WritesRecord old new at body Failed = at ≤ length (unwrap_or old []) → take at (unwrap_or new []) ≡ take at (unwrap_or old [])
-
--- the same of a size and bytes that are written one behind the other
-abbrev pub WritesBoth : Option (List ℕ) → Option (List ℕ) → ℕ → List ℕ → List ℕ → Did → Type 0
-WritesBoth old new at size body Done = new ≡ Some (written_at (unwrap_or old []) at (size ++ body))
-WritesBoth old new at size body Failed = at ≤ length (unwrap_or old []) → take at (unwrap_or new []) ≡ take at (unwrap_or old [])
-
--- the data files of these numbers are gone
-abbrev pub Gone : List ℕ → Files → ℕ → ℕ → Did → Type 0
-Gone name files from to Done = (k : ℕ) → from ≤ k → k < to → files (data_file name k) ≡ None
-Gone name files from to Failed = Unit {0}
-
--- no file changes but the data files of these numbers
-abbrev pub OnlyNumbersChange : List ℕ → Files → Files → ℕ → ℕ → Type 0
-OnlyNumbersChange name old new from to = (file : List ℕ) → ((k : ℕ) → from ≤ k → k < to → file ≢ data_file name k) → new file ≡ old file
 
 -- no file changes but the metadata, its temporary, and data files below the one that is read, from the one on that was read at the
 -- last save

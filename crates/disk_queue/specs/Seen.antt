@@ -1,8 +1,8 @@
 -- What is seen of a queue, and what its calls change of it.
 use Rattle.std.specs.Prelude.{ℕ, ◌≡◌, ◌+◌, ◌-◌, ◌^◌, ◌<◌, List, Bool, true, false, min, nat_lt, if◌then◌else◌, Option, Some, None, unwrap_or, IsTrue}
-use Rattle.queue_image.specs.Places.{rolls}
+use Rattle.queue_image.specs.Places.{rolls, start}
 use Rattle.queue_image.specs.declared.positions.Positions.{Positions}
-use Rattle.disk_queue.specs.declared.standing.QueueOptions.{QueueOptions}
+use Rattle.queue_files.specs.declared.options.QueueOptions.{QueueOptions}
 use Rattle.disk_queue.specs.declared.standing.Staged.{Staged}
 use Rattle.disk_queue.specs.declared.standing.LastSave.{LastSave}
 use Rattle.disk_queue.specs.declared.answers.Stage.{Stage}
@@ -24,10 +24,6 @@ pub record Seen : Type 0 where
   pub saved : LastSave
   pub mark : Option ℕ
   pub begun : Bool
-
--- the start of file 0, where a queue begins
-abbrev pub start : Positions
-start = record { read_file = 0; read_at = 0; write_file = 0; write_at = 0 }
 
 -- a queue as it is made
 abbrev pub fresh_queue : List ℕ → QueueOptions → Seen

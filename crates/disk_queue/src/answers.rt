@@ -1,9 +1,4 @@
-ghost use Rattle.std.specs.Prelude.{◌≡◌};
-ghost use Rattle.disk_queue.specs.declared.answers.Open.TheVariants.{Memory};
-
 use crate::Queue;
-use nsq_base::Memory;
-use thiserror::Error;
 
 /// The answer of `Queue::stage`.
 #[derive(Clone, Copy, Debug, PartialEq, Eq)]
@@ -84,26 +79,4 @@ pub enum Deleted {
     Done,
     /// The folder failed, and its count of faults rose in this call. The queue, with the list as before.
     Fault(Queue),
-}
-
-/// Why a queue wasn't opened.
-#[derive(Clone, Copy, Debug, PartialEq, Eq, Error)]
-pub enum Open {
-    /// The folder failed, and its count of faults rose in this call.
-    #[error("disk fault")]
-    Fault,
-    /// The metadata isn't in its grammar.
-    #[error("bad metadata")]
-    BadMeta,
-    /// Want of memory.
-    #[error("out of memory")]
-    Memory,
-}
-
-impl From<Memory> for Open {
-    ghost from_gives = { λ _ e. e ≡ Memory };
-
-    fn from(_error: Memory) -> Open {
-        Open::Memory
-    }
 }

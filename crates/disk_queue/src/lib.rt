@@ -5,19 +5,11 @@
 #![tactic(auto)]
 
 mod answers;
-mod data_name;
 pub mod laws;
-mod metadata;
 mod queue;
-mod queue_files;
-#[cfg(test)]
-mod reading_tests;
-mod replace;
 mod standing;
-#[cfg(test)]
-mod tests;
 
-pub use answers::{Deleted, Emptied, Open, Peek, Put, Stage, Sync, Take};
+pub use answers::{Deleted, Emptied, Peek, Put, Stage, Sync, Take};
 pub use queue::Queue;
-pub use replace::{replace_file, switch, write_temp};
-pub use standing::QueueOptions;
+pub use queue_files::{QueueOptions, replace_file, switch, write_temp};
+pub use queue_opening::Open;

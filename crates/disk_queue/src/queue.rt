@@ -4,20 +4,22 @@ ghost use Rattle.nsq_outside.specs.Files.{Files};
 ghost use Rattle.queue_image.specs.Places.{rolls};
 ghost use Rattle.queue_image.specs.FileNames.{data_file, meta_file};
 ghost use Rattle.disk_queue.specs.Seen.{fresh_queue, unmarked, forgotten, committed, after_stage, after_save, after_put, IsEarly, IsUnchanged};
-ghost use Rattle.disk_queue.specs.Holding.{Holds, IsIdle, SaveStands, OwnChange};
+ghost use Rattle.disk_queue.specs.Holding.{Holds, SaveStands, OwnChange};
+ghost use Rattle.queue_image.specs.Metas.{IsIdle};
 ghost use Rattle.disk_queue.specs.Answers.{waiting_after, bodies_after, StaysWhereTooLong, StageTooLong, PutTooLong, StageFails, SyncFails, PutFails, NotDueWhere, PutDue, Saves, PutSaves, KeptWhereDone, FoundUnlessFailed, PutKept};
-ghost use Rattle.disk_queue.specs.Replaced.{OnlyTwoChange};
-ghost use Rattle.disk_queue.specs.Parts.{IsSound, OnlySaveChanges, Rewrites, Gone, PutChanges, StageWrites, WritesPlace, base_for, first_base, place_for};
+ghost use Rattle.queue_files.specs.Replaced.{OnlyTwoChange};
+ghost use Rattle.disk_queue.specs.Parts.{IsSound, OnlySaveChanges, Rewrites, PutChanges, StageWrites, WritesPlace, base_for, first_base, place_for};
+ghost use Rattle.queue_files.specs.FileCalls.{Gone};
 
 mod emptying;
 mod opening;
 mod reading;
 
-use crate::queue_files::QueueFiles;
-use crate::standing::{LastSave, QueueOptions, Staged};
-use crate::{Put, Stage, Sync};
+use crate::standing::{LastSave, Staged};
+use crate::{Put, QueueOptions, Stage, Sync};
 use nsq_base::Memory;
 use nsq_outside::{Did, Folder};
+use queue_files::QueueFiles;
 use queue_image::{LAST_FILE, Positions};
 use std::alloc::Global;
 use std::marker::Model;

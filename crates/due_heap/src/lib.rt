@@ -12,8 +12,6 @@ mod key;
 mod node;
 mod order;
 mod slots;
-#[cfg(test)]
-mod tests;
 
 pub use due_heap::DueHeap;
 pub use key::Key;

@@ -1,5 +1,5 @@
 -- Legal histories, seen from their front.
-use Rattle.std.proofs.Common.{◌≡◌, ℕ, ◌≤◌, ◌+◌, suc, [], ◌∷◌, ◌++◌, ◌<◌, length, take, drop, get_or, refl, sym, ap, subst, ◌∙◌, append_assoc, arith}
+use Rattle.std.proofs.Common.{◌≡◌, ℕ, ◌≤◌, [], ◌∷◌, ◌++◌, refl, sym, ap, subst, ◌∙◌, append_assoc, arith}
 use Rattle.std.proofs.lemmas.List.{append-nil}
 use Rattle.nsq_outside.specs.declared.journal.End.{End}
 use Rattle.nsq_outside.specs.declared.journal.End.TheVariants.{Done, Faulted, Skip}
@@ -10,8 +10,7 @@ use Rattle.history.specs.declared.entry.Act.TheVariants.{Began, Did, Refused, Go
 use Rattle.history.specs.declared.entry.Entry.{Entry}
 use Rattle.history.specs.State.{State, at_moment}
 use Rattle.history.specs.Step.{DoesCommand, DoesAct}
-use Rattle.history.specs.Legal.{History, MayStep, Step, Legal, none, more, IsIllegal}
-use Rattle.history.proofs.Lists.{take_next, parts_at}
+use Rattle.history.specs.Legal.{History, MayStep, Step, Legal, none, more}
 
 -- the history leads from the first state to the second, seen from its first entry on
 unfoldable pub Runs : State → History → State → Type 0
@@ -135,15 +134,3 @@ not_legal_behind s t u h k e a never whole =
     let one : Runs parts.0 (e ∷ []) front.0 = runs_from_legal parts.2 in
     let same : parts.0 ≡ t = Runs-same s parts.0 t h (runs_from_legal parts.1) (runs_from_legal a) in
     never (subst (λ x. MayStep x e.0 e.1) same (first_may parts.0 front.0 e one))
-
--- a legal history up to a place, and one more step
-pub legal_next : (s t u : State) (h : History) (i : ℕ) (d e : Entry × End) → i < length h → e ≡ get_or h i d → Legal s (take i h) t → Step t e u → Legal s (take (i + 1) h) u
-legal_next s t u h i d e l is a step =
-    let P : History → Type 0 = λ x. Legal s x u in
-    subst P (sym (take_next h i d l)) (subst (λ x. P (take i h ++ x ∷ [])) is (more a step))
-
--- the entry at a place may not stand behind what is before it
-pub illegal_at : (s t : State) (h : History) (i : ℕ) (d e : Entry × End) → i < length h → e ≡ get_or h i d → Legal s (take i h) t → (MayStep t e.0 e.1 → ⊥) → IsIllegal s h
-illegal_at s t h i d e l is a never u whole =
-    not_legal_behind s t u (take i h) (drop (suc i) h) e a never
-    (subst (λ x. Legal s ((take i h ++ x ∷ []) ++ drop (suc i) h) u) (sym is) (subst (λ x. Legal s x u) (parts_at h i d l) whole))

@@ -4,10 +4,7 @@ pub mod Step
 pub mod Legal
 pub mod Talk
 pub mod Data
-pub mod Reads
 pub mod Once
 pub mod Found
 pub mod Laws
-pub mod PlainTalk
 pub mod Follow
-pub mod Findings

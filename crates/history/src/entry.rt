@@ -6,7 +6,7 @@ use std::alloc::Global;
 use v2_frame::{Command, Fault, Frame};
 
 /// What was done.
-#[derive(Debug, Drop)]
+#[derive(Drop)]
 pub enum Act {
     /// A connection began.
     Began,
@@ -22,7 +22,7 @@ pub enum Act {
 }
 
 /// One thing that happened.
-#[derive(Debug, Drop)]
+#[derive(Drop)]
 pub struct Entry {
     /// The connection's number, from 1 on. 0 is the daemon itself.
     pub conn: u64,

@@ -2,11 +2,10 @@
 //! bytes, entries and replies have to do with each other.
 //!
 //! The definitions stand in `specs`; the broker, the data path and the sessions are proved against them. `laws` has what
-//! follows from the definitions alone. `plain` computes them, slowly, for tests.
+//! follows from the definitions alone. The crate `history_plain` computes them, slowly, for tests.
 #![tactic(auto)]
 
 mod entry;
 pub mod laws;
-pub mod plain;
 
 pub use entry::{Act, Ended, Entry};

@@ -17,8 +17,6 @@ mod names;
 mod options;
 mod pairs;
 mod steps;
-#[cfg(test)]
-mod tests;
 pub mod time;
 mod topic;
 

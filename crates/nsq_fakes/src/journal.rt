@@ -1,9 +1,8 @@
-ghost use Rattle.std.specs.Prelude.{◌≡◌, ◌<◌, [], true, false, IsSome, None, Some, IsOk, is_some, vec_len, vec_capacity};
+ghost use Rattle.std.specs.Prelude.{◌≡◌, ◌<◌, [], true, IsSome, None, Some, is_some, vec_len, vec_capacity};
 
 use nsq_base::Memory;
 use nsq_outside::{End, Journal, Twin};
 use std::alloc::Global;
-use std::marker::PhantomData;
 
 /// A journal in memory, which keeps its entries.
 #[derive(Drop)]
@@ -65,50 +64,5 @@ impl<E: Drop + Twin + Send> Journal<E> for MemJournal<E> {
                 let _ = self.entries.push((entry, end));
             }
         }
-    }
-}
-
-/// A journal that forgets its entries. It tells nothing but whether one is aside.
-#[derive(Drop)]
-pub struct Forgetful<E> {
-    is_aside: bool,
-    entries: PhantomData<E>,
-}
-
-impl<E> Forgetful<E> {
-    ghost use Rattle.nsq_fakes.specs.MemJournals.{has_aside};
-
-    /// A journal with no entry aside.
-    pub fn new(_alloc: Global) -> Forgetful<E>
-        ensures { has_aside result ≡ false }
-    {
-        Forgetful {
-            is_aside: false,
-            entries: PhantomData,
-        }
-    }
-}
-
-impl<E: Send> Journal<E> for Forgetful<E> {
-    ghost use Rattle.nsq_fakes.specs.MemJournals.{has_aside};
-
-    ghost tells_notes = { false };
-
-    ghost notes = { λ _. [] };
-
-    ghost kept = { λ _. None };
-
-    ghost is_aside = { has_aside };
-
-    fn ready(&mut self, _entry: &E) -> Result<(), Memory>
-        ensures ok { IsOk result }
-        ensures aside { has_aside self.new ≡ true }
-    {
-        self.is_aside = true;
-        Ok(())
-    }
-
-    fn note(&mut self, _end: End) {
-        self.is_aside = false;
     }
 }

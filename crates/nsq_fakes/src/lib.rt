@@ -1,6 +1,6 @@
 //! Fakes of what lies outside: a connection, a folder, a clock, a journal and a host in memory.
 //!
-//! They tell everything, but `Forgetful`, which keeps no entry, and fail where they are told to. Tests and rows stand on them;
+//! They tell everything, and fail where they are told to. Tests and rows stand on them;
 //! no code of a daemon or a tool does.
 #![tactic(auto)]
 
@@ -23,6 +23,6 @@ pub use conn::MemConn;
 pub use folder::MemFolder;
 pub use folder_calls::{Failing, FolderCall};
 pub use host::MemHost;
-pub use journal::{Forgetful, MemJournal};
+pub use journal::MemJournal;
 pub use script::Piece;
 pub use start::Start;

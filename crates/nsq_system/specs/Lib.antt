@@ -7,3 +7,4 @@ pub mod TcpConns
 pub mod TcpDialers
 pub mod SysClocks
 pub mod Listeners
+pub mod Forgetting

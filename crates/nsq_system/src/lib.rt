@@ -1,4 +1,5 @@
-//! What the operating system gives, behind the traits of the outside: sockets, listeners, a folder on disk and a clock.
+//! What the shipped host has, behind the traits of the outside: sockets, listeners, a folder on disk and a clock of the system,
+//! and a journal that forgets.
 //!
 //! These objects tell no content, and count their faults.
 #![tactic(auto)]
@@ -6,6 +7,7 @@
 mod answers;
 mod dir_folder;
 mod error_frames;
+mod forgetful;
 mod listeners;
 mod open_files;
 mod outbox;
@@ -15,6 +17,7 @@ mod tcp_dialer;
 
 pub use answers::{NoCaller, no_caller};
 pub use dir_folder::DirFolder;
+pub use forgetful::Forgetful;
 pub use listeners::Listeners;
 pub use outbox::Outbox;
 pub use sys_clock::SysClock;

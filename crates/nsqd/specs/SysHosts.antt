@@ -5,7 +5,7 @@ use Rattle.nsq_outside.specs.Hosts.{DialerContent, HostContent, HostState}
 use Rattle.nsq_system.specs.TcpDialers.{dial_faults_of as dial_faults_in}
 use Rattle.nsq_outside.specs.declared.host.Accept.{Accept}
 use Rattle.nsq_outside.specs.declared.host.Accept.TheVariants.{Caller, Nothing, Halt, Failed}
-use Rattle.nsq_fakes.specs.declared.journal.Forgetful.{Forgetful}
+use Rattle.nsq_system.specs.declared.forgetful.Forgetful.{Forgetful}
 use Rattle.nsq_system.specs.declared.sys_clock.SysClock.{SysClock}
 use Rattle.nsq_system.specs.declared.tcp_conn.TcpConn.{TcpConn}
 use Rattle.nsqd.specs.declared.host.SysHost.{SysHost}

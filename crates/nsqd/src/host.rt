@@ -2,10 +2,8 @@ ghost use Rattle.std.specs.Prelude.{◌≡◌, IfOk};
 
 use history::Entry;
 use nsq_base::Memory;
-use nsq_outside::{
-    Accept, Dialer, Dialled, Did, DirFolder, Forgetful, Host, Kit, Listeners, SysClock, TcpConn,
-    TcpDialer,
-};
+use nsq_outside::{Accept, Dialer, Dialled, Did, Host, Kit};
+use nsq_system::{DirFolder, Forgetful, Listeners, SysClock, TcpConn, TcpDialer};
 use std::alloc::Global;
 use std::fmt;
 use std::io::{Eprint, Print};

@@ -1,15 +1,10 @@
 //! The message daemon. It takes what clients publish by the V2 protocol, and a clean stop leaves the messages in its folder.
 #![tactic(auto)]
 
-mod callers;
-mod ending;
 mod host;
-mod run;
-mod words;
 
-use ending::{Ending, status};
 use host::SysHost;
-use run::{close, nsqd_run};
+use nsqd_core::{Ending, close, nsqd_run, status};
 use std::env;
 use std::process::ExitCode;
 
@@ -31,6 +26,3 @@ fn main(rt: HostRuntime) -> ExitCode {
     };
     ExitCode::from(status)
 }
-
-#[cfg(test)]
-mod tests;

@@ -6,6 +6,5 @@ pub mod MetaLemmas
 pub mod Walking
 pub mod Digits
 pub mod MetaParts
-pub mod Listed
 pub mod Mending
 pub mod Keeping

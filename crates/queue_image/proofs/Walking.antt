@@ -1,5 +1,5 @@
 -- The walk over the files, and the records between the positions.
-use Rattle.std.proofs.Common.{◌≡◌, ◌≢◌, ℕ, ◌+◌, ◌-◌, ◌^◌, ◌<◌, ◌≤◌, ◌==◌, ◌⊎◌, cond, List, [], ◌∷◌, ◌++◌, length, take, drop, Option, Some, None, refl, sym, ◌∙◌, ap, subst, inl, inr, arith, append_assoc, length-append, length-take, length-drop, take-append-drop, zero, suc}
+use Rattle.std.proofs.Common.{◌≡◌, ◌≢◌, ℕ, ◌+◌, ◌-◌, ◌^◌, ◌<◌, ◌≤◌, ◌==◌, ◌⊎◌, cond, List, [], ◌∷◌, ◌++◌, length, take, drop, Option, Some, None, refl, sym, ◌∙◌, ap, subst, inl, inr, arith, append_assoc, length-append, length-take, length-drop, take-append-drop, zero, suc, max}
 use Rattle.std.proofs.Math.Seq.{take-append-add}
 use Rattle.std.proofs.lemmas.List.{take_at, drop_at, drop-drop, drop_all, take_rest, append-nil}
 use Rattle.std.proofs.lemmas.List.Folds.{drop_split}
@@ -318,3 +318,24 @@ module _ (least limit : ℕ) where
         reads = subst (λ (zs : List (List ℕ)). Reads least limit (content files name) meta.positions.write_file meta.positions.write_at meta.positions.read_file meta.positions.read_at zs) list r.0;
         inside = inside;
       }
+
+-- files that are passed over at once
+module _ (least limit : ℕ) (p : Positions) (bytes : ℕ → List ℕ) where
+  -- an empty file between the read file and the write file gives nothing, and is not bad
+  empty_is_good : (k : ℕ) → p.read_file < k → k < p.write_file → bytes k ≡ [] → IsGoodFile least limit p k (bytes k) []
+  empty_is_good k past before none =
+      let start : part_start p k ≡ 0 = if_apart k p.read_file p.read_at 0 (λ e. omega (arith, e)) in
+      let end : part_end p k (length (bytes k)) ≡ 0 = if_apart k p.write_file p.write_at (length (bytes k)) (λ e. omega (arith, e)) ∙ ap length none in
+      record {
+        starts_inside = omega arith;
+        ends_inside = omega arith;
+        row = record { whole = ap (slice_range (bytes k) (part_start p k)) end ∙ ap (λ (s : ℕ). slice_range (bytes k) s 0) start; sizes = tt };
+      }
+
+  -- empty files are passed over at once
+  pub skips : (d k n : ℕ) {bodies : List (List ℕ)} {bad : List ℕ} → k + d ≡ n → p.read_file < k → n ≤ max k p.write_file → ((j : ℕ) → k ≤ j → j < n → bytes j ≡ [])
+      → Walks least limit p bytes k bodies bad → Walks least limit p bytes n bodies bad
+  skips zero k n {bodies} {bad} e past fits none w = subst (λ (m : ℕ). Walks least limit p bytes m bodies bad) (omega arith) w
+  skips (suc d) k n {bodies} {bad} e past fits none w =
+      skips d (k + 1) n (omega arith) (omega arith) (omega arith) (λ j low high. none j (omega arith) high)
+      (good [] w (empty_is_good k past (omega arith) (none k (omega arith) (omega arith))) refl (sym (append-nil bodies)))

@@ -5,5 +5,4 @@ pub mod Metas
 pub mod Between
 pub mod Finds
 pub mod Laws
-pub mod Folders
 pub mod Answered

@@ -1,7 +1,7 @@
 -- The text of a queue's metadata.
-use Rattle.std.specs.Prelude.{◌≡◌, ℕ, List, [], ◌∷◌, ◌++◌, decimal}
+use Rattle.std.specs.Prelude.{◌≡◌, ℕ, ◌⊎◌, List, [], ◌∷◌, ◌++◌, decimal, Option, Some, None}
 use Rattle.nsq_base.specs.Decimal.{IsDecimal}
-use Rattle.queue_image.specs.Places.{IsOrdered, IsInRange}
+use Rattle.queue_image.specs.Places.{IsOrdered, IsInRange, IsAtEnd}
 use Rattle.queue_image.specs.declared.positions.Positions.{Positions}
 
 -- what the metadata says: how many records there were, which nobody relies on, and the positions
@@ -28,3 +28,14 @@ pub record IsMeta (text : List ℕ) (meta : Meta) : Type 0 where
 -- the text that a queue writes of its depth and its positions: no number has a leading zero
 abbrev pub meta_text : ℕ → Positions → List ℕ
 meta_text depth p = decimal depth ++ 10 ∷ (decimal p.read_file ++ 44 ∷ (decimal p.read_at ++ 10 ∷ (decimal p.write_file ++ 44 ∷ (decimal p.write_at ++ 10 ∷ []))))
+
+-- a file is metadata that says these positions
+pub record Says (file : Option (List ℕ)) (p : Positions) : Type 0 where
+  pub text : List ℕ
+  pub depth : ℕ
+  pub there : file ≡ Some text
+  pub is : IsMeta text (record { depth = depth; positions = p })
+
+-- there is no metadata, or one with two equal positions: an opening finds an empty list
+abbrev pub IsIdle : Option (List ℕ) → Type 0
+IsIdle file = (file ≡ None) ⊎ ((p : Positions) × Says file p × IsAtEnd p)

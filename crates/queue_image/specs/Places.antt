@@ -1,5 +1,5 @@
 -- The positions of a queue: where it reads and where it writes, each a file's number and a place in that file.
-use Rattle.std.specs.Prelude.{◌≡◌, ℕ, ◌+◌, ◌^◌, ◌<◌, ◌≤◌, ◌⊎◌, Bool, ◌&&◌, ◌==◌, nat_lt, if◌then◌else◌}
+use Rattle.std.specs.Prelude.{◌≡◌, ℕ, ◌+◌, ◌*◌, ◌^◌, ◌<◌, ◌≤◌, ◌⊎◌, Bool, ◌&&◌, ◌==◌, nat_lt, if◌then◌else◌}
 use Rattle.queue_image.specs.declared.positions.Positions.{Positions}
 
 -- the read position is not past the write position
@@ -32,3 +32,11 @@ part_end p k len = if k == p.write_file then p.write_at else len
 -- whether a record of so many bytes goes to the next file: writing stands past the file's start, the record with its size would pass the greatest length of a file, and a next number is left
 abbrev pub rolls : (max_bytes file at size : ℕ) → Bool
 rolls max_bytes file at size = nat_lt 0 at && nat_lt max_bytes (at + (4 + size)) && nat_lt file (2 ^ 40)
+
+-- the start of file 0, where a queue begins
+abbrev pub start : Positions
+start = record { read_file = 0; read_at = 0; write_file = 0; write_at = 0 }
+
+-- how far into the files a place is, with room for the longest file in each
+abbrev pub distance : ℕ → ℕ → ℕ
+distance file at = file * 2 ^ 62 + at

@@ -8,6 +8,3 @@ mod serve;
 
 pub use broker_core::Ended;
 pub use serve::serve_v2;
-
-#[cfg(test)]
-mod tests;

@@ -17,7 +17,7 @@ use Rattle.v2_frame.specs.declared.fault.Limits.{Limits}
 use Rattle.v2_frame.specs.Line.{HasNo, text_of, words_of, IsNumber, is_id_byte, IsIdWord}
 use Rattle.v2_frame.specs.Heading.{Heading, Identify, Sub, Pub, Mpub, Dpub, Rdy, Fin, Req, Touch, Cls, Nop, Says, IsWellNamed}
 use Rattle.v2_frame.specs.Command.{heading_of, Spells, canonical_words, canonical_line, canonical, IsShortNumber, HasGoodWords, IsWritable}
-use Rattle.v2_frame.proofs.PlainLemmas.{HasNo_at, one_word_text, words_parted}
+use Rattle.v2_frame.proofs.PlaceLemmas.{HasNo_at, one_word_text, words_parted}
 
 -- a word without a space and without a byte of a line end, of at most 64 bytes
 record IsGoodWord (word : List ℕ) : Type 0 where

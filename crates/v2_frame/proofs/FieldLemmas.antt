@@ -1,4 +1,4 @@
--- Lemmas for the plain program: sizes and what stands behind them.
+-- Sizes and what stands behind them, as the judge finds them.
 use Rattle.std.proofs.Common.{◌≡◌, ℕ, ◌+◌, ◌^◌, ◌<◌, ◌≤◌, List, [], ◌∷◌, ◌++◌, length, take, drop, get_or, refl, sym, ap, ◌∙◌, subst, arith, append_assoc, length-append, length-take, length-drop, ⊎_elim, inl, inr, Some}
 use Rattle.std.specs.Int.{from_be_bytes, w32}
 use Rattle.std.specs.List.{flat_map, AllByRecursion}
@@ -14,7 +14,7 @@ use Rattle.v2_frame.specs.declared.fault.Limits.{Limits}
 use Rattle.v2_frame.specs.Heading.{Heading, Mpub}
 use Rattle.v2_frame.specs.Judging.{HasSize, HasBodies, IsBadMessage, no_size, bad_size, cut_body, HasFront, IsBadContent, no_count, count_zero, bad_message, left_over, Unfinished, Faulty, Whole, Sizing, sizing_of, Behind, whole, open_size, open_body, bad_content}
 use Rattle.v2_frame.specs.Judging.{bad_size as wrong_size}
-use Rattle.v2_frame.specs.Plain.{IsField, IsWholeField}
+use Rattle.v2_frame.specs.Parts.{IsField, IsWholeField}
 use Rattle.v2_frame.specs.declared.size.Field.TheVariants as field
 
 -- the first four bytes are a size

@@ -1,4 +1,4 @@
--- Lemmas for the plain program: the verdict on a line.
+-- The verdict on a line, as the judge finds it.
 use Rattle.std.proofs.Common.{◌≡◌, ℕ, ◌+◌, ◌<◌, ◌≤◌, List, ◌∷◌, ◌++◌, length, take, drop, refl, sym, ap, subst, arith, length-take}
 use Rattle.std.specs.Prelude.{IsSome}
 use Rattle.std.proofs.Common.{rules}
@@ -13,7 +13,7 @@ use Rattle.v2_frame.specs.Line.{HasNo, HasLine, text_of, words_of}
 use Rattle.v2_frame.specs.Heading.{Heading, Says, SaysNothing}
 use Rattle.v2_frame.specs.Command.{longest_line}
 use Rattle.v2_frame.specs.Judging.{Verdict, Whole, Faulty, shifted, sizing_of, Behind, whole, HasHeading, Judged, long_line, bad_word, bad_topic, bad_channel, good_line}
-use Rattle.v2_frame.specs.Plain.{sized_heading, IsStart, HasBadName, HasSizedLine}
+use Rattle.v2_frame.specs.Parts.{sized_heading, IsStart, HasBadName, HasSizedLine}
 
 -- the line at the first line feed, and its text
 module _ (limits : Limits) (bytes text : List ℕ) (end : ℕ) (within : end < length bytes) (first : HasNo 10 (take end bytes)) (whole_is : bytes ≡ take end bytes ++ 10 ∷ drop (end + 1) bytes) (text_is : text ≡ text_of (take end bytes)) where

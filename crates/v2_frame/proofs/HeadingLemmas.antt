@@ -3,7 +3,7 @@ use Rattle.std.proofs.Common.{◌≡◌, ℕ, ◌+◌, ◌*◌, ℤ, List, [], �
 use Rattle.v2_frame.specs.Line.{IsNumber, IsIdWord}
 use Rattle.v2_frame.specs.Heading.{Heading, Identify, Sub, Pub, Mpub, Dpub, Rdy, Fin, Req, Touch, Cls, Nop, Says, SaysNothing, IsWellNamed, HasBadTopic, HasBadChannel}
 use Rattle.v2_frame.specs.Command.{canonical_words}
-use Rattle.v2_frame.specs.Plain.{IsNoVerb}
+use Rattle.v2_frame.specs.Parts.{IsNoVerb}
 use Rattle.v2_frame.specs.declared.heading.Verb.TheVariants as verb
 
 pub number_unique : {word : List ℕ} {a b : ℤ} → IsNumber word a → IsNumber word b → a ≡ b

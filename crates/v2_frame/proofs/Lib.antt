@@ -4,7 +4,7 @@ pub mod SizeLemmas
 pub mod BehindLemmas
 pub mod VerdictLemmas
 pub mod ScriptLemmas
-pub mod PlainLemmas
+pub mod PlaceLemmas
 pub mod FieldLemmas
 pub mod FoundLemmas
 pub mod CanonicalLemmas

@@ -13,16 +13,16 @@ use Rattle.v2_frame.specs.declared.fault.Limits.{Limits}
 use Rattle.v2_frame.specs.declared.fault.Rest.TheVariants as rest
 use Rattle.v2_frame.specs.declared.got.Stage.{Stage}
 use Rattle.v2_frame.specs.declared.got.Stage.TheVariants.{Opening, Commands, Failed}
-use Rattle.v2_frame.specs.declared.plain.Found.TheVariants as found
+use Rattle.v2_frame.specs.declared.judge.Found.TheVariants as found
 use Rattle.v2_frame.specs.Heading.{Heading, IsWellNamed}
 use Rattle.v2_frame.specs.Line.{HasNo, HasLine}
 use Rattle.v2_frame.specs.Judging.{Unfinished, Judged, good_line, open_line, endless_line, Behind, open_size, open_body, HasHeading, HasSize, IsFault, IsUnfinished, Begins}
 use Rattle.v2_frame.specs.Script.{magic, told_place, none, HasScript}
-use Rattle.v2_frame.specs.Plain.{EndsLine, TakesSome, verdict_of}
+use Rattle.v2_frame.specs.Parts.{EndsLine, TakesSome, verdict_of}
 use Rattle.v2_frame.specs.Reading.{LeftAt, ReadsMagic, Takes}
 use Rattle.v2_frame.proofs.LineLemmas.{no_line, line_unique, line_more}
 use Rattle.v2_frame.proofs.SizeLemmas.{size_unique, size_long, size_more}
-use Rattle.v2_frame.proofs.PlainLemmas.{cut_at, HasNo_take}
+use Rattle.v2_frame.proofs.PlaceLemmas.{cut_at, HasNo_take}
 use Rattle.v2_frame.proofs.VerdictLemmas.{judged_begins}
 use Rattle.v2_frame.proofs.ScriptLemmas.{no_magic}
 

@@ -129,20 +129,6 @@ pub row_push : {limits : Limits} {bytes left after : List ℕ} {commands : List 
 row_push none b = more b none
 row_push (more d r) b = more d (row_push r b)
 
--- the scripts that the plain program finds: for a stream whose first four bytes are the magic, or aren't
+-- the script of a stream whose first four bytes aren't the magic
 pub no_magic : (limits : Limits) (bytes : List ℕ) (commands : List Command) → 4 ≤ length bytes → take 4 bytes ≢ magic → commands ≡ [] → IsScript limits bytes commands (rest.Faulty (record { kind = BadMagic; at = 0 }))
 no_magic limits bytes commands long wrong e = bad_magic (record { whole = sym (take-append-drop 4 bytes); long = simp length-take (omega arith) }) wrong e refl
-
-module _ (limits : Limits) (bytes : List ℕ) (start : ℕ) (commands : List Command) (right : take 4 bytes ≡ magic) (low : 4 ≤ start) (within : start ≤ length bytes) (row : Row limits (drop 4 bytes) commands (drop start bytes)) where
-  whole_is : bytes ≡ magic ++ drop 4 bytes
-  whole_is = sym (take-append-drop 4 bytes) ∙ ap (λ (x : List ℕ). x ++ drop 4 bytes) right
-
-  place_is : 4 + (length (drop 4 bytes) - length (drop start bytes)) ≡ start
-  place_is = omega (arith, length-drop 4 bytes, length-drop start bytes)
-
-  pub script_open : (slice : List ℕ) → slice ≡ drop start bytes → IsUnfinished limits slice → IsScript limits bytes commands rest.Unfinished
-  script_open slice e u = good_magic whole_is (record { left = drop start bytes; row = row; ends = subst (λ (x : List ℕ). IsUnfinished limits x) e u })
-
-  pub script_faulty : (slice : List ℕ) (kind : FaultKind) (at told : ℕ) → slice ≡ drop start bytes → IsFault limits slice kind at → told ≡ told_place (start + at) → IsScript limits bytes commands (rest.Faulty (record { kind = kind; at = told }))
-  script_faulty slice kind at told e f t =
-      good_magic whole_is (record { left = drop start bytes; row = row; ends = (at, subst (λ (x : List ℕ). IsFault limits x kind at) e f, t ∙ ap (λ (n : ℕ). told_place (n + at)) (sym place_is)) })

@@ -5,7 +5,7 @@ pub mod Judging
 pub mod Script
 pub mod Written
 pub mod Laws
-pub mod Plain
+pub mod Parts
 pub mod Reading
 pub mod ReaderLaws
 pub mod Writing

@@ -13,7 +13,7 @@ use Rattle.v2_frame.specs.declared.got.Stage.TheVariants.{Opening, Commands, Fai
 use Rattle.v2_frame.specs.Line.{HasNo}
 use Rattle.v2_frame.specs.Judging.{Begins, IsUnfinished}
 use Rattle.v2_frame.specs.Script.{magic, told_place, HasScript, IsScript}
-use Rattle.v2_frame.specs.Plain.{HasSizedLine}
+use Rattle.v2_frame.specs.Parts.{HasSizedLine}
 
 -- a reader: its limits, how far it has come, the place in the stream of the first byte that isn't done, as it is told, and
 -- the bytes that were fed and aren't done

@@ -1,5 +1,5 @@
 ghost use Rattle.std.specs.Prelude.{IfOk};
-ghost use Rattle.v2_frame.specs.Plain.{IsContent};
+ghost use Rattle.v2_frame.specs.Parts.{IsContent};
 
 use crate::FaultKind;
 use crate::size::{Field, field_of, size_of};

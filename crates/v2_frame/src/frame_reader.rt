@@ -5,7 +5,7 @@ ghost use Rattle.v2_frame.specs.FrameReads.{IsFront, Gives, GaveOf};
 ghost use Rattle.v2_frame.specs.Script.{told_place};
 ghost use Rattle.v2_frame.specs.Written.{type_of};
 
-use crate::plain::told_place;
+use crate::judge::told_place;
 use crate::size::size_of;
 use crate::{Frame, FrameKind};
 use nsq_base::{Body, Memory};

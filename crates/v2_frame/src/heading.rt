@@ -1,6 +1,6 @@
 ghost use Rattle.std.specs.Prelude.{◌≡◌, ◌≢◌, [], ◌∷◌, List, ℕ, MatchOption};
 ghost use Rattle.v2_frame.specs.Heading.{Says, SaysNothing};
-ghost use Rattle.v2_frame.specs.Plain.{AreWords, seen_heading, spelled, IsNoVerb};
+ghost use Rattle.v2_frame.specs.Parts.{AreWords, seen_heading, spelled, IsNoVerb};
 
 use crate::line::Words;
 use crate::number::{id_of, number_of};

@@ -15,11 +15,11 @@ pub mod frame_laws;
 mod frame_reader;
 mod got;
 mod heading;
+mod judge;
 pub mod laws;
 mod line;
 mod message;
 mod number;
-mod plain;
 mod reader;
 pub mod reader_laws;
 mod size;
@@ -31,12 +31,7 @@ pub use fault::{Fault, FaultKind, Limits, Rest};
 pub use frame::{Frame, FrameKind};
 pub use frame_reader::{FrameReader, GotFrame};
 pub use got::Got;
+pub use judge::{Found, judge_front};
 pub use message::{Message, Taken};
-pub use plain::script_of;
 pub use reader::Reader;
 pub use write::{write_command, write_frame, write_frame_of};
-
-#[cfg(test)]
-mod tests;
-#[cfg(test)]
-mod written_tests;

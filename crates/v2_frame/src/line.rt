@@ -1,6 +1,6 @@
 ghost use Rattle.std.specs.Prelude.{◌≡◌, ◌+◌, ◌<◌, [], ◌∷◌, ◌++◌, take, drop, length, MatchOption};
 ghost use Rattle.v2_frame.specs.Line.{HasNo, text_of, words_of};
-ghost use Rattle.v2_frame.specs.Plain.{AreWords};
+ghost use Rattle.v2_frame.specs.Parts.{AreWords};
 
 /// The words of a line's text, as far as a command may have them.
 #[derive(Clone, Copy)]

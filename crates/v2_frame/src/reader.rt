@@ -6,7 +6,7 @@ ghost use Rattle.v2_frame.specs.declared.got.Got.TheVariants.{Fault};
 ghost use Rattle.v2_frame.specs.declared.got.Stage.TheVariants.{Opening, Commands};
 
 use crate::got::Stage;
-use crate::plain::{Found, MAGIC, TOO_LONG_LINE, lined, told_place};
+use crate::judge::{Found, MAGIC, TOO_LONG_LINE, lined, told_place};
 use crate::{Fault, FaultKind, Got, Limits};
 use nsq_base::Memory;
 use pending::{drop_front, first_line, needed_behind};
@@ -163,6 +163,3 @@ impl Reader {
         Got::Fault(fault)
     }
 }
-
-#[cfg(test)]
-mod tests;

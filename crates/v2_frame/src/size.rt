@@ -1,6 +1,6 @@
 ghost use Rattle.std.specs.Prelude.{◌≡◌, ◌<◌, length, drop, MatchOption};
 ghost use Rattle.v2_frame.specs.Judging.{HasSize};
-ghost use Rattle.v2_frame.specs.Plain.{IsField};
+ghost use Rattle.v2_frame.specs.Parts.{IsField};
 
 /// What stands where a size and so many bytes have to stand.
 #[derive(Clone, Copy)]

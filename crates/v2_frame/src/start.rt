@@ -1,6 +1,6 @@
 ghost use Rattle.std.specs.Prelude.{◌≡◌, MatchResult, Some};
 ghost use Rattle.v2_frame.specs.Judging.{sizing_of};
-ghost use Rattle.v2_frame.specs.Plain.{seen_heading, sized_heading, IsStart, HasBadName};
+ghost use Rattle.v2_frame.specs.Parts.{seen_heading, sized_heading, IsStart, HasBadName};
 
 use crate::heading::Heading;
 use crate::{Command, FaultKind, Limits};

@@ -2,10 +2,11 @@ ghost use Rattle.std.specs.Prelude.{◌≡◌, ◌≤◌, ℕ, List, IsTrue};
 ghost use Rattle.nsq_outside.specs.Causes.{DidFails};
 ghost use Rattle.queue_image.specs.FileNames.{meta_file, meta_temp};
 ghost use Rattle.queue_image.specs.Metas.{meta_text};
-ghost use Rattle.disk_queue.specs.Replaced.{Replaces, OnlyTwoChange};
+ghost use Rattle.queue_files.specs.Replaced.{Replaces, OnlyTwoChange};
 ghost use Rattle.disk_queue.specs.Seen.{emptied, ended};
 ghost use Rattle.disk_queue.specs.Holding.{Holds, SaveStands, OwnChange};
-ghost use Rattle.disk_queue.specs.Parts.{IsSound, Gone, OnlyNumbersChange, OnlySaveChanges};
+ghost use Rattle.disk_queue.specs.Parts.{IsSound, OnlySaveChanges};
+ghost use Rattle.queue_files.specs.FileCalls.{Gone, OnlyNumbersChange};
 ghost use Rattle.disk_queue.specs.Emptying.{Deletes, EmptySeen, EmptyKept, EmptyFound, EmptySaves, EmptyFails, DeleteSeen, DeleteHolds, DeleteStands, DeleteSaves, DeleteFound, DeleteGone, DeleteFails, bodies_left};
 
 use super::Queue;

@@ -1,29 +1,22 @@
 ghost use Rattle.std.specs.Prelude.{◌≡◌, ◌≤◌, IsTrue, IfOk, IfErr};
 ghost use Rattle.disk_queue.specs.Seen.{opened_queue};
-ghost use Rattle.queue_image.specs.Places.{IsOrdered, IsInRange};
-ghost use Rattle.disk_queue.specs.Parts.{distance};
+ghost use Rattle.queue_image.specs.Places.{IsOrdered, IsInRange, distance};
 ghost use Rattle.disk_queue.specs.Holding.{SaveStands};
-ghost use Rattle.disk_queue.specs.Opened.{IsOpened, IsTidied, RefusedWhere, FilesOfChange, OpenFails};
+ghost use Rattle.disk_queue.specs.Opened.{IsOpened, IsTidied, RefusedWhere, FilesOfChange};
+ghost use Rattle.queue_opening.specs.Refusals.{OpenFails};
 
-mod names;
-mod plan;
-mod tidying;
-mod walking;
-
-use self::names::Names;
-use self::plan::make_plan;
-use self::tidying::{tidy, write_down};
 use super::Queue;
-use crate::queue_files::QueueFiles;
 use crate::standing::{LastSave, Staged};
 use crate::{Open, QueueOptions};
 use nsq_outside::{Did, Folder};
+use queue_files::QueueFiles;
 use queue_image::Positions;
+use queue_opening::{Names, make_plan, tidy, write_down};
 use std::alloc::Global;
 
 /// Opening.
 impl Queue {
-    /// The queue that a folder has under that name: the list that `queue_image::found_queue` finds. Makes all room that the other calls
+    /// The queue that a folder has under that name: the list that `queue_plain::found_queue` finds. Makes all room that the other calls
     /// need.
     ///
     /// Without metadata every data file of the name gets `.bad` added to its name. With metadata those above the write file and those that

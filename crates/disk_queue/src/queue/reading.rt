@@ -1,5 +1,4 @@
 ghost use Rattle.std.specs.Prelude.{◌≡◌, ◌<◌, ◌≤◌, ◌+◌, ◌^◌, ◌↔◌, ℕ, List, length, drop, IfSome, IsTrue, IsSome, None};
-ghost use Rattle.std.specs.Int.{w32, to_be_bytes};
 ghost use Rattle.nsq_outside.specs.Files.{SameFiles};
 ghost use Rattle.queue_image.specs.Between.{content};
 ghost use Rattle.queue_image.specs.Places.{IsOrdered};
@@ -15,6 +14,7 @@ ghost use Rattle.disk_queue.specs.Reading.{left_of, Turns, PeekSeen, PeekSize, P
 use super::Queue;
 use crate::{Peek, Sync, Take};
 use nsq_outside::{Folder, ReadAt};
+use queue_files::size_spelled;
 
 /// The reading side.
 impl Queue {
@@ -194,7 +194,7 @@ impl Queue {
             ReadAt::Got(_) => return Head::Short,
             ReadAt::Failed => return Head::Fault,
         }
-        Head::Size(number_of(&size))
+        Head::Size(size_spelled(&size))
     }
 
     // The answer of a peek to what stands where reading stands.
@@ -298,11 +298,4 @@ impl Queue {
         self.saved.since = self.saved.since.saturating_add(1);
         self.mark = None;
     }
-}
-
-// The number that four bytes spell, most significant first.
-fn number_of(bytes: &[u8; 4]) -> u32
-    ensures { to_be_bytes w32 result ≡ bytes.now }
-{
-    u32::from_be_bytes(*bytes)
 }

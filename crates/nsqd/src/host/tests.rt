@@ -1,23 +1,51 @@
+//! The real host: its listener on the loopback network, its folder on disk, the standard streams; and a run of the daemon over it.
+ghost use Rattle.std.specs.Prelude.{IfOk};
+ghost use Rattle.nsq_base.specs.Options.{IsInRange};
+
 use super::*;
-use nsq_outside::{Folder, Kind, Read, Sink, Source, Write};
-use std::io::Write as _;
+use nsq_base::{Body, Options};
+use nsq_outside::{Clock as _, Folder, Kind, Read, Sink, Source, Write};
+use nsqd_core::{close, line, serve};
+use std::io::{Read as _, Write as _};
 use std::net::TcpListener;
 use std::test::Fail;
+use std::thread::{self, join};
+use std::time::Duration;
 use std::{fs, io};
 
-/// How often a test asks for a caller.
-const TRIES: u32 = 100;
+/// How often a client tries to connect, 10 ms apart, and how often a host is asked for a caller.
+const TRIES: u32 = 1000;
 
-/// The folder of a test, in the one that the tests run in.
+/// The folders of the rows, in the one that the tests run in.
 const FILES: &str = "nsqd_host_files";
 
-/// An address of this machine where nobody listens: the system chose its port.
+const PUBLISHED: &str = "nsqd_loopback_published";
+
+const IN_USE: &str = "nsqd_loopback_in_use";
+
+/// The file of names that a publish to the topic `t` leaves.
+const ONE_TOPIC: &[u8] =
+    br#"{"id_epoch":1,"topics":[{"channels":[],"name":"t","paused":false}],"version":"1.0.0"}"#;
+
+/// The address of a listener at a port that the system chose.
+fn address_of(alloc: Global, listener: &TcpListener) -> Result<String, Fail> {
+    Ok(format!(in alloc; "{}", listener.local_addr()?)?)
+}
+
+/// An address of this machine where nobody listens.
 fn free_address<N: Net<Listener = TcpListener, Stream = TcpStream>>(
     rt: &N,
     alloc: Global,
 ) -> Result<String, Fail> {
     let listener = TcpListener::bind(rt, "127.0.0.1:0")?;
-    Ok(format!(in alloc; "{}", listener.local_addr()?)?)
+    address_of(alloc, &listener)
+}
+
+/// A new, empty folder of this name.
+fn new_folder(rt: &HostRuntime, path: &str) -> Result<(), Fail> {
+    let _ = fs::remove_dir_all(rt, path);
+    fs::create_dir(rt, path)?;
+    Ok(())
 }
 
 /// The caller, if there is one.
@@ -36,67 +64,210 @@ fn is_halt(accept: Accept<TcpConn>) -> bool {
     }
 }
 
-#[test]
-fn one_caller(rt: HostRuntime) -> Result<(), Fail> {
+/// Whether the host gives one caller, which is read and written, and no second one.
+fn gives_one_caller(rt: &HostRuntime) -> Result<bool, Fail> {
     let alloc = rt.alloc();
-    let address = free_address(&rt, alloc)?;
+    let address = free_address(rt, alloc)?;
     let mut host = SysHost::new(rt.clone()?, alloc)?;
-    assert_eq!(rt; host.start(&rt, address.as_str(), "", "."), Did::Done);
-    let mut client = TcpStream::connect(&rt, address.as_str())?;
+    if host.start(rt, address.as_str(), "", ".") != Did::Done {
+        return Ok(false);
+    }
+    let mut client = TcpStream::connect(rt, address.as_str())?;
     client.write_all(b"  V2")?;
     let mut called = None;
     for _ in 0..TRIES {
-        called = caller(host.accept(&rt));
+        called = caller(host.accept(rt));
         if called.is_some() {
             break;
         }
     }
     let (kind, mut conn) = called.ok_or("no caller")?;
-    assert_eq!(rt; kind, Kind::Tcp);
-    assert!(rt; is_halt(host.accept(&rt)));
     let mut buf = [0u8; 64];
-    assert_eq!(rt; conn.read(&rt, &mut buf), Read::Got(4));
-    assert!(rt; buf.starts_with(b"  V2"));
-    assert_eq!(rt; conn.write(&rt, b"OK"), Write::Took(2));
+    let is_served = kind == Kind::Tcp
+        && is_halt(host.accept(rt))
+        && conn.read(rt, &mut buf) == Read::Got(4)
+        && buf.starts_with(b"  V2")
+        && conn.write(rt, b"OK") == Write::Took(2);
     host.done(1, conn);
     let answer = io::read_to_string(alloc, client)?;
-    assert_eq!(rt; answer.as_str(), "OK");
-    assert_eq!(rt; host.accept_faults, 0);
-    Ok(())
+    Ok(is_served && answer.as_str() == "OK" && host.accept_faults == 0)
 }
 
-#[test]
-fn an_address_in_use(rt: HostRuntime) -> Result<(), Fail> {
+/// Whether the host counts that an address is in use or is none, and that it doesn't listen.
+fn counts_faults(rt: &HostRuntime) -> Result<bool, Fail> {
     let alloc = rt.alloc();
-    let listener = TcpListener::bind(&rt, "127.0.0.1:0")?;
-    let address = format!(in alloc; "{}", listener.local_addr()?)?;
+    let listener = TcpListener::bind(rt, "127.0.0.1:0")?;
+    let address = address_of(alloc, &listener)?;
     let mut host = SysHost::new(rt.clone()?, alloc)?;
-    assert_eq!(rt; host.start(&rt, address.as_str(), "", "."), Did::Failed);
-    assert_eq!(rt; host.accept_faults, 1);
-    assert_eq!(rt; host.start(&rt, "no port", "", "."), Did::Failed);
-    assert_eq!(rt; host.accept_faults, 2);
-    assert!(rt; caller(host.accept(&rt)).is_none());
-    assert_eq!(rt; host.accept_faults, 3);
-    Ok(())
+    let in_use = host.start(rt, address.as_str(), "", ".");
+    let in_use_faults = host.accept_faults;
+    let no_port = host.start(rt, "no port", "", ".");
+    let no_port_faults = host.accept_faults;
+    let called = caller(host.accept(rt));
+    Ok(
+        in_use == Did::Failed
+            && in_use_faults == 1
+            && no_port == Did::Failed
+            && no_port_faults == 2
+            && called.is_none()
+            && host.accept_faults == 3,
+    )
 }
 
-#[test]
-fn the_kit_and_the_standard_streams(rt: HostRuntime) -> Result<(), Fail> {
+/// Whether the folder is the one that was asked for, the kit comes home, and the standard streams take what they are given.
+fn keeps_its_kit(rt: &HostRuntime) -> Result<bool, Fail> {
     let alloc = rt.alloc();
-    let _ = fs::remove_dir_all(&rt, FILES);
-    fs::create_dir(&rt, FILES)?;
-    let address = free_address(&rt, alloc)?;
+    new_folder(rt, FILES)?;
+    let address = free_address(rt, alloc)?;
     let mut host = SysHost::new(rt.clone()?, alloc)?;
-    assert_eq!(rt; host.start(&rt, address.as_str(), "", FILES), Did::Done);
+    let started = host.start(rt, address.as_str(), "", FILES);
     let mut home = host.lend();
-    assert_eq!(rt; home.folder.cut("a", 3), Did::Done);
+    let cut = home.folder.cut("a", 3);
     host.restore(home);
-    assert_eq!(rt; fs::metadata(&rt, "nsqd_host_files/a")?.len(), 3);
-    fs::remove_dir_all(&rt, FILES)?;
-    assert!(rt; host.kit.is_some() && !host.beside());
-    assert_eq!(rt; host.print(&rt, b"nsqd 1.0.0\n"), Did::Done);
-    host.tell(&rt, b"nsqd: a \xffline");
-    assert_eq!(rt; host.print_faults, 0);
-    assert_eq!(rt; host.tell_faults, 0);
+    let length = fs::metadata(rt, "nsqd_host_files/a")?.len();
+    fs::remove_dir_all(rt, FILES)?;
+    let printed = host.print(rt, b"nsqd 1.0.0\n");
+    host.tell(rt, b"nsqd: a \xffline");
+    Ok(
+        started == Did::Done
+            && cut == Did::Done
+            && length == 3
+            && host.kit.is_some()
+            && !host.beside()
+            && printed == Did::Done
+            && host.print_faults == 0
+            && host.tell_faults == 0,
+    )
+}
+
+/// The default options but for the address and the folder.
+fn options_at(alloc: Global, address: &str, path: &str) -> Result<Options, Memory>
+    ensures { IfOk result IsInRange }
+{
+    let mut options = Options::defaults(alloc)?;
+    options.tcp_address = Body::copy(alloc, address.as_bytes())?;
+    options.data_path = Body::copy(alloc, path.as_bytes())?;
+    if options.in_range() {
+        Ok(options)
+    } else {
+        Err(Memory)
+    }
+}
+
+/// Sends a publish and reads the reply.
+fn exchange(stream: TcpStream) -> io::Result<[u8; 10]> {
+    let mut stream = stream;
+    stream.set_read_timeout(Some(Duration::from_secs(10)))?;
+    stream.write_all(b"  V2PUB t\n\0\0\0\x02hi")?;
+    let mut got = [0u8; 10];
+    stream.read_exact(&mut got)?;
+    Ok(got)
+}
+
+/// Publishes one message and waits for the reply, and closes. Nothing where that fails.
+fn publish<N: Net<Stream = TcpStream> + Clock>(rt: &N, address: &str) -> Option<[u8; 10]> {
+    for _ in 0..TRIES {
+        if let Ok(stream) = TcpStream::connect(rt, address) {
+            return exchange(stream).ok();
+        }
+        thread::sleep(rt, Duration::from_millis(10));
+    }
+    None
+}
+
+/// Serves at this address with this folder, as the program does: the status, and the line that was told.
+fn serve_at<R: Wait>(
+    rt: &R,
+    own: HostRuntime,
+    address: &str,
+    path: &str,
+) -> Result<(u8, Option<&'static [u8]>), Memory> {
+    let alloc = own.alloc();
+    let options = options_at(alloc, address, path)?;
+    let mut host = SysHost::new(own, alloc)?;
+    let ending = serve(rt, alloc, &options, &mut host);
+    Ok((close(rt, &mut host, ending), line(ending)))
+}
+
+/// The bytes of a record but for the moment, which stands behind its size; and the moment.
+fn parted(record: &[u8]) -> Option<([u8; 24], u64)> {
+    if record.len() != 32 {
+        return None;
+    }
+    let mut rest = [0u8; 24];
+    let mut moment = [0u8; 8];
+    rest[..4].copy_from_slice(&record[..4]);
+    moment.copy_from_slice(&record[4..12]);
+    rest[4..].copy_from_slice(&record[12..]);
+    Some((rest, u64::from_be_bytes(moment)))
+}
+
+/// Whether a file has these bytes. Then it is removed.
+fn held(rt: &HostRuntime, path: &str, bytes: &[u8]) -> bool {
+    match fs::read(rt, path) {
+        Ok(found) => found.as_slice() == bytes && fs::remove_file(rt, path).is_ok(),
+        Err(_) => false,
+    }
+}
+
+/// Whether the folder of the publish has its record, with a moment between these two, its metadata and the names, and no other file.
+/// Then it is removed.
+fn is_kept(rt: &HostRuntime, before: u64, after: u64) -> Result<bool, Fail> {
+    let data = "nsqd_loopback_published/t.diskqueue.000000.dat";
+    let record = fs::read(rt, data)?;
+    let (rest, moment) = parted(&record).ok_or("no record of 32 bytes")?;
+    fs::remove_file(rt, data)?;
+    Ok(
+        rest == *b"\0\0\0\x1c\0\00000010000000000hi"
+            && before <= moment
+            && moment <= after
+            && held(
+                rt,
+                "nsqd_loopback_published/t.diskqueue.meta.dat",
+                b"1\n0,0\n0,32\n",
+            )
+            && held(rt, "nsqd_loopback_published/nsqd.dat", ONE_TOPIC)
+            && fs::remove_dir(rt, PUBLISHED).is_ok(),
+    )
+}
+
+/// Whether a daemon takes the publish of a real connection, and stops well behind it.
+fn serves(rt: &HostRuntime) -> Result<bool, Fail> {
+    let alloc = rt.alloc();
+    new_folder(rt, PUBLISHED)?;
+    let address = free_address(rt, alloc)?;
+    let own = rt.clone()?;
+    let mut clock = SysClock::new(rt.clone()?);
+    let before = clock.now();
+    let (got, served) = join(
+        rt,
+        || publish(rt, address.as_str()),
+        || serve_at(rt, own, address.as_str(), PUBLISHED),
+    );
+    Ok(
+        served? == (0, None)
+            && got == Some(*b"\0\0\0\x06\0\0\0\0OK")
+            && is_kept(rt, before, clock.now())?,
+    )
+}
+
+/// Whether a daemon whose port is in use says so, and leaves its folder alone.
+fn refuses_a_port(rt: &HostRuntime) -> Result<bool, Fail> {
+    let alloc = rt.alloc();
+    new_folder(rt, IN_USE)?;
+    let listener = TcpListener::bind(rt, "127.0.0.1:0")?;
+    let address = address_of(alloc, &listener)?;
+    let (status, line) = serve_at(rt, rt.clone()?, address.as_str(), IN_USE)?;
+    fs::remove_dir(rt, IN_USE)?;
+    Ok(status == 4 && line == Some(b"nsqd: accept failed".as_slice()))
+}
+
+#[test]
+fn the_real_machine(rt: HostRuntime) -> Result<(), Fail> {
+    assert!(rt; gives_one_caller(&rt)?, "one caller");
+    assert!(rt; counts_faults(&rt)?, "an address in use");
+    assert!(rt; keeps_its_kit(&rt)?, "the kit and the standard streams");
+    assert!(rt; serves(&rt)?, "a real connection");
+    assert!(rt; refuses_a_port(&rt)?, "a port in use");
     Ok(())
 }

@@ -1,8 +1,9 @@
 ghost use Rattle.std.specs.Prelude.{◌≡◌, false};
 
 use nsq_base::Memory;
-use nsq_fakes::{Forgetful, MemJournal};
+use nsq_fakes::MemJournal;
 use nsq_outside::{End, Journal, Twin};
+use nsq_system::Forgetful;
 use std::alloc::Global;
 use std::test::Fail;
 

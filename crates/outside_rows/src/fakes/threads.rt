@@ -1,7 +1,8 @@
 use super::journal::Seen;
 use super::made_conn;
-use nsq_fakes::{Forgetful, MemClock, MemFolder, MemJournal};
+use nsq_fakes::{MemClock, MemFolder, MemJournal};
 use nsq_outside::{Clock, Conn, Did, Folder, Journal, Length};
+use nsq_system::Forgetful;
 use std::test::Fail;
 use std::thread::{Threads, join};
 

@@ -1,7 +1,7 @@
 ghost use Rattle.std.specs.Prelude.{◌≡◌, ◌<◌, ◌≤◌, ◌++◌, List, ℕ, length, take, drop, MatchOption};
 ghost use Rattle.v2_frame.specs.Judging.{IsUnfinished};
 ghost use Rattle.v2_frame.specs.Line.{HasNo};
-ghost use Rattle.v2_frame.specs.Plain.{EndsLine};
+ghost use Rattle.v2_frame.specs.Parts.{EndsLine};
 ghost use Rattle.v2_frame.specs.declared.fault.Limits.{Limits};
 
 use crate::size::size_of;

@@ -2,7 +2,7 @@ use Rattle.std.proofs.Common.{◌≡◌, ℕ, ◌+◌, ◌≤◌, List, [], ◌�
 use Rattle.std.specs.List.{flat_map}
 use Rattle.v2_frame.specs.Command.{sized}
 use Rattle.v2_frame.specs.Judging.{HasBodies, no_count, count_zero}
-use Rattle.v2_frame.proofs.PlainLemmas.{behind_place}
+use Rattle.v2_frame.proofs.PlaceLemmas.{behind_place}
 use Rattle.v2_frame.proofs.FieldLemmas.{message_open, message_bad, bytes_left, body_more, length_more}
 use Rattle.v2_frame.proofs.batch.content_of.Goals as goal
 

@@ -1,6 +1,6 @@
 use Rattle.std.proofs.Common.{◌+◌, ◌∷◌, take, ap, ◌∙◌, sym, List, ℕ}
 use Rattle.v2_frame.specs.Line.{words_of}
-use Rattle.v2_frame.proofs.PlainLemmas.{one_word_text, words_parted, behind_place}
+use Rattle.v2_frame.proofs.PlaceLemmas.{one_word_text, words_parted, behind_place}
 use Rattle.v2_frame.proofs.line.parted.Goals as goal
 
 pub returns-in_default : goal.returns-in_default

@@ -1,5 +1,5 @@
 use Rattle.std.proofs.Common.{arith}
-use Rattle.v2_frame.proofs.PlainLemmas.{HasNo_more}
+use Rattle.v2_frame.proofs.PlaceLemmas.{HasNo_more}
 use Rattle.v2_frame.proofs.line.place_of.Goals as goal
 
 pub loop-n-preserved : goal.loop-n-preserved

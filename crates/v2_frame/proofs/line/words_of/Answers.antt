@@ -1,4 +1,4 @@
-use Rattle.v2_frame.proofs.PlainLemmas.{many_words}
+use Rattle.v2_frame.proofs.PlaceLemmas.{many_words}
 use Rattle.v2_frame.proofs.line.words_of.Goals as goal
 
 pub returns-in-Some-parted-2 : goal.returns-in-Some-parted-2

@@ -4,7 +4,7 @@ use Rattle.std.specs.Int.{IsInRange}
 use Rattle.std.proofs.lemmas.Bool.Decides.{nat_tests}
 use Rattle.std.proofs.lemmas.Str.{digit_value_digit}
 use Rattle.std.proofs.lemmas.Int.Digits.{digits_more, digits_value_more}
-use Rattle.v2_frame.proofs.PlainLemmas.{decimal_digit_at, digits_small, decimal_is}
+use Rattle.v2_frame.proofs.PlaceLemmas.{decimal_digit_at, digits_small, decimal_is}
 use Rattle.v2_frame.proofs.number.decimal_of.Goals as goal
 
 pub returns-then-not-is_ascii_digit : goal.returns-then-not-is_ascii_digit

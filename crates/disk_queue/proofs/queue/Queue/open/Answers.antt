@@ -2,8 +2,8 @@ use Rattle.std.proofs.Common.{◌∙◌, ◌^◌, ◌<◌, List, ℕ, sym, ap, s
 use Rattle.disk_queue.specs.Seen.{opened_queue, Seen}
 use Rattle.disk_queue.specs.Holding.{SaveStands}
 use Rattle.disk_queue.specs.Opened.{IsOpened, IsTidied}
-use Rattle.disk_queue.specs.Tidied.{OnlyTidied, IsTidy, IsWritten, OnlyWritten}
-use Rattle.disk_queue.proofs.OpeningFinds.{same_files}
+use Rattle.queue_opening.specs.Tidied.{OnlyTidied, IsTidy, IsWritten, OnlyWritten}
+use Rattle.queue_opening.proofs.Finds.{same_files}
 use Rattle.disk_queue.proofs.OpeningDone.{opened_list, opened_stands, opened_tidied, tidied_own, written_own, carried}
 use Rattle.disk_queue.proofs.queue.Queue.open.Goals as goal
 

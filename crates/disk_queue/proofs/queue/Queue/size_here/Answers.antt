@@ -8,5 +8,5 @@ returns-in-Got-clause-is g c = λ told.
 
 pub returns-clause-is : goal.returns-clause-is
 returns-clause-is g c = λ told.
-    size_begins _ _ (g.F.Folder.files c.args.folder.now) _ c.read_at.new.into c.number_of.result c.in-Got-eq4.field-0 c.self.view_is refl c.in-Got-eq4.field-0-test (c.in-Got-eq4.ensures.bytes told) c.number_of.ensures
-    c.number_of.type_inv
+    size_begins _ _ (g.F.Folder.files c.args.folder.now) _ c.read_at.new.into c.size_spelled.result c.in-Got-eq4.field-0 c.self.view_is refl c.in-Got-eq4.field-0-test (c.in-Got-eq4.ensures.bytes told) c.size_spelled.ensures
+    c.size_spelled.type_inv

@@ -1,6 +1,6 @@
 use Rattle.std.proofs.Common.{ℕ, ◌-◌, List, length, take, drop, refl, ap, ◌∙◌, subst, arith}
 use Rattle.v2_frame.specs.Judging.{IsUnfinished}
-use Rattle.v2_frame.proofs.PlainLemmas.{behind_place}
+use Rattle.v2_frame.proofs.PlaceLemmas.{behind_place}
 use Rattle.v2_frame.proofs.ReaderLemmas.{left_open, takes_front, waited, open_few, endless}
 use Rattle.v2_frame.proofs.reader.Reader.command.Goals as goal
 

@@ -1,7 +1,7 @@
 use Rattle.std.proofs.Common.{◌≡◌, ◌≢◌, ℕ, ◌-◌, ◌+◌, List, length, take, drop, refl, ap, ◌∙◌, subst, arith, rules, inl, inr}
 use Rattle.v2_frame.specs.Script.{magic}
 use Rattle.v2_frame.specs.declared.got.Stage.TheVariants.{Commands}
-use Rattle.v2_frame.proofs.PlainLemmas.{behind_place}
+use Rattle.v2_frame.proofs.PlaceLemmas.{behind_place}
 use Rattle.v2_frame.proofs.ReaderLemmas.{left_magic, reads_magic}
 use Rattle.v2_frame.proofs.reader.Reader.read_magic.Goals as goal
 

@@ -1,5 +1,5 @@
 use Rattle.std.proofs.Common.{◌-◌, length, take, drop}
-use Rattle.v2_frame.proofs.PlainLemmas.{behind_place}
+use Rattle.v2_frame.proofs.PlaceLemmas.{behind_place}
 use Rattle.v2_frame.proofs.ReaderLemmas.{first_some, first_none}
 use Rattle.v2_frame.proofs.reader.pending.first_line.Goals as goal
 

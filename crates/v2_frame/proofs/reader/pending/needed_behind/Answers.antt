@@ -1,5 +1,5 @@
 use Rattle.std.proofs.Common.{◌+◌, ◌-◌, length, take, drop}
-use Rattle.v2_frame.proofs.PlainLemmas.{behind_place}
+use Rattle.v2_frame.proofs.PlaceLemmas.{behind_place}
 use Rattle.v2_frame.proofs.ReaderLemmas.{waits_size, waits_body}
 use Rattle.v2_frame.proofs.reader.pending.needed_behind.Goals as goal
 

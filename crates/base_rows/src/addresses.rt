@@ -1,0 +1,74 @@
+use nsq_base::{is_address, port};
+use std::test::Fail;
+
+// A text, and its port where it is an address.
+struct Row {
+    name: &'static str,
+    text: &'static [u8],
+    port: Option<u16>,
+}
+
+const ROWS: [Row; 9] = [
+    Row {
+        name: "an empty host",
+        text: b":4150",
+        port: Some(4150),
+    },
+    Row {
+        name: "colons in the host, and the greatest port",
+        text: b"[::1]:65535",
+        port: Some(65535),
+    },
+    Row {
+        name: "the least port",
+        text: b"h:1",
+        port: Some(1),
+    },
+    Row {
+        name: "a zero in front",
+        text: b"h:04150",
+        port: None,
+    },
+    Row {
+        name: "a port too great",
+        text: b"h:65536",
+        port: None,
+    },
+    Row {
+        name: "a port of 0",
+        text: b"h:0",
+        port: None,
+    },
+    Row {
+        name: "no port",
+        text: b"h:",
+        port: None,
+    },
+    Row {
+        name: "no colon",
+        text: b"4150",
+        port: None,
+    },
+    Row {
+        name: "a letter behind the port",
+        text: b"h:1x",
+        port: None,
+    },
+];
+
+// The port of a text, where it is an address.
+fn port_of(text: &[u8]) -> Option<u16> {
+    if !is_address(text) {
+        return None;
+    }
+    Some(port(text))
+}
+
+#[test]
+fn rows(rt: HostRuntime) -> Result<(), Fail> {
+    for row in &ROWS {
+        let holds = port_of(row.text) == row.port;
+        assert!(rt; holds, "{}", row.name);
+    }
+    Ok(())
+}

@@ -1,0 +1,126 @@
+use nsq_base::{Chan, Memory, Names, Topic};
+use std::alloc::Global;
+use std::test::Fail;
+
+// What is put in.
+#[derive(Clone, Copy)]
+enum Given {
+    Topic(&'static [u8]),
+    Channel(&'static [u8], &'static [u8]),
+}
+
+// A topic and its channels.
+type Entry = (&'static [u8], &'static [&'static [u8]]);
+
+// What is put in, in this order, and the topics with their channels that are there then.
+struct Row {
+    name: &'static str,
+    given: &'static [Given],
+    topics: &'static [Entry],
+}
+
+const ROWS: [Row; 3] = [
+    Row {
+        name: "nothing",
+        given: &[],
+        topics: &[],
+    },
+    Row {
+        name: "topics and channels out of order and twice",
+        given: &[
+            Given::Channel(b"b", b"y"),
+            Given::Channel(b"a", b"z"),
+            Given::Channel(b"b", b"x"),
+            Given::Channel(b"b", b"y"),
+            Given::Topic(b"c"),
+            Given::Topic(b"b"),
+        ],
+        topics: &[(b"a", &[b"z"]), (b"b", &[b"x", b"y"]), (b"c", &[])],
+    },
+    Row {
+        name: "a name before each that it begins",
+        given: &[Given::Topic(b"tt"), Given::Topic(b"t"), Given::Topic(b"t-")],
+        topics: &[(b"t", &[]), (b"t-", &[]), (b"tt", &[])],
+    },
+];
+
+// How many channels a topic has, where it is there.
+fn channels_of(names: &Names, topic: Topic) -> Option<usize> {
+    for i in 0..names.count() {
+        if names.topic(i) == topic {
+            return Some(names.channels(i).len());
+        }
+    }
+    None
+}
+
+// Puts it in. None where it has no names, or where after Memory the names weren't as before.
+fn put(names: &mut Names, given: Given) -> Result<Option<()>, Memory> {
+    let (topic, channel) = match given {
+        Given::Topic(topic) => (topic, b"".as_slice()),
+        Given::Channel(topic, channel) => (topic, channel),
+    };
+    let Some(topic) = Topic::read(topic) else {
+        return Ok(None);
+    };
+    let before = names.count();
+    let channels = channels_of(names, topic);
+    let done = match Chan::read(channel) {
+        None => names.add(topic),
+        Some(channel) => names.add_channel(topic, channel),
+    };
+    match done {
+        Ok(()) => Ok(Some(())),
+        Err(_) if names.count() != before || channels_of(names, topic) != channels => Ok(None),
+        Err(error) => Err(error),
+    }
+}
+
+// Whether the channels are these.
+fn are_channels(channels: &[Chan], want: &[&[u8]]) -> bool {
+    if channels.len() != want.len() {
+        return false;
+    }
+    for (channel, bytes) in channels.iter().zip(want) {
+        if channel.bytes() != *bytes {
+            return false;
+        }
+    }
+    true
+}
+
+// Whether the topics are these, with their channels.
+fn are_topics(names: &Names, want: &[Entry]) -> bool {
+    if names.count() != want.len() {
+        return false;
+    }
+    for (i, (topic, channels)) in want.iter().enumerate() {
+        if i >= names.count()
+            || names.topic(i).bytes() != *topic
+            || !are_channels(names.channels(i), channels)
+        {
+            return false;
+        }
+    }
+    true
+}
+
+fn holds(alloc: Global, row: &Row) -> Result<bool, Memory> {
+    let mut names = Names::new(alloc);
+    for it in row.given {
+        if put(&mut names, *it)?.is_none() {
+            return Ok(false);
+        }
+    }
+    let copy = names.copy(alloc)?;
+    Ok(copy == names && are_topics(&names, row.topics) && are_topics(&copy, row.topics))
+}
+
+#[test]
+fn rows(rt: HostRuntime) -> Result<(), Fail> {
+    for row in &ROWS {
+        let holds = holds(rt.alloc(), row)?;
+        assert!(rt; holds, "{}", row.name);
+    }
+    Ok(())
+}

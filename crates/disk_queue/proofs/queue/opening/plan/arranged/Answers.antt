@@ -1,6 +1,0 @@
-use Rattle.std.proofs.Common.{refl}
-use Rattle.disk_queue.proofs.OpeningPlans.{plan_sound}
-use Rattle.disk_queue.proofs.queue.opening.plan.arranged.Goals as goal
-
-pub returns-clause-sound : goal.returns-clause-sound
-returns-clause-sound c = plan_sound c.args.positions c.args.found c.requires.usable c.requires.fits _ refl refl refl refl c.settle-settled.ensures

@@ -1,7 +1,0 @@
-use Rattle.disk_queue.proofs.OpeningAsides.{remove_step}
-use Rattle.disk_queue.proofs.queue.opening.tidying.remove_one.Goals as goal
-
-pub returns-clause-step : goal.returns-clause-step
-returns-clause-step g c = λ told.
-    remove_step c.args.files.now c.args.to c.args.number (g.F.Folder.files c.args.folder.now) (g.F.Folder.files c.remove.new.folder) c.remove.result c.if-number-to.false (c.remove.ensures.gone told)
-    (c.remove.ensures.others told)

@@ -1,6 +1,0 @@
-use Rattle.std.proofs.Common.{take}
-use Rattle.disk_queue.specs.Walked.{IsNextIn}
-use Rattle.disk_queue.proofs.queue.opening.walking.next_number.Given as goal
-
-abbrev pub invariant-loop-number : goal.invariant-loop-number
-invariant-loop-number l = IsNextIn (take l.number-index l.numbers) l.from l.last l.next

@@ -1,4 +1,0 @@
-use Rattle.disk_queue.proofs.queue.opening.walking.stand_at.Goals as goal
-
-pub returns-in-Is-clause-cause : goal.returns-in-Is-clause-cause
-returns-in-Is-clause-cause g c = c.judge.ensures.cause _ _

@@ -1,0 +1,200 @@
+//! Texts of a file of names, and what each keeps.
+
+use history_plain::{KeptChannel, KeptNames, KeptTopic, read_names};
+use nsq_base::Memory;
+use std::alloc::Global;
+use std::test::Fail;
+
+/// A topic: its name, whether it is paused, and the name and the pause of each channel.
+struct Listed {
+    name: &'static [u8],
+    paused: bool,
+    channels: &'static [(&'static [u8], bool)],
+}
+
+/// What a text keeps.
+struct Kept {
+    epoch: u32,
+    topics: &'static [Listed],
+}
+
+/// A text, and what it keeps; None where it is bad.
+struct Row {
+    name: &'static str,
+    text: &'static [u8],
+    kept: Option<Kept>,
+}
+
+/// Nothing but this epoch.
+const fn only(epoch: u32) -> Option<Kept> {
+    Some(Kept { epoch, topics: &[] })
+}
+
+const ROWS: [Row; 20] = [
+    Row {
+        name: "a topic, as it is written",
+        text: br#"{"id_epoch":1,"topics":[{"channels":[],"name":"t","paused":false}],"version":"1.0.0"}"#,
+        kept: Some(Kept {
+            epoch: 1,
+            topics: &[Listed {
+                name: b"t",
+                paused: false,
+                channels: &[],
+            }],
+        }),
+    },
+    Row {
+        name: "no topic, as it is written",
+        text: br#"{"id_epoch":1,"topics":[],"version":"1.0.0"}"#,
+        kept: only(1),
+    },
+    Row {
+        name: "no member",
+        text: b"{}",
+        kept: only(0),
+    },
+    Row {
+        name: "members that are null",
+        text: br#"{"id_epoch":null,"topics":null}"#,
+        kept: only(0),
+    },
+    Row {
+        name: "the greatest epoch",
+        text: br#"{"id_epoch":16777215}"#,
+        kept: only(16_777_215),
+    },
+    Row {
+        name: "an epoch above the greatest",
+        text: br#"{"id_epoch":16777216}"#,
+        kept: None,
+    },
+    Row {
+        name: "an epoch below 0",
+        text: br#"{"id_epoch":-1}"#,
+        kept: None,
+    },
+    Row {
+        name: "an epoch that isn't whole",
+        text: br#"{"id_epoch":1.5}"#,
+        kept: None,
+    },
+    Row {
+        name: "an epoch that is a text",
+        text: br#"{"id_epoch":"1"}"#,
+        kept: None,
+    },
+    Row {
+        name: "an array",
+        text: b"[]",
+        kept: None,
+    },
+    Row {
+        name: "a text that breaks off",
+        text: b"{",
+        kept: None,
+    },
+    Row {
+        name: "bytes that aren't UTF-8",
+        text: b"{\"a\":\"\xff\"}",
+        kept: None,
+    },
+    Row {
+        name: "topics that are no list",
+        text: br#"{"topics":1}"#,
+        kept: None,
+    },
+    Row {
+        name: "a topic that is no object",
+        text: br#"{"topics":["t"]}"#,
+        kept: None,
+    },
+    Row {
+        name: "a topic without a name",
+        text: br#"{"topics":[{"paused":true}]}"#,
+        kept: None,
+    },
+    Row {
+        name: "a name against the grammar",
+        text: br#"{"topics":[{"name":"a b"}]}"#,
+        kept: None,
+    },
+    Row {
+        name: "a pause that is a number",
+        text: br#"{"topics":[{"name":"t","paused":1}]}"#,
+        kept: None,
+    },
+    Row {
+        name: "a topic twice",
+        text: br#"{"topics":[{"name":"t"},{"name":"t"}]}"#,
+        kept: None,
+    },
+    Row {
+        name: "a channel twice",
+        text: br#"{"topics":[{"name":"t","channels":[{"name":"c"},{"name":"c"}]}]}"#,
+        kept: None,
+    },
+    Row {
+        name: "topics and channels out of order, an ephemeral topic, an unknown member",
+        text: br#"{"topics":[{"name":"u","x":[1]},{"name":"e#ephemeral"},{"name":"t","paused":true,"channels":[{"name":"d","paused":null},{"name":"c","paused":true}]}]}"#,
+        kept: Some(Kept {
+            epoch: 0,
+            topics: &[
+                Listed {
+                    name: b"t",
+                    paused: true,
+                    channels: &[(b"c", true), (b"d", false)],
+                },
+                Listed {
+                    name: b"u",
+                    paused: false,
+                    channels: &[],
+                },
+            ],
+        }),
+    },
+];
+
+/// Whether these channels are kept.
+fn keeps_channels(kept: &[KeptChannel], channels: &[(&[u8], bool)]) -> bool {
+    for (kept, (name, paused)) in kept.iter().zip(channels) {
+        if kept.name.bytes() != *name || kept.paused != *paused {
+            return false;
+        }
+    }
+    kept.len() == channels.len()
+}
+
+/// Whether these topics are kept.
+fn keeps_topics(kept: &[KeptTopic], topics: &[Listed]) -> bool {
+    for (kept, topic) in kept.iter().zip(topics) {
+        if kept.name.bytes() != topic.name || kept.paused != topic.paused {
+            return false;
+        }
+        if !keeps_channels(&kept.channels, topic.channels) {
+            return false;
+        }
+    }
+    kept.len() == topics.len()
+}
+
+/// Whether the text keeps what the row says.
+fn keeps(read: &KeptNames, kept: &Kept) -> bool {
+    read.epoch == kept.epoch && keeps_topics(&read.topics, kept.topics)
+}
+
+fn holds(alloc: Global, row: &Row) -> Result<bool, Memory> {
+    Ok(match (read_names(alloc, row.text)?, &row.kept) {
+        (Some(read), Some(kept)) => keeps(&read, kept),
+        (None, None) => true,
+        (Some(_), None) | (None, Some(_)) => false,
+    })
+}
+
+#[test]
+fn rows(rt: HostRuntime) -> Result<(), Fail> {
+    for row in &ROWS {
+        let holds = holds(rt.alloc(), row)?;
+        assert!(rt; holds, "{}", row.name);
+    }
+    Ok(())
+}

@@ -1,0 +1,176 @@
+use std::str::from_utf8;
+
+/// The most fields of a head.
+const MOST_FIELDS: usize = 64;
+
+/// What a head says.
+#[derive(Clone, Copy)]
+pub(crate) struct Head<'a> {
+    /// The method.
+    pub(crate) method: &'a [u8],
+    /// The target.
+    pub(crate) target: &'a [u8],
+    /// How many fields say how long the body is.
+    pub(crate) lengths: usize,
+    /// What the last of these says, or `0` where there is none.
+    pub(crate) length: &'a [u8],
+    /// Whether a field says that the body comes in another form than so many bytes.
+    pub(crate) coded: bool,
+    fields: usize,
+}
+
+/// Where a byte stands in a head.
+#[derive(Clone, Copy)]
+enum Place {
+    /// Among the line ends before it.
+    Before,
+    /// In a line.
+    Line,
+    /// Behind a line feed.
+    Feed,
+    /// Behind a line feed and a carriage return.
+    Return,
+}
+
+/// Where the first head ends.
+pub(crate) fn head_end(bytes: &[u8]) -> Option<usize> {
+    let mut place = Place::Before;
+    let mut end: usize = 0;
+    for byte in bytes {
+        end = end.saturating_add(1);
+        place = match (place, *byte) {
+            (Place::Before, b'\r' | b'\n') => Place::Before,
+            (Place::Feed | Place::Return, b'\n') => return Some(end),
+            (Place::Line, b'\n') => Place::Feed,
+            (Place::Feed, b'\r') => Place::Return,
+            _ => Place::Line,
+        };
+    }
+    None
+}
+
+/// What the lines of a head say, or None where one of them is none of a request's head (RFC 9112).
+pub(crate) fn read_head(text: &[u8]) -> Option<Head<'_>> {
+    let mut said = None;
+    for line in text.split(|byte| *byte == b'\n') {
+        let line = without_return(line);
+        match said {
+            None if line.is_empty() => {}
+            None => {
+                let Some(head) = start_line(line) else {
+                    return None;
+                };
+                said = Some(head);
+            }
+            Some(head) if line.is_empty() => return Some(head),
+            Some(head) => {
+                let Some(head) = with_field(head, line) else {
+                    return None;
+                };
+                said = Some(head);
+            }
+        }
+    }
+    None
+}
+
+/// The line without one carriage return at its end.
+fn without_return(line: &[u8]) -> &[u8] {
+    line.strip_suffix(b"\r").unwrap_or(line)
+}
+
+/// A head of which this is the first line: a method, a target and a version, parted by single spaces.
+fn start_line(line: &[u8]) -> Option<Head<'_>> {
+    let mut words = line.split(|byte| *byte == b' ');
+    let (Some(method), Some(target), Some(version), None) = (
+        words.next(),
+        words.next(),
+        words.next(),
+        words.next(),
+    ) else {
+        return None;
+    };
+    let versioned = matches!(version, b"HTTP/1.0" | b"HTTP/1.1");
+    let visible = target.iter().all(|byte| *byte > b' ' && *byte != 127);
+    if !is_token(method)
+        || target.is_empty()
+        || !visible
+        || from_utf8(target).is_err()
+        || !versioned
+    {
+        return None;
+    }
+    Some(Head {
+        method,
+        target,
+        lengths: 0,
+        length: b"0",
+        coded: false,
+        fields: 0,
+    })
+}
+
+/// The head with one more field: a name, a colon, and a value that may have white space round it.
+fn with_field<'a>(head: Head<'a>, line: &'a [u8]) -> Option<Head<'a>> {
+    let mut parts = line.splitn(2, |byte| *byte == b':');
+    let (Some(name), Some(value)) = (parts.next(), parts.next()) else {
+        return None;
+    };
+    let clean = value.iter().all(|byte| is_value_byte(*byte));
+    if !is_token(name) || !clean || head.fields >= MOST_FIELDS {
+        return None;
+    }
+    let mut head = head;
+    head.fields = head.fields.saturating_add(1);
+    if name.eq_ignore_ascii_case(b"content-length") {
+        head.lengths = head.lengths.saturating_add(1);
+        head.length = trimmed(value);
+    }
+    head.coded = head.coded || name.eq_ignore_ascii_case(b"transfer-encoding");
+    Some(head)
+}
+
+/// A tab, or any byte but the control bytes.
+fn is_value_byte(byte: u8) -> bool {
+    byte == b'\t' || byte >= b' ' && byte != 127
+}
+
+/// The value without spaces and tabs at its ends.
+fn trimmed(value: &[u8]) -> &[u8] {
+    let mut value = value;
+    for _ in 0..value.len() {
+        value = match value {
+            [b' ' | b'\t', rest @ ..] => rest,
+            [rest @ .., b' ' | b'\t'] => rest,
+            _ => return value,
+        };
+    }
+    value
+}
+
+/// Whether the bytes are a token: one byte at least, each a letter, a digit or one of fifteen signs.
+fn is_token(bytes: &[u8]) -> bool {
+    !bytes.is_empty() && bytes.iter().all(|byte| is_token_byte(*byte))
+}
+
+/// Whether a byte may stand in a token.
+fn is_token_byte(byte: u8) -> bool {
+    byte.is_ascii_alphanumeric()
+        || matches!(
+            byte,
+            b'!' | b'#'
+                | b'$'
+                | b'%'
+                | b'&'
+                | b'\''
+                | b'*'
+                | b'+'
+                | b'-'
+                | b'.'
+                | b'^'
+                | b'_'
+                | b'`'
+                | b'|'
+                | b'~'
+        )
+}

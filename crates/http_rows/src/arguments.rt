@@ -1,0 +1,76 @@
+use http_wire::{GotRequest, RequestReader};
+use nsq_base::Memory;
+use std::alloc::Global;
+use std::test::Fail;
+
+/// A request's bytes, a name, and the value that counts for it.
+struct Row {
+    name: &'static str,
+    bytes: &'static [u8],
+    argument: &'static [u8],
+    value: Option<&'static [u8]>,
+}
+
+const ROWS: [Row; 7] = [
+    Row {
+        name: "one pair",
+        bytes: b"GET /stats?format=json HTTP/1.1\r\n\r\n",
+        argument: b"format",
+        value: Some(b"json"),
+    },
+    Row {
+        name: "of several the first",
+        bytes: b"GET /p?a=1&topic=first&topic=second&topic=third HTTP/1.1\r\n\r\n",
+        argument: b"topic",
+        value: Some(b"first"),
+    },
+    Row {
+        name: "the first is empty",
+        bytes: b"GET /p?topic=&topic=second HTTP/1.1\r\n\r\n",
+        argument: b"topic",
+        value: Some(b""),
+    },
+    Row {
+        name: "without an equals sign",
+        bytes: b"GET /p?x&topic HTTP/1.1\r\n\r\n",
+        argument: b"topic",
+        value: Some(b""),
+    },
+    Row {
+        name: "a name that is encoded",
+        bytes: b"GET /p?t%6fpic=%2D+x HTTP/1.1\r\n\r\n",
+        argument: b"topic",
+        value: Some(b"- x"),
+    },
+    Row {
+        name: "another case is another name",
+        bytes: b"GET /p?Topic=t HTTP/1.1\r\n\r\n",
+        argument: b"topic",
+        value: None,
+    },
+    Row {
+        name: "no query",
+        bytes: b"GET /p HTTP/1.1\r\n\r\n",
+        argument: b"topic",
+        value: None,
+    },
+];
+
+/// Whether the request has the row's value for the row's name.
+fn holds(alloc: Global, row: &Row) -> Result<bool, Memory> {
+    let mut reader = RequestReader::new(alloc, 100)?;
+    reader.feed(row.bytes)?;
+    match reader.next() {
+        GotRequest::Whole(request) => Ok(request.argument(row.argument) == row.value),
+        _ => Ok(false),
+    }
+}
+
+#[test]
+fn rows(rt: HostRuntime) -> Result<(), Fail> {
+    for row in &ROWS {
+        let holds = holds(rt.alloc(), row)?;
+        assert!(rt; holds, "{}", row.name);
+    }
+    Ok(())
+}

@@ -1,0 +1,37 @@
+use Rattle.std.proofs.Common.{◌≡◌, ◌≤◌, ◌<◌, ◌+◌, length, take, get_or, arith, length-take}
+use Rattle.std.specs.Char.{digit_value}
+use Rattle.std.specs.Int.{IsInRange}
+use Rattle.std.proofs.lemmas.Bool.Decides.{nat_tests}
+use Rattle.std.proofs.lemmas.Str.{digit_value_digit}
+use Rattle.std.proofs.lemmas.Int.Digits.{digits_more, digits_value_more}
+use Rattle.http_wire.proofs.NumberLemmas.{decimal_digit_at, digits_small, decimal_is}
+use Rattle.http_wire.proofs.fields.number_of.Goals as goal
+
+pub returns-then-not-is_ascii_digit : goal.returns-then-not-is_ascii_digit
+returns-then-not-is_ascii_digit c = λ n d. omega (arith, decimal_digit_at 18 c.args.digits.now n c.loop-digit.digit-index d (omega arith), c.if-not-is_ascii_digit.ensures.cases)
+
+pub overflow_mul-number : goal.overflow_mul-number
+overflow_mul-number c =
+    let short : length (take c.loop-digit.digit-index c.args.digits.now) ≤ 17 = simp length-take (omega arith) in
+    omega (arith, digits_small 17 (take c.loop-digit.digit-index c.args.digits.now) c.loop-digit.invariant.digits short, c.loop-digit.invariant.value)
+
+pub overflow_add-number : goal.overflow_add-number
+overflow_add-number c =
+    let short : length (take c.loop-digit.digit-index c.args.digits.now) ≤ 17 = simp length-take (omega arith) in
+    omega (arith, digits_small 17 (take c.loop-digit.digit-index c.args.digits.now) c.loop-digit.invariant.digits short, c.loop-digit.invariant.value, c.from.ensures)
+
+pub loop-digit-preserved : goal.loop-digit-preserved
+loop-digit-preserved c =
+    let i = c.loop-digit.digit-index in
+    let digits = c.args.digits.now in
+    let within : i < length digits = omega arith in
+    let range : IsInRange 48 57 (get_or digits i 0) = omega (arith, c.if-not-is_ascii_digit.ensures.cases) in
+    let digit : digit_value (get_or digits i 0) + 48 ≡ get_or digits i 0 = digit_value_digit (get_or digits i 0) range in
+    record {
+      digits = digits_more 10 digits i within c.loop-digit.invariant.digits (omega arith);
+      value = omega (arith, digits_value_more 10 digits i within, c.loop-digit.invariant.value, c.from.ensures);
+    }
+
+pub returns : goal.returns
+returns c = decimal_is c.args.digits.now c.loop-digit.digit-index c.loop-digit.number c.loop-digit.invariant.digits c.loop-digit.invariant.value (omega arith)
+    (grind (arith, nat_tests)) (omega arith)

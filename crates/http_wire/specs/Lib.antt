@@ -1,0 +1,12 @@
+pub mod Head
+pub mod Fields
+pub mod Target
+pub mod Argument
+pub mod Request
+pub mod Reading
+pub mod Laws
+pub mod Answer
+pub mod Searching
+pub mod Judged
+pub mod Remembering
+pub mod Finding

@@ -1,0 +1,7 @@
+pub mod Words
+pub mod Served
+pub mod Went
+pub mod Sights
+pub mod Asked
+pub mod Endings
+pub mod Runs

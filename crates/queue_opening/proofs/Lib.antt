@@ -1,0 +1,6 @@
+pub mod Sizes
+pub mod Walks
+pub mod Plans
+pub mod Finds
+pub mod Asides
+pub mod Tidies

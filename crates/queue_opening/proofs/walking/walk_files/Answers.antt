@@ -1,0 +1,88 @@
+use Rattle.std.proofs.Common.{◌≡◌, ◌∙◌, List, ℕ, [], Option, unwrap_or, ap, subst, arith, refl}
+use Rattle.std.specs.List.{Contains}
+use Rattle.queue_image.specs.FileNames.{data_file}
+use Rattle.queue_image.specs.Between.{content}
+use Rattle.queue_opening.specs.Walked.{GivesOf, WalksUpTo}
+use Rattle.queue_opening.proofs.Walks.{walk_on, walk_step, walk_within, walk_depth, walk_fits, given_earlier, first_walk, file_order}
+use Rattle.queue_opening.proofs.walking.walk_files.Goals as goal
+
+pub loop-number-init : goal.loop-number-init
+loop-number-init g c =
+    let p = c.args.positions.now in
+    record {
+      name = refl;
+      low = omega arith;
+      high = file_order p c.requires.order;
+      within = λ k its. absurd (let h = subst (λ (ns : List ℕ). Contains ns k) c.new.ensures.items its in omega (arith, h.1));
+      depth = omega arith;
+      same = λ told file. refl;
+      walks = λ told has. first_walk c.args.options.now.least c.args.options.now.limit p (content (g.F.Folder.files c.args.folder.now) c.args.files.now) c.new.result.items c.new.ensures.items;
+      faults = omega arith;
+    }
+
+pub loop-number-preserved : goal.loop-number-preserved
+loop-number-preserved g c =
+    let i = c.loop-number.invariant in
+    let p = c.args.positions.now in
+    let k = c.loop-number.number in
+    let next = c.next_number-number.ensures in
+    let before = c.loop-number-test.true in
+    let range = c.requires.range in
+    let high = range.write_file in
+    let given = c.given_by-gives.ensures in
+    let after = next.low (omega (arith, before)) in
+    record {
+      name = given.name ∙ i.name;
+      low = omega (arith, after, i.low);
+      high = next.high;
+      within = λ j its.
+          let h = walk_within p.read_file k c.loop-number.walk c.add.new.self c.given_by-gives.result i.low c.in-Ok.ensures.added i.within j its in (h.0, omega (arith, h.1, after));
+      depth = let d = walk_depth p k c.loop-number.walk c.add.new.self c.given_by-gives.result given.within c.in-Ok.ensures.added i.depth in omega (arith, d, after);
+      same = λ told file. given.same told file ∙ i.same told file;
+      walks = λ told has.
+          let old = g.F.Folder.files c.args.folder.now in
+          let now = g.F.Folder.files c.loop-number.folder in
+          let here : content now c.loop-number.files k ≡ content old c.args.files.now k
+          = ap (λ (name : List ℕ). content now name k) i.name ∙ ap (λ (o : Option (List ℕ)). unwrap_or o []) (i.same told (data_file c.args.files.now k)) in
+          walk_step c.args.options.now.least c.args.options.now.limit p old c.args.files.now c.args.numbers.now k c.next_number-number.result c.loop-number.walk c.add.new.self c.given_by-gives.result
+          high i.low before has next c.in-Ok.ensures.added
+          (subst (λ (x : List ℕ). GivesOf c.args.options.now.least c.args.options.now.limit p k x c.given_by-gives.result) here (given.gives told)) (i.walks told has);
+      faults = omega (arith, given.faults, i.faults);
+    }
+
+pub returns-in-Err-clause-cause : goal.returns-in-Err-clause-cause
+returns-in-Err-clause-cause g c =
+    c.in-Err.ensures.cause (g.F.Folder.folder_faults c.args.folder.now) (g.F.Folder.folder_faults c.given_by-gives.new.folder)
+    (given_earlier (g.F.Folder.folder_faults c.args.folder.now) (g.F.Folder.folder_faults c.loop-number.folder) (g.F.Folder.folder_faults c.given_by-gives.new.folder) c.given_by-gives.result c.loop-number.invariant.faults
+    c.given_by-gives.ensures.cause)
+
+pub returns-in-Err-add-clause-cause : goal.returns-in-Err-add-clause-cause
+returns-in-Err-add-clause-cause g c =
+    c.in-Err-add.ensures.cause (g.F.Folder.folder_faults c.args.folder.now) (g.F.Folder.folder_faults c.given_by-gives-2.new.folder)
+    (given_earlier (g.F.Folder.folder_faults c.args.folder.now) (g.F.Folder.folder_faults c.loop-number.folder) (g.F.Folder.folder_faults c.given_by-gives-2.new.folder) c.given_by-gives-2.result c.loop-number.invariant.faults
+    c.given_by-gives-2.ensures.cause)
+
+pub returns-in-Ok-add-clause-walk : goal.returns-in-Ok-add-clause-walk
+returns-in-Ok-add-clause-walk g c = λ told has.
+    let i = c.loop-number.invariant in
+    let p = c.args.positions.now in
+    let least = c.args.options.now.least in
+    let limit = c.args.options.now.limit in
+    let last = p.write_file in
+    let old = g.F.Folder.files c.args.folder.now in
+    let now = g.F.Folder.files c.loop-number.folder in
+    let bytes = content old c.args.files.now in
+    let here : content now c.loop-number.files last ≡ bytes last
+    = ap (λ (name : List ℕ). content now name last) i.name ∙ ap (λ (o : Option (List ℕ)). unwrap_or o []) (i.same told (data_file c.args.files.now last)) in
+    let arrived : c.loop-number.number ≡ last = omega (arith, i.high, c.loop-number-test.false) in
+    walk_on least limit p bytes last c.loop-number.walk c.add-2.new.self c.given_by-gives-2.result
+    (subst (λ (x : List ℕ). GivesOf least limit p last x c.given_by-gives-2.result) here (c.given_by-gives-2.ensures.gives told)) c.in-Ok-add.ensures.added
+    (subst (λ (k : ℕ). WalksUpTo least limit p bytes k c.loop-number.walk.depth c.loop-number.walk.bad.items) arrived (i.walks told has))
+
+pub returns-in-Ok-add-clause-fits : goal.returns-in-Ok-add-clause-fits
+returns-in-Ok-add-clause-fits g c =
+    let i = c.loop-number.invariant in
+    let p = c.args.positions.now in
+    let arrived : c.loop-number.number ≡ p.write_file = omega (arith, i.high, c.loop-number-test.false) in
+    walk_fits p c.loop-number.walk c.add-2.new.self c.given_by-gives-2.result (file_order p c.requires.order) c.given_by-gives-2.ensures.within c.in-Ok-add.ensures.added
+    (λ k its. let h = i.within k its in (h.0, omega (arith, h.1, arrived))) (omega (arith, i.depth, arrived))

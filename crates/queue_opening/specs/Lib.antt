@@ -1,0 +1,4 @@
+pub mod Refusals
+pub mod Walked
+pub mod Planned
+pub mod Tidied

@@ -1,0 +1,246 @@
+//! Each call of the folder fails in turn: whether the answers are right all the same, and the list is what it should be, in the files
+//! too. What the plain program finds in them judges.
+
+ghost use Rattle.std.specs.Prelude.{◌≡◌, ◌≤◌};
+
+use crate::plain::finds;
+use crate::script::{ROLLING, folder_of};
+use disk_queue::{Deleted, Emptied, Put, Queue, Sync, Take};
+use nsq_base::{Bodies, Body, Memory};
+use nsq_fakes::{Failing, FolderCall, MemFolder};
+use std::alloc::Global;
+use std::test::Fail;
+
+// Calls of a new queue, of which every call of the folder in turn fails.
+struct Trial {
+    name: &'static str,
+    moves: &'static [Move],
+    // Whether the queue is deleted at the end, and where that fails saved.
+    deletes: bool,
+    // The calls with the numbers below this one fail, one at a time. The moves make fewer.
+    calls: u64,
+}
+
+#[derive(Clone, Copy)]
+enum Move {
+    // The next letter is put, in a record of 40 bytes. It counts where it was stored.
+    Put,
+    // The first letter is taken, or the folder fails.
+    Take,
+    // A save is made, whatever its answer.
+    Sync,
+    // A save that doesn't fail.
+    Save,
+    // The list is emptied, or the folder fails.
+    Empty,
+    // The queue has as many records as there are letters.
+    Count,
+}
+
+const TRIALS: [Trial; 4] = [
+    Trial {
+        name: "writing",
+        moves: &[
+            Move::Put,
+            Move::Sync,
+            Move::Put,
+            Move::Put,
+            Move::Sync,
+            Move::Save,
+            Move::Count,
+        ],
+        deletes: false,
+        calls: 40,
+    },
+    Trial {
+        name: "reading",
+        moves: &[
+            Move::Put,
+            Move::Put,
+            Move::Take,
+            Move::Put,
+            Move::Take,
+            Move::Take,
+            Move::Sync,
+            Move::Save,
+        ],
+        deletes: false,
+        calls: 50,
+    },
+    Trial {
+        name: "emptying",
+        moves: &[Move::Put, Move::Put, Move::Put, Move::Empty, Move::Sync],
+        deletes: false,
+        calls: 30,
+    },
+    Trial {
+        name: "deleting",
+        moves: &[Move::Put, Move::Put, Move::Put],
+        deletes: true,
+        calls: 30,
+    },
+];
+
+// What a queue should have: records of 40 bytes, of the letters from `first` on and below `next`.
+#[derive(Drop)]
+struct Letters {
+    first: u8,
+    next: u8,
+}
+
+// Whether all is right where the call of the folder with that number fails.
+fn holds(alloc: Global, trial: &Trial, failing: u64) -> Result<bool, Memory> {
+    let fails = [Failing {
+        call: FolderCall::Any,
+        from: failing,
+        to: failing.saturating_add(1),
+    }];
+    let mut folder = folder_of(alloc, &[], &fails)?;
+    let mut queue = Queue::fresh(alloc, "q", ROLLING)?;
+    let mut letters = Letters {
+        first: b'a',
+        next: b'a',
+    };
+    if !goes(alloc, &mut queue, &mut folder, &mut letters, trial.moves)? {
+        return Ok(false);
+    }
+    if trial.deletes {
+        delete(queue, &mut folder, &mut letters);
+    }
+    finds_letters(alloc, &folder, &letters)
+}
+
+// Makes the moves up to one that goes wrong.
+fn goes(
+    alloc: Global,
+    queue: &mut Queue,
+    folder: &mut MemFolder,
+    letters: &mut Letters,
+    moves: &[Move],
+) -> Result<bool, Memory>
+    requires least { queue.old.options.least ≤ 40 }
+    requires limit { queue.old.options.limit ≤ 60 }
+    requires none { queue.old.staged.count ≡ 0 }
+{
+    for a_move in moves {
+        if !is_right(alloc, queue, folder, letters, *a_move)? {
+            return Ok(false);
+        }
+    }
+    Ok(true)
+}
+
+// Whether a move's answer is right.
+fn is_right(
+    alloc: Global,
+    queue: &mut Queue,
+    folder: &mut MemFolder,
+    letters: &mut Letters,
+    a_move: Move,
+) -> Result<bool, Memory>
+    requires least { queue.old.options.least ≤ 40 }
+    requires limit { queue.old.options.limit ≤ 60 }
+    requires none { queue.old.staged.count ≡ 0 }
+    ensures options { queue.new.options ≡ queue.old.options }
+    ensures none_now { queue.new.staged.count ≡ 0 }
+{
+    match a_move {
+        Move::Put => {
+            put(queue, folder, letters);
+            Ok(true)
+        }
+        Move::Take => Ok(take(queue, folder, letters)),
+        Move::Sync => {
+            save(queue, folder);
+            Ok(true)
+        }
+        Move::Save => Ok(save(queue, folder) != Sync::Failed),
+        Move::Empty => empty(alloc, queue, folder, letters),
+        Move::Count => Ok(queue.depth() == letters.next.saturating_sub(letters.first) as u128),
+    }
+}
+
+fn put(queue: &mut Queue, folder: &mut MemFolder, letters: &mut Letters)
+    requires least { queue.old.options.least ≤ 40 }
+    requires none { queue.old.staged.count ≡ 0 }
+    ensures options { queue.new.options ≡ queue.old.options }
+    ensures none_now { queue.new.staged.count ≡ 0 }
+{
+    let bytes = [letters.next; 40];
+    if let Put::Stored(_) = queue.put(folder, &bytes) {
+        letters.next = letters.next.saturating_add(1);
+    }
+}
+
+fn take(queue: &mut Queue, folder: &mut MemFolder, letters: &mut Letters) -> bool
+    requires limit { queue.old.options.limit ≤ 60 }
+    requires none { queue.old.staged.count ≡ 0 }
+    ensures options { queue.new.options ≡ queue.old.options }
+    ensures none_now { queue.new.staged.count ≡ 0 }
+{
+    let mut into = [0; 60];
+    match queue.take(folder, &mut into) {
+        Take::Got(size, _) => {
+            let right = letters.first < letters.next && into[..size] == [letters.first; 40];
+            letters.first = letters.first.saturating_add(1);
+            right
+        }
+        Take::Empty => letters.first == letters.next,
+        Take::Fault => true,
+        Take::Damaged(_, _, _) => false,
+    }
+}
+
+fn save(queue: &mut Queue, folder: &mut MemFolder) -> Sync
+    ensures options { queue.new.options ≡ queue.old.options }
+    ensures staged { queue.new.staged ≡ queue.old.staged }
+{
+    queue.sync(folder)
+}
+
+// Once the list is emptied an opening finds nothing.
+fn empty(
+    alloc: Global,
+    queue: &mut Queue,
+    folder: &mut MemFolder,
+    letters: &mut Letters,
+) -> Result<bool, Memory>
+    ensures options { queue.new.options ≡ queue.old.options }
+    ensures staged { queue.new.staged ≡ queue.old.staged }
+{
+    match queue.empty(folder) {
+        Emptied::Done => letters.first = letters.next,
+        Emptied::Fault => return Ok(true),
+    }
+    finds_letters(alloc, folder, letters)
+}
+
+fn delete(queue: Queue, folder: &mut MemFolder, letters: &mut Letters) {
+    match queue.delete(folder) {
+        Deleted::Done => letters.first = letters.next,
+        Deleted::Fault(kept) => {
+            let mut kept = kept;
+            kept.sync(folder);
+        }
+    }
+}
+
+// Whether an opening finds these letters.
+fn finds_letters(alloc: Global, folder: &MemFolder, letters: &Letters) -> Result<bool, Memory> {
+    let mut expected = Bodies::new(alloc);
+    for letter in letters.first..letters.next {
+        expected.push(Body::copy(alloc, &[letter; 40])?)?;
+    }
+    finds(alloc, folder, &expected)
+}
+
+#[test]
+fn rows(rt: HostRuntime) -> Result<(), Fail> {
+    for row in &TRIALS {
+        for failing in 0..row.calls {
+            let holds = holds(rt.alloc(), row, failing)?;
+            assert!(rt; holds, "{}: call {failing} fails", row.name);
+        }
+    }
+    Ok(())
+}

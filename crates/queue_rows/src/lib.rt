@@ -1,0 +1,19 @@
+//! Rows of queues on disk and of backlogs: worked examples of their files and of their calls. It has nothing but tests.
+#![tactic(auto)]
+
+#[cfg(test)]
+mod faults;
+#[cfg(test)]
+mod image;
+#[cfg(test)]
+mod opening;
+#[cfg(test)]
+mod plain;
+#[cfg(test)]
+mod reading;
+#[cfg(test)]
+mod script;
+#[cfg(test)]
+mod waiting;
+#[cfg(test)]
+mod writing;

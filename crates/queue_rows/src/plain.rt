@@ -1,0 +1,71 @@
+//! What the plain program finds of the queue `q` in a folder in memory. It judges rows whose files aren't written out.
+
+use nsq_base::{Bodies, Body, Memory};
+use nsq_fakes::MemFolder;
+use queue_plain::{Found, NamedFile, found_queue};
+use std::alloc::Global;
+
+// The files of the queue that the plain program is given: the metadata, and the data files with the numbers 0 to 4.
+const FILES: [&str; 6] = [
+    "q.diskqueue.meta.dat",
+    "q.diskqueue.000000.dat",
+    "q.diskqueue.000001.dat",
+    "q.diskqueue.000002.dat",
+    "q.diskqueue.000003.dat",
+    "q.diskqueue.000004.dat",
+];
+
+/// The records that are found, where each has at least so many bytes, and 60 at most; none where the metadata is bad.
+pub fn listed(alloc: Global, folder: &MemFolder, least: u32) -> Result<Bodies, Memory> {
+    match found(alloc, folder, least)? {
+        Found::BadMeta => Ok(Bodies::new(alloc)),
+        Found::Records(listing) => Ok(listing.bodies),
+    }
+}
+
+/// Whether these records are found, of 26 to 60 bytes each, and no bad file.
+pub fn finds(alloc: Global, folder: &MemFolder, expected: &Bodies) -> Result<bool, Memory> {
+    match found(alloc, folder, 26)? {
+        Found::BadMeta => Ok(false),
+        Found::Records(listing) => {
+            Ok(listing.bad.is_empty() && same_bodies(&listing.bodies, expected))
+        }
+    }
+}
+
+/// Whether the bodies are the same, one by one.
+pub fn same_bodies(found: &Bodies, expected: &Bodies) -> bool {
+    if found.count() != expected.count() {
+        return false;
+    }
+    for i in 0..expected.count() {
+        if found.get(i).bytes() != expected.get(i).bytes() {
+            return false;
+        }
+    }
+    true
+}
+
+fn found(alloc: Global, folder: &MemFolder, least: u32) -> Result<Found, Memory> {
+    let mut files = Vec::new(alloc);
+    for name in FILES {
+        copy_file(alloc, folder, name, &mut files)?;
+    }
+    found_queue(alloc, files.as_slice(), "q", least, 60)
+}
+
+// Copies a file of the folder, if it is there.
+fn copy_file(
+    alloc: Global,
+    folder: &MemFolder,
+    name: &str,
+    files: &mut Vec<NamedFile>,
+) -> Result<(), Memory> {
+    if let Some(bytes) = folder.file(name) {
+        files.push(NamedFile {
+            name: Body::copy(alloc, name.as_bytes())?,
+            bytes: Body::copy(alloc, bytes)?,
+        })?;
+    }
+    Ok(())
+}

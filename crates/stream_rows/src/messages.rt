@@ -1,0 +1,92 @@
+use nsq_base::{Body, Memory, MsgId};
+use std::alloc::Global;
+use std::test::Fail;
+use v2_frame::{Message, Taken};
+
+/// How many bytes a message is put into.
+const ROOM: usize = 64;
+
+// Bytes, and the stamp, the attempts, the id and the body of the message that they are.
+struct Row {
+    name: &'static str,
+    bytes: &'static [u8],
+    message: Option<(u64, u16, &'static [u8], &'static [u8])>,
+}
+
+const ROWS: [Row; 5] = [
+    Row {
+        name: "a message of one byte",
+        bytes: b"\0\0\0\0\0\0\0\0\0\x010000010000000000a",
+        message: Some((0, 1, b"0000010000000000", b"a")),
+    },
+    Row {
+        name: "the most significant bytes first",
+        bytes: b"\x01\x02\x03\x04\x05\x06\x07\x08\x09\x0a0000010000000001body",
+        message: Some((0x0102_0304_0506_0708, 0x090a, b"0000010000000001", b"body")),
+    },
+    Row {
+        name: "no body",
+        bytes: b"\0\0\0\0\0\0\0\0\0\x010000010000000000",
+        message: Some((0, 1, b"0000010000000000", b"")),
+    },
+    Row {
+        name: "25 bytes",
+        bytes: b"\0\0\0\0\0\0\0\0\0\x01000001000000000",
+        message: None,
+    },
+    Row {
+        name: "nothing",
+        bytes: b"",
+        message: None,
+    },
+];
+
+// Whether the message is put as these bytes, and what stands behind them stays.
+fn puts(message: &Message, bytes: &[u8]) -> bool {
+    let mut into = [9; ROOM];
+    let body = message.body.bytes().len();
+    if body > ROOM - 26 {
+        return false;
+    }
+    let size = message.put(&mut into);
+    &into[..size] == bytes && into[size..].iter().all(|byte| *byte == 9)
+}
+
+// Whether the message, and a copy of it, are the row's, with no delay, and are put as its bytes, whatever the delay is.
+fn is_message(alloc: Global, row: &Row, taken: Message) -> Result<bool, Memory> {
+    let Some((stamp, attempts, id, body)) = row.message else {
+        return Ok(false);
+    };
+    let Some(id) = MsgId::read(id) else {
+        return Ok(false);
+    };
+    let copy = taken.copy(alloc)?;
+    let same = (copy.stamp, copy.attempts, copy.delay) == (stamp, attempts, 0)
+        && copy.id == id
+        && copy.body.bytes() == body;
+    let made = Message {
+        stamp,
+        attempts,
+        id,
+        body: Body::copy(alloc, body)?,
+        delay: 5,
+    };
+    Ok(same && puts(&taken, row.bytes) && puts(&made, row.bytes))
+}
+
+fn holds(alloc: Global, row: &Row) -> Result<bool, Memory> {
+    match Message::take(alloc, row.bytes) {
+        Taken::Whole(taken) => is_message(alloc, row, taken),
+        Taken::Short => Ok(row.message.is_none()),
+        Taken::Memory => Err(Memory),
+    }
+}
+
+#[test]
+fn rows(rt: HostRuntime) -> Result<(), Fail> {
+    for row in &ROWS {
+        let holds = holds(rt.alloc(), row)?;
+        assert!(rt; holds, "{}", row.name);
+    }
+    Ok(())
+}

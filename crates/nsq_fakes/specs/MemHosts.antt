@@ -37,8 +37,8 @@ abbrev pub dial_faults_of : {E : Type 0} → MemHost E → ℕ
 dial_faults_of host = host.dialer.faults.count
 
 -- that count is at most 2^64 - 1
-pub dial_faults_fit : {E : Type 0} (host : MemHost E) → dial_faults_of host ≤ 2 ^ 64 - 1
-dial_faults_fit host = host.dialer.faults.fits
+pub dial_count_fits : {E : Type 0} (host : MemHost E) → dial_faults_of host ≤ 2 ^ 64 - 1
+dial_count_fits host = host.dialer.faults.fits
 
 -- a connection that it gives to a caller is unused
 abbrev pub IsUnusedCaller : Accept MemConn → Type 0

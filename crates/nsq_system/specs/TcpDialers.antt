@@ -13,8 +13,8 @@ abbrev pub dial_faults_of : {N : Type 0} → TcpDialer N → ℕ
 dial_faults_of dialer = dialer.faults.count
 
 -- that count is at most 2^64 - 1
-pub dial_faults_fit : {N : Type 0} (dialer : TcpDialer N) → dial_faults_of dialer ≤ 2 ^ 64 - 1
-dial_faults_fit dialer = dialer.faults.fits
+pub dial_count_fits : {N : Type 0} (dialer : TcpDialer N) → dial_faults_of dialer ≤ 2 ^ 64 - 1
+dial_count_fits dialer = dialer.faults.fits
 
 -- a TCP dialer doesn't tell its content
 abbrev pub no_content : {N : Type 0} → TcpDialer N → DialerContent

@@ -1,3 +1,5 @@
+ghost use Rattle.std.specs.Prelude.{◌≡◌};
+
 use nsq_outside::{Did, Write};
 use nsq_system::Outbox;
 use std::alloc::Global;
@@ -26,7 +28,9 @@ struct Scripted {
 
 impl Scripted {
     /// The next answer.
-    fn next(&mut self) -> Answer {
+    fn next(&mut self) -> Answer
+        ensures { self.new.held ≡ self.old.held }
+    {
         let answer = self.answers.get(self.at).copied();
         if self.at.saturating_add(1) < self.answers.len() {
             self.at += 1;

@@ -409,10 +409,17 @@ fn delete(
     })
 }
 
+// Room for the longest message.
+fn scratch(alloc: Global) -> Result<Vec<u8>, Memory>
+    ensures { IfOk result (λ bytes. length bytes.items ≡ 16777242) }
+{
+    Ok(vec![in alloc; 0; 16_777_242]?)
+}
+
 #[test]
 fn rows(rt: HostRuntime) -> Result<(), Fail> {
     let alloc = rt.alloc();
-    let mut scratch = vec![in alloc; 0; 16_777_242]?;
+    let mut scratch = scratch(alloc)?;
     for row in &ROWS {
         let holds = holds(alloc, &mut scratch, row)?;
         assert!(rt; holds, "{}", row.name);

@@ -17,7 +17,7 @@ use Rattle.queue_image.proofs.Walking.{if_same, start_later, not_both}
 use Rattle.queue_image.proofs.Naming.{metadata_apart, aside_apart}
 use Rattle.queue_image.specs.Metas.{Says}
 use Rattle.queue_opening.specs.Tidied.{IsSetAside, SetsAside, OnlyTidied, IsTidy, IsWritten, OnlyWritten}
-use Rattle.disk_queue.specs.Opened.{IsTidiedAt}
+use Rattle.queue_opening.specs.Tidied.{IsTidiedAt}
 use Rattle.queue_opening.specs.Walked.{WalksUpTo}
 use Rattle.queue_opening.specs.Planned.{IsPlan, IsPlanned, PlansWith, IsSettled, settled}
 use Rattle.queue_files.specs.declared.options.QueueOptions.{QueueOptions}
@@ -25,7 +25,7 @@ use Rattle.queue_opening.specs.declared.plan.Plan.{Plan}
 use Rattle.queue_files.proofs.WrittenBytes.{length-cut_to, take-cut}
 use Rattle.queue_opening.proofs.Walks.{file_order}
 use Rattle.queue_opening.proofs.Asides.{none_some, some_is, data_apart, data_not_aside, aside_not_data, asides_apart}
-use Rattle.disk_queue.proofs.OpeningReads.{bad_listed, listed_bad, reads_past, reads_kept, LastGood, LastBad, last_step, nothing_before, reads_last}
+use Rattle.queue_opening.proofs.FoundReads.{bad_listed, listed_bad, reads_past, reads_kept, LastGood, LastBad, last_step, nothing_before, reads_last}
 
 cond_zero : (b : Bool) (n : ℕ) → IsTrue b → cond b 0 n ≡ 0
 cond_zero true n h = refl

@@ -1,4 +1,4 @@
-ghost use Rattle.std.specs.Prelude.{◌≡◌, IfOk, Bool, IsTrue};
+ghost use Rattle.std.specs.Prelude.{◌≡◌, [], ◌∷◌, ◌++◌, IfOk, OnOk, Bool, IsTrue};
 ghost use Rattle.std.specs.Str.{bytes_eq};
 ghost use Rattle.nsq_base.specs.Names.{is_before};
 ghost use Rattle.history.specs.State.{is_there, has_begun, with_client, without_client};
@@ -138,15 +138,18 @@ impl State {
     pub fn copy(&self, alloc: Global) -> Result<State, Memory>
         ensures { IfOk result (λ state. state ≡ self.now) }
     {
+        let clients = copy_clients(alloc, &self.clients)?;
+        let began = Vec::from_slice(alloc, &self.began)?;
+        let topics = copy_topics(alloc, &self.topics)?;
         Ok(State {
             options: self.options.copy(alloc)?,
             epoch: self.epoch,
             ids_used: self.ids_used,
             moment: self.moment,
             stopped: self.stopped,
-            clients: copy_clients(alloc, &self.clients)?,
-            began: Vec::from_slice(alloc, &self.began)?,
-            topics: copy_topics(alloc, &self.topics)?,
+            clients,
+            began,
+            topics,
         })
     }
 
@@ -168,8 +171,7 @@ impl State {
     pub fn with_client(mut self, at: u64, number: u64) -> Result<State, Memory>
         ensures { IfOk result (λ state. state ≡ with_client self at number) }
     {
-        self.clients.push(Client { number })?;
-        self.began.push(number)?;
+        add_client(&mut self.clients, &mut self.began, number)?;
         Ok(self)
     }
 
@@ -180,6 +182,15 @@ impl State {
         self.clients.retain(|client| client.number != number);
         self
     }
+}
+
+// Adds a client of this number, which began.
+fn add_client(clients: &mut Vec<Client>, began: &mut Vec<u64>, number: u64) -> Result<(), Memory>
+    ensures { OnOk result ((clients.new.items ≡ clients.old.items ++ record { number = number } ∷ []) × (began.new.items ≡ began.old.items ++ number ∷ [])) }
+{
+    clients.push(Client { number })?;
+    began.push(number)?;
+    Ok(())
 }
 
 // A copy of a message.

@@ -1,10 +1,10 @@
-ghost use Rattle.std.specs.Prelude.{◌≡◌, ◌<◌, ◌^◌, ◌↔◌, IfOk, IsTrue, Option, Some, false, ◌∷◌, [], MatchOption};
+ghost use Rattle.std.specs.Prelude.{◌≡◌, ◌+◌, ◌<◌, ◌^◌, ◌↔◌, IfOk, IsTrue, Option, Some, false, ◌∷◌, [], MatchOption};
 ghost use Rattle.std.specs.List.{filter, find};
 ghost use Rattle.nsq_base.specs.Names.{is_before};
 ghost use Rattle.std.specs.Option.{option_copied};
 ghost use Rattle.std.specs.Str.{bytes_eq};
 ghost use Rattle.nsq_outside.specs.declared.journal.End.TheVariants.{Done};
-ghost use Rattle.history.specs.State.{topic_or_new, put_topic, put_message, published_message, published};
+ghost use Rattle.history.specs.State.{topic_or_new, put_topic, put_message, published_topic, published};
 ghost use Rattle.history.specs.Reply.{reply, refusal, ok_frame};
 ghost use Rattle.history.specs.Step.{IsServed, CanFault, IsAllowedAct, IsAllowed, DoesCommand, DoesAct};
 ghost use Rattle.history.specs.Legal.{Step, MayStep};
@@ -167,13 +167,29 @@ fn carry_out(alloc: Global, state: State, entry: &Entry, command: &Command) -> R
 // The state after a message of this body was published.
 fn publish(
     alloc: Global,
-    mut state: State,
+    state: State,
     at: u64,
     name: &Topic,
     body: &Body,
 ) -> Result<State, Memory>
     requires { state.ids_used < 2 ^ 40 }
     ensures { IfOk result (λ next. next ≡ published state at 0 name.now (body.now ∷ [])) }
+{
+    let topic = published_topic(alloc, &state, at, name, body)?;
+    let topics = put_topic(alloc, &state.topics, topic)?;
+    Ok(with_topics(state, topics))
+}
+
+// The topic of this name after a message of this body was published to it with the next id.
+fn published_topic(
+    alloc: Global,
+    state: &State,
+    at: u64,
+    name: &Topic,
+    body: &Body,
+) -> Result<TopicState, Memory>
+    requires { state.now.ids_used < 2 ^ 40 }
+    ensures { IfOk result (λ topic. topic ≡ published_topic state.now at 0 name.now (body.now ∷ [])) }
 {
     let message = Message {
         stamp: at,
@@ -182,11 +198,18 @@ fn publish(
         body: Body::copy(alloc, body.bytes())?,
         delay: 0,
     };
-    let topic = topic_or_new(alloc, &state, name)?;
-    let topic = put_message(topic, state.options.mem_queue_size, message)?;
+    let topic = topic_or_new(alloc, state, name)?;
+    put_message(topic, state.options.mem_queue_size, message)
+}
+
+// The state with these topics, after one more id was used.
+fn with_topics(mut state: State, topics: Vec<TopicState>) -> State
+    requires { state.ids_used < 2 ^ 40 }
+    ensures { result ≡ record state { ids_used = state.ids_used + 1; topics = topics.items } }
+{
     state.ids_used += 1;
-    state.topics = put_topic(alloc, &state.topics, topic)?;
-    Ok(state)
+    state.topics = topics;
+    state
 }
 
 // A copy of the topic of this name, as it is made where there is none.

@@ -1,5 +1,5 @@
 ghost use Rattle.std.specs.Prelude.{MatchOption, IfOk};
-ghost use Rattle.history.specs.Legal.{MayStep, Step, Legal, IsIllegal};
+ghost use Rattle.history.specs.Legal.{Legal, IsIllegal};
 
 use crate::{State, step};
 use history::Entry;
@@ -17,18 +17,10 @@ pub fn is_legal(
 {
     let mut state = start;
     for (entry, end) in history {
-        match next_state(alloc, state, entry, *end)? {
+        match step(alloc, state, entry, *end)? {
             Some(next) => state = next,
             None => return Ok(None),
         }
     }
     Ok(Some(state))
-}
-
-// The state behind the entry, in place of the one before it; None where it may not stand there. `is_legal` gives the old state
-// away, since each place where it drops one makes its proof longer.
-fn next_state(alloc: Global, state: State, entry: &Entry, end: End) -> Result<Option<State>, Memory>
-    ensures { IfOk result (λ next. MatchOption next (¬ MayStep state entry.now end) (Step state (entry.now, end))) }
-{
-    step(alloc, &state, entry, end)
 }

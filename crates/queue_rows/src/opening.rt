@@ -363,7 +363,7 @@ fn opens_again(alloc: Global, failing: u64) -> Result<bool, Memory> {
 }
 
 // How many calls the opening of the damaged files makes.
-const CALLS: u64 = 19;
+const CALLS: u64 = 20;
 
 #[test]
 fn rows(rt: HostRuntime) -> Result<(), Fail> {

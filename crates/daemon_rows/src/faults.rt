@@ -7,7 +7,7 @@ use history_plain::{Finding, FoundNames, found};
 use nsq_base::{Body, Memory};
 use nsq_fakes::{Failing, FolderCall, MemFolder};
 use nsq_outside::{Did, Folder, Host, Kit, Listing};
-use queue_image::NamedFile;
+use queue_plain::NamedFile;
 use std::alloc::Global;
 use std::sync::Wait;
 use std::test::Fail;

@@ -7,7 +7,7 @@ use crate::texts::{DATA, META, NAMES, ONE_RECORD, ONE_TOPIC, PUBLISH, RECORD};
 use history::{Act, Entry};
 use nsq_base::{Body, Memory};
 use nsq_fakes::{MemClock, MemConn, MemFolder, MemHost, MemJournal, Piece};
-use nsq_outside::{Accept, Dialer, Dialled, Did, End, Host, Journal, Kind, Kit};
+use nsq_outside::{Accept, Dialer, Dialled, Did, End, Faults, Host, Journal, Kind, Kit};
 use nsqd_core::nsqd_run;
 use std::alloc::Global;
 use std::sync::Wait;
@@ -56,7 +56,7 @@ struct WantingHost {
     home: Option<Kit<MemFolder, MemClock, Wanting>>,
     wants: u64,
     back: Option<MemConn>,
-    accept_faults: u64,
+    accept_faults: Faults,
 }
 
 impl WantingHost {
@@ -107,7 +107,7 @@ fn is_stop(entry: &Entry) -> bool {
 
 impl Dialer for WantingHost {
     ghost use Rattle.std.specs.Prelude.{[], false};
-    ghost use Rattle.nsq_fakes.specs.MemHosts.{dial_faults_of};
+    ghost use Rattle.nsq_fakes.specs.MemHosts.{dial_faults_of, dial_faults_fit};
 
     type Conn = MemConn;
 
@@ -122,11 +122,13 @@ impl Dialer for WantingHost {
     fn dial<R: Wait>(&mut self, rt: &R, address: &str) -> Dialled<MemConn> {
         self.outside.dial(rt, address)
     }
+
+    ghost dial_faults_fit = { λ host. dial_faults_fit host.outside };
 }
 
 impl Host<Entry> for WantingHost {
     ghost use Rattle.std.specs.Prelude.{refl, [], false, None, Some};
-    ghost use Rattle.std.proofs.Common.{ap};
+    ghost use Rattle.std.proofs.Common.{ap, arith};
     ghost use Rattle.std.proofs.lemmas.Bool.{false≢true};
 
     type Folder = MemFolder;
@@ -137,7 +139,7 @@ impl Host<Entry> for WantingHost {
 
     ghost content = { λ _. record { starts = []; coming = []; given = []; halted = false; back = []; printed = []; lines = [] } };
 
-    ghost state = { λ host. record { kit = host.home; beside = false; accept_faults = host.accept_faults; print_faults = 0; tell_faults = 0 } };
+    ghost state = { λ host. record { kit = host.home; beside = false; accept_faults = host.accept_faults.count; print_faults = 0; tell_faults = 0 } };
 
     fn start<R: Wait>(&mut self, _rt: &R, _tcp: &str, _http: &str, _path: &str) -> Did {
         Did::Done
@@ -146,7 +148,7 @@ impl Host<Entry> for WantingHost {
     fn accept<R: Wait>(&mut self, rt: &R) -> Accept<MemConn> {
         let accepted = self.outside.accept(rt);
         match &accepted {
-            Accept::Failed => self.accept_faults = self.accept_faults.saturating_add(1),
+            Accept::Failed => self.accept_faults.add(),
             Accept::Caller(_, _) | Accept::Nothing | Accept::Halt => {}
         }
         accepted
@@ -198,6 +200,8 @@ impl Host<Entry> for WantingHost {
     ghost dial_keeps = { λ a b h. (refl, ap ⟦<WantingHost as Host<Entry>>⟧.state h) };
 
     ghost back_given = { λ h told. absurd (false≢true told) };
+
+    ghost faults_fit = { λ h. record { accept = h.accept_faults.fits; print = Prim.omega arith; tell = Prim.omega arith } };
 }
 
 /// A journal that finds no memory for the first so many entries that are a Stop.
@@ -236,7 +240,7 @@ fn host_of(alloc: Global, wants: u64) -> Result<WantingHost, Memory>
         home: Some(kit_of(alloc, journal_of(alloc, 0))?),
         wants,
         back: None,
-        accept_faults: 0,
+        accept_faults: Faults::none(),
     })
 }
 

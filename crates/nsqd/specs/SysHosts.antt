@@ -3,6 +3,7 @@ use Rattle.std.specs.Prelude.{ℕ, ◌≡◌, Bool, [], true, false, IsSome}
 use Rattle.history.specs.declared.entry.Entry.{Entry}
 use Rattle.nsq_outside.specs.Hosts.{DialerContent, HostContent, HostState}
 use Rattle.nsq_system.specs.TcpDialers.{dial_faults_of as dial_faults_in}
+use Rattle.nsq_outside.specs.declared.faults.Faults.{Faults}
 use Rattle.nsq_outside.specs.declared.host.Accept.{Accept}
 use Rattle.nsq_outside.specs.declared.host.Accept.TheVariants.{Caller, Nothing, Halt, Failed}
 use Rattle.nsq_system.specs.declared.forgetful.Forgetful.{Forgetful}
@@ -19,8 +20,8 @@ abbrev pub no_dials : {N F D : Type 0} → SysHost N F D → DialerContent
 no_dials host = record { asked = []; linked = []; coming = [] }
 
 -- its kit, and its counts of faults; callers get no threads
-abbrev pub state_of : {N F D : Type 0} → SysHost N F D → HostState ℕ (SysClock N) (Forgetful Entry)
-state_of host = record { kit = host.kit; beside = false; accept_faults = host.accept_faults; print_faults = host.print_faults; tell_faults = host.tell_faults }
+abbrev pub state_of : {N F D : Type 0} → SysHost N F D → HostState Faults (SysClock N) (Forgetful Entry)
+state_of host = record { kit = host.kit; beside = false; accept_faults = host.accept_faults.count; print_faults = host.print_faults.count; tell_faults = host.tell_faults.count }
 
 -- how often a dial failed
 abbrev pub dial_faults_of : {N F D : Type 0} → SysHost N F D → ℕ

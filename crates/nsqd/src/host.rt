@@ -2,7 +2,7 @@ ghost use Rattle.std.specs.Prelude.{◌≡◌, IfOk};
 
 use history::Entry;
 use nsq_base::Memory;
-use nsq_outside::{Accept, Dialer, Dialled, Did, Host, Kit};
+use nsq_outside::{Accept, Dialer, Dialled, Did, Faults, Host, Kit};
 use nsq_system::{DirFolder, Forgetful, Listeners, SysClock, TcpConn, TcpDialer};
 use std::alloc::Global;
 use std::fmt;
@@ -26,9 +26,9 @@ pub struct SysHost<N: Files + Clock> {
     // Whether it gave its one caller.
     has_called: bool,
     kit: Option<Kit<DirFolder<N>, SysClock<N>, Forgetful<Entry>>>,
-    accept_faults: u64,
-    print_faults: u64,
-    tell_faults: u64,
+    accept_faults: Faults,
+    print_faults: Faults,
+    tell_faults: Faults,
 }
 
 impl<N: Files + Clock + Net<Stream = TcpStream> + AllocGlobal + Clone + Drop> SysHost<N>
@@ -57,9 +57,9 @@ where
             listeners: None,
             has_called: false,
             kit: Some(kit),
-            accept_faults: 0,
-            print_faults: 0,
-            tell_faults: 0,
+            accept_faults: Faults::none(),
+            print_faults: Faults::none(),
+            tell_faults: Faults::none(),
         })
     }
 
@@ -111,6 +111,8 @@ impl<N: Files + Clock + Net<Stream = TcpStream>> Dialer for SysHost<N> {
     fn dial<R: Wait>(&mut self, rt: &R, address: &str) -> Dialled<TcpConn> {
         self.dialer.dial(rt, address)
     }
+
+    ghost dial_faults_fit = { λ host. host.dialer.faults.fits };
 }
 
 impl<
@@ -140,7 +142,7 @@ where
         if self.open(tcp, path) {
             return Did::Done;
         }
-        self.accept_faults = self.accept_faults.saturating_add(1);
+        self.accept_faults.add();
         Did::Failed
     }
 
@@ -157,13 +159,13 @@ where
             return Accept::Halt;
         }
         let Some(listeners) = &mut self.listeners else {
-            self.accept_faults = self.accept_faults.saturating_add(1);
+            self.accept_faults.add();
             return Accept::Failed;
         };
         let accepted = listeners.accept();
         match &accepted {
             Accept::Caller(_, _) => self.has_called = true,
-            Accept::Failed => self.accept_faults = self.accept_faults.saturating_add(1),
+            Accept::Failed => self.accept_faults.add(),
             Accept::Nothing | Accept::Halt => {}
         }
         accepted
@@ -210,7 +212,7 @@ where
         match self.rt.write_all(text) {
             Ok(()) => Did::Done,
             Err(_) => {
-                self.print_faults = self.print_faults.saturating_add(1);
+                self.print_faults.add();
                 Did::Failed
             }
         }
@@ -218,13 +220,15 @@ where
 
     fn tell<R: Wait>(&mut self, _rt: &R, line: &[u8]) {
         if self.rt.eprintln(Line(line)).is_err() {
-            self.tell_faults = self.tell_faults.saturating_add(1);
+            self.tell_faults.add();
         }
     }
 
     ghost dial_keeps = { λ a b h. (refl, h) };
 
     ghost back_given = { λ h told. absurd (false≢true told) };
+
+    ghost faults_fit = { λ h. record { accept = h.accept_faults.fits; print = h.print_faults.fits; tell = h.tell_faults.fits } };
 }
 
 /// A line that is told. What isn't UTF-8 in it shows as the replacement character.

@@ -29,13 +29,11 @@ const ROWS: [Row; 2] = [
     },
     Row {
         name: "names that cannot be saved",
-        fails: &[
-            Failing {
-                call: FolderCall::Rename,
-                from: 1,
-                to: 2,
-            },
-        ],
+        fails: &[Failing {
+            call: FolderCall::Rename,
+            from: 1,
+            to: 2,
+        }],
         end: ShutEnd::Fault,
         names: Some(NO_TOPIC),
         temporary: Some(NO_TOPIC),

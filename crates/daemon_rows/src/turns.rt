@@ -154,7 +154,11 @@ const ROWS: [Row; 12] = [
             (3, Ask::Gone, Answer::Ended),
             (3, Ask::Gone, Answer::Strange),
         ],
-        noted: &[(3, 12, What::Began), (3, 12, What::Did), (3, 12, What::Gone)],
+        noted: &[
+            (3, 12, What::Began),
+            (3, 12, What::Did),
+            (3, 12, What::Gone),
+        ],
         ..BEGINS
     },
     Row {
@@ -187,7 +191,11 @@ const ROWS: [Row; 12] = [
                 Answer::Closes(b"E_BAD_TOPIC bad topic name"),
             ),
         ],
-        noted: &[(1, 1, What::Began), (1, 1, What::Did), (1, 1, What::Refused)],
+        noted: &[
+            (1, 1, What::Began),
+            (1, 1, What::Did),
+            (1, 1, What::Refused),
+        ],
         ..BEGINS
     },
     Row {
@@ -417,7 +425,7 @@ fn are_answered(
 }
 
 /// What an act is.
-fn what(act: &Act) -> What {
+fn what_of(act: &Act) -> What {
     match act {
         Act::Began => What::Began,
         Act::Did(_, _) => What::Did,
@@ -432,7 +440,7 @@ fn are_noted(entries: &[(Entry, End)], noted: &[(u64, u64, What)]) -> bool {
     for ((entry, end), (number, at, done)) in entries.iter().zip(noted) {
         if entry.conn != *number
             || entry.at != *at
-            || what(&entry.act) != *done
+            || what_of(&entry.act) != *done
             || *end != End::Done
         {
             return false;
@@ -505,10 +513,7 @@ fn holds(alloc: Global, row: &Row) -> Result<bool, Memory> {
         clock: _clock,
         journal,
     } = floor.end();
-    Ok(
-        are_noted(journal.inner.entries(), row.noted)
-            && are_files(alloc, &mut folder, row.files)?,
-    )
+    Ok(are_noted(journal.inner.entries(), row.noted) && are_files(alloc, &mut folder, row.files)?)
 }
 
 #[test]

@@ -111,13 +111,25 @@ fn give(alloc: Global, options: &mut Options, given: Given) -> Result<(), Memory
     Ok(())
 }
 
-fn holds(alloc: Global, row: &Row) -> Result<bool, Memory> {
-    let defaults = Options::defaults(alloc)?;
-    let mut options = defaults.copy(alloc)?;
-    for given in row.given {
-        give(alloc, &mut options, *given)?;
+// A copy of the defaults, with what is given in their place.
+fn options_of(alloc: Global, given: &[Given]) -> Result<Options, Memory> {
+    let mut options = Options::defaults(alloc)?.copy(alloc)?;
+    for it in given {
+        give(alloc, &mut options, *it)?;
     }
-    Ok((options == defaults) == row.default && options.in_range() == row.in_range)
+    Ok(options)
+}
+
+// Whether the options are the defaults.
+fn are_defaults(alloc: Global, options: &Options) -> Result<bool, Memory> {
+    let defaults = Options::defaults(alloc)?;
+    Ok(*options == defaults)
+}
+
+fn holds(alloc: Global, row: &Row) -> Result<bool, Memory> {
+    let options = options_of(alloc, row.given)?;
+    let default = are_defaults(alloc, &options)?;
+    Ok(default == row.default && options.in_range() == row.in_range)
 }
 
 #[test]

@@ -9,7 +9,7 @@ use Rattle.serde_json.specs.Data.{Data, Members, object}
 use Rattle.serde_json.specs.Find.{get, get_member, as_object}
 use Rattle.serde_json.specs.Read.{read}
 use Rattle.nsq_base.specs.declared.options.Options.{Options}
-use Rattle.broker_history.specs.Identify.{Identity, accepted, accepts, said_by, flag_in, number_in, members_of, identity_of, features_text, timeout_in}
+use Rattle.broker_history.specs.Identify.{Identity, accepted, accepts, said_by, flag_in, number_in, identity_of, features_text, timeout_in}
 use Rattle.broker_history.specs.Reply.{identified, error, response, ok_frame}
 use Rattle.std.proofs.lemmas.Bool.{false≢true}
 use Rattle.broker_plain.specs.Features.{features_by, timeout_ms}

@@ -1,6 +1,6 @@
 //! What one caller gets, and what is kept of it, under every cut of its bytes into two pieces.
 
-use crate::hosts::{Caller, Given, plain, run};
+use crate::hosts::{Caller, Given, NOTHING, run};
 use crate::texts::{DATA, NAMES, NO_TOPIC, NOT_BUILT, OK, ONE_TOPIC, RECORD};
 use nsq_base::Memory;
 use std::alloc::Global;
@@ -10,8 +10,8 @@ use std::test::Fail;
 #[derive(Drop)]
 struct Row {
     name: &'static str,
-    /// A publish is the last of them: where it is answered or kept, nothing before it closed the connection.
-    bytes: &'static [u8],
+    /// One caller. A publish is the last of its commands: where that is answered and kept, nothing before it closed the connection.
+    callers: &'static [Caller],
     got: &'static [u8],
     data: Option<&'static [u8]>,
     names: &'static [u8],
@@ -20,7 +20,7 @@ struct Row {
 /// What closes its connection, and leaves nothing.
 const REFUSED: Row = Row {
     name: "",
-    bytes: b"",
+    callers: &[],
     got: b"",
     data: None,
     names: NO_TOPIC,
@@ -29,37 +29,39 @@ const REFUSED: Row = Row {
 const ROWS: [Row; 6] = [
     Row {
         name: "a batch whose last size is too large",
-        bytes: b"  V2MPUB t\n\0\0\0\x10\0\0\0\x02\0\0\0\x02hi\0\0\0\x03hoPUB t\n\0\0\0\x02hi",
+        callers: &[Caller::Tcp(
+            b"  V2MPUB t\n\0\0\0\x10\0\0\0\x02\0\0\0\x02hi\0\0\0\x03hoPUB t\n\0\0\0\x02hi",
+        )],
         got: b"\0\0\0\x17\0\0\0\x01E_BAD_BODY bad body",
         ..REFUSED
     },
     Row {
         name: "a batch is not built yet",
-        bytes: b"  V2MPUB t\n\0\0\0\x0a\0\0\0\x01\0\0\0\x02hiPUB t\n\0\0\0\x02hi",
+        callers: &[Caller::Tcp(b"  V2MPUB t\n\0\0\0\x0a\0\0\0\x01\0\0\0\x02hiPUB t\n\0\0\0\x02hi")],
         got: NOT_BUILT,
         ..REFUSED
     },
     Row {
         name: "a bad word",
-        bytes: b"  V2PUBS t\nPUB t\n\0\0\0\x02hi",
+        callers: &[Caller::Tcp(b"  V2PUBS t\nPUB t\n\0\0\0\x02hi")],
         got: b"\0\0\0\x19\0\0\0\x01E_INVALID bad command",
         ..REFUSED
     },
     Row {
         name: "a bad topic",
-        bytes: b"  V2PUB t!\nPUB t\n\0\0\0\x02hi",
+        callers: &[Caller::Tcp(b"  V2PUB t!\nPUB t\n\0\0\0\x02hi")],
         got: b"\0\0\0\x1e\0\0\0\x01E_BAD_TOPIC bad topic name",
         ..REFUSED
     },
     Row {
         name: "a bad channel",
-        bytes: b"  V2SUB t c!\nPUB t\n\0\0\0\x02hi",
+        callers: &[Caller::Tcp(b"  V2SUB t c!\nPUB t\n\0\0\0\x02hi")],
         got: b"\0\0\0\x22\0\0\0\x01E_BAD_CHANNEL bad channel name",
         ..REFUSED
     },
     Row {
         name: "nothing is answered to a NOP",
-        bytes: b"  V2NOP\nPUB t\n\0\0\0\x02hi",
+        callers: &[Caller::Tcp(b"  V2NOP\nPUB t\n\0\0\0\x02hi")],
         got: OK,
         data: Some(RECORD),
         names: ONE_TOPIC,
@@ -68,10 +70,10 @@ const ROWS: [Row; 6] = [
 
 /// Whether a run ends so whose caller's bytes are cut behind so many.
 fn holds_at<R: Wait>(rt: &R, alloc: Global, row: &Row, first: usize) -> Result<bool, Memory> {
-    let callers = [Caller::Tcp(row.bytes)];
     let given = Given {
+        callers: row.callers,
         first,
-        ..plain(&callers)
+        ..NOTHING
     };
     let outcome = run(rt, alloc, &[], given)?;
     Ok(
@@ -84,9 +86,11 @@ fn holds_at<R: Wait>(rt: &R, alloc: Global, row: &Row, first: usize) -> Result<b
 
 /// The first place at which the bytes are cut so that a run doesn't end so.
 fn broken_at<R: Wait>(rt: &R, alloc: Global, row: &Row) -> Result<Option<usize>, Memory> {
-    for first in 1..=row.bytes.len() {
-        if !holds_at(rt, alloc, row, first)? {
-            return Ok(Some(first));
+    for caller in row.callers {
+        for first in 1..=caller.bytes().len() {
+            if !holds_at(rt, alloc, row, first)? {
+                return Ok(Some(first));
+            }
         }
     }
     Ok(None)

@@ -1,13 +1,13 @@
 //! Runs over three callers, with one fault in each run: what a run told is judged by the plain programs of the history. And what they
 //! refuse: a changed byte, an entry that is missing, two that changed places.
 
-use crate::hosts::{Given, run};
-use crate::three::{LONGEST, Told, run_three, three, told_of};
+use crate::hosts::{Fault, Given, run};
+use crate::three::{LONGEST, THREE, Told, run_three, told_of};
 use history_plain::{Finding, FoundNames, found};
 use nsq_base::{Body, Memory};
-use nsq_fakes::{Failing, FolderCall, MemFolder};
+use nsq_fakes::MemFolder;
 use nsq_outside::{Did, Folder, Host, Kit, Listing};
-use queue_image::NamedFile;
+use queue_plain::NamedFile;
 use std::alloc::Global;
 use std::sync::Wait;
 use std::test::Fail;
@@ -86,7 +86,7 @@ const MOST_FOLDER_CALLS: u64 = 100;
 fn cuts<R: Wait>(rt: &R, alloc: Global) -> Result<Option<u64>, Memory> {
     let mut count: u64 = 0;
     for first in 0..LONGEST {
-        let told = run_three(rt, alloc, Given { first, ..three() })?;
+        let told = run_three(rt, alloc, Given { first, ..THREE })?;
         if !told.is_answered() || !told.holds()? {
             return Ok(None);
         }
@@ -99,11 +99,10 @@ fn cuts<R: Wait>(rt: &R, alloc: Global) -> Result<Option<u64>, Memory> {
 fn failing_reads<R: Wait>(rt: &R, alloc: Global) -> Result<Option<u64>, Memory> {
     let mut count: u64 = 0;
     for number in 0..MOST_CALLS {
-        let reads = [number];
         let given = Given {
             size: 5,
-            reads: &reads,
-            ..three()
+            fault: Fault::Read(number),
+            ..THREE
         };
         let told = run_three(rt, alloc, given)?;
         if !told.holds()? {
@@ -120,10 +119,9 @@ fn failing_reads<R: Wait>(rt: &R, alloc: Global) -> Result<Option<u64>, Memory> 
 /// before it fails.
 fn failing_writes<R: Wait>(rt: &R, alloc: Global) -> Result<Option<u64>, Memory> {
     for number in 0..MOST_CALLS {
-        let writes = [number];
         let given = Given {
-            writes: &writes,
-            ..three()
+            fault: Fault::Write(number),
+            ..THREE
         };
         let told = run_three(rt, alloc, given)?;
         if !told.holds()? {
@@ -254,14 +252,9 @@ fn files_of(alloc: Global, folder: &mut MemFolder) -> Result<Vec<NamedFile>, Mem
 
 /// A run whose folder fails at the call of this number.
 fn run_failing<R: Wait>(rt: &R, alloc: Global, number: u64) -> Result<Left, Memory> {
-    let fails = [Failing {
-        call: FolderCall::Any,
-        from: number,
-        to: number.saturating_add(1),
-    }];
     let given = Given {
-        fails: &fails,
-        ..three()
+        fault: Fault::FolderCall(number),
+        ..THREE
     };
     let mut outcome = run(rt, alloc, &[], given)?;
     let told = told_of(alloc, &outcome, given)?;
@@ -297,9 +290,9 @@ fn counted<R: Wait>(rt: &R, alloc: Global, trial: Trial) -> Result<Option<u64>, 
         Trial::Reads => failing_reads(rt, alloc),
         Trial::Writes => failing_writes(rt, alloc),
         Trial::FolderCalls => failing_folder(rt, alloc),
-        Trial::Bytes => changed_bytes(&mut run_three(rt, alloc, three())?),
-        Trial::Missing => left_out(&run_three(rt, alloc, three())?),
-        Trial::Exchanged => exchanged(&run_three(rt, alloc, three())?),
+        Trial::Bytes => changed_bytes(&mut run_three(rt, alloc, THREE)?),
+        Trial::Missing => left_out(&run_three(rt, alloc, THREE)?),
+        Trial::Exchanged => exchanged(&run_three(rt, alloc, THREE)?),
     }
 }
 

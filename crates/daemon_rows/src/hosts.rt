@@ -4,7 +4,7 @@ ghost use Rattle.nsq_fakes.specs.MemHosts.{state_of};
 
 use history::Entry;
 use nsq_base::{Body, Memory};
-use nsq_fakes::{Failing, MemClock, MemConn, MemFolder, MemHost, MemJournal, Piece};
+use nsq_fakes::{Failing, FolderCall, MemClock, MemConn, MemFolder, MemHost, MemJournal, Piece};
 use nsq_outside::{Kind, Kit};
 use nsqd_core::nsqd_run;
 use std::alloc::Global;
@@ -30,7 +30,7 @@ impl Caller {
         }
     }
 
-    fn bytes(self) -> &'static [u8] {
+    pub fn bytes(self) -> &'static [u8] {
         match self {
             Caller::Tcp(bytes) | Caller::Http(bytes) | Caller::Long(bytes, _) => bytes,
         }
@@ -44,39 +44,76 @@ impl Caller {
     }
 }
 
+/// What fails beside the calls of the folder that are listed: nothing, a read or a write of each caller by its number, or the call of the
+/// folder of a number.
+#[derive(Clone, Copy)]
+pub enum Fault {
+    None,
+    Read(u64),
+    Write(u64),
+    FolderCall(u64),
+}
+
+impl Fault {
+    /// The number of the read that fails.
+    fn reads(self, alloc: Global) -> Result<Vec<u64>, Memory> {
+        let mut numbers = Vec::new(alloc);
+        if let Fault::Read(number) = self {
+            numbers.push(number)?;
+        }
+        Ok(numbers)
+    }
+
+    /// The number of the write that fails.
+    fn writes(self, alloc: Global) -> Result<Vec<u64>, Memory> {
+        let mut numbers = Vec::new(alloc);
+        if let Fault::Write(number) = self {
+            numbers.push(number)?;
+        }
+        Ok(numbers)
+    }
+
+    /// These calls of the folder that fail, and the one of the number.
+    fn folder(self, alloc: Global, fails: &[Failing]) -> Result<Vec<Failing>, Memory> {
+        let mut fails = fails.to_vec(alloc)?;
+        if let Fault::FolderCall(number) = self {
+            fails.push(Failing {
+                call: FolderCall::Any,
+                from: number,
+                to: number.saturating_add(1),
+            })?;
+        }
+        Ok(fails)
+    }
+}
+
 /// What a run is given beside its words.
 #[derive(Clone, Copy)]
-pub struct Given<'a> {
-    pub callers: &'a [Caller],
+pub struct Given {
+    pub callers: &'static [Caller],
     /// How many bytes of each caller come in its first piece.
     pub first: usize,
     /// How many bytes each further piece has at most.
     pub size: usize,
     /// The empty files that the folder has.
-    pub files: &'a [&'static str],
-    /// The readings of the clock.
-    pub readings: &'a [u64],
-    /// The numbers of the reads of each caller that fail.
-    pub reads: &'a [u64],
-    /// The numbers of its writes that fail.
-    pub writes: &'a [u64],
+    pub files: &'static [&'static str],
     /// The calls of the folder that fail.
-    pub fails: &'a [Failing],
+    pub fails: &'static [Failing],
+    /// The readings of the clock.
+    pub readings: &'static [u64],
+    pub fault: Fault,
 }
 
-/// These callers, each in one piece, with nothing that fails.
-pub fn plain(callers: &[Caller]) -> Given<'_> {
-    Given {
-        callers,
-        first: 0,
-        size: ALL,
-        files: &[],
-        readings: &[],
-        reads: &[],
-        writes: &[],
-        fails: &[],
-    }
-}
+/// No caller, and nothing that fails.
+pub const NOTHING: Given = Given {
+    callers: &[],
+    first: 0,
+    size: ALL,
+    files: &[],
+    fails: &[],
+    readings: &[],
+    fault: Fault::None,
+};
 
 /// What a run came to.
 #[derive(Drop)]
@@ -120,7 +157,7 @@ fn add_piece(alloc: Global, pieces: &mut Vec<Piece>, bytes: &[u8]) -> Result<(),
 }
 
 /// The pieces in which these bytes come.
-fn pieces_of(alloc: Global, bytes: &[u8], given: Given<'_>) -> Result<Vec<Piece>, Memory> {
+fn pieces_of(alloc: Global, bytes: &[u8], given: Given) -> Result<Vec<Piece>, Memory> {
     let mut pieces = Vec::new(alloc);
     let (front, back) = bytes.split_at(given.first.min(bytes.len()));
     add_piece(alloc, &mut pieces, front)?;
@@ -132,17 +169,17 @@ fn pieces_of(alloc: Global, bytes: &[u8], given: Given<'_>) -> Result<Vec<Piece>
 }
 
 /// The connection of a caller.
-fn conn_of(alloc: Global, caller: Caller, given: Given<'_>) -> Result<MemConn, Memory> {
+fn conn_of(alloc: Global, caller: Caller, given: Given) -> Result<MemConn, Memory> {
     let mut bytes = Vec::from_slice(alloc, caller.bytes())?;
     bytes.resize(bytes.len().saturating_add(caller.fill()), b'x')?;
     let pieces = pieces_of(alloc, &bytes, given)?;
-    let reads = given.reads.to_vec(alloc)?;
-    let writes = given.writes.to_vec(alloc)?;
+    let reads = given.fault.reads(alloc)?;
+    let writes = given.fault.writes(alloc)?;
     MemConn::new(alloc, pieces, reads, writes)
 }
 
 /// The connections of the callers.
-fn conns_of(alloc: Global, given: Given<'_>) -> Result<Vec<(Kind, MemConn)>, Memory> {
+fn conns_of(alloc: Global, given: Given) -> Result<Vec<(Kind, MemConn)>, Memory> {
     let mut conns = Vec::new(alloc);
     for caller in given.callers {
         conns.push((caller.kind(), conn_of(alloc, *caller, given)?))?;
@@ -151,16 +188,16 @@ fn conns_of(alloc: Global, given: Given<'_>) -> Result<Vec<(Kind, MemConn)>, Mem
 }
 
 /// The folder.
-fn folder_of(alloc: Global, given: Given<'_>) -> Result<MemFolder, Memory> {
+fn folder_of(alloc: Global, given: Given) -> Result<MemFolder, Memory> {
     let mut files = Vec::new(alloc);
     for name in given.files {
         files.push((String::from_str(alloc, name)?, Vec::new(alloc)))?;
     }
-    MemFolder::new(alloc, files, given.fails.to_vec(alloc)?)
+    MemFolder::new(alloc, files, given.fault.folder(alloc, given.fails)?)
 }
 
 /// A host in memory.
-pub fn host_of(alloc: Global, given: Given<'_>) -> Result<MemHost<Entry>, Memory>
+pub fn host_of(alloc: Global, given: Given) -> Result<MemHost<Entry>, Memory>
     ensures { IfOk result (λ host. IsSome (state_of host).kit) }
 {
     let conns = conns_of(alloc, given)?;
@@ -187,8 +224,10 @@ pub fn run<R: Wait>(
     rt: &R,
     alloc: Global,
     further: &[&str],
-    given: Given<'_>,
-) -> Result<Outcome, Memory> {
+    given: Given,
+) -> Result<Outcome, Memory>
+    ensures { IfOk result (λ outcome. IsSome (state_of outcome.host).kit) }
+{
     let mut host = host_of(alloc, given)?;
     let words = words_of(alloc, further)?;
     let status = nsqd_run(rt, alloc, &words, &mut host);

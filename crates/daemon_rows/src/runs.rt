@@ -1,6 +1,6 @@
 //! Whole runs over callers that send a few commands each: the status, what is told and printed, what each caller gets, and the files.
 
-use crate::hosts::{ALL, Caller, Given, Outcome, plain, run};
+use crate::hosts::{ALL, Caller, Given, NOTHING, Outcome, run};
 use crate::texts::{
     BAD_SIZE, DATA, META, NAMES, NO_TOPIC, OK, ONE_RECORD, ONE_TOPIC, PUBLISH, RECORD,
 };
@@ -281,10 +281,11 @@ fn have_got(outcome: &Outcome, got: &[&[u8]]) -> bool {
 /// Whether a run ends so.
 fn holds<R: Wait>(rt: &R, alloc: Global, row: &Row) -> Result<bool, Memory> {
     let given = Given {
+        callers: row.callers,
         size: row.size,
         files: row.files,
         fails: row.fails,
-        ..plain(row.callers)
+        ..NOTHING
     };
     let outcome = run(rt, alloc, row.words, given)?;
     Ok(

@@ -1,6 +1,6 @@
 //! Three callers, and what a run over them told, judged by the plain programs of the history.
 
-use crate::hosts::{Caller, Given, Outcome, plain, run};
+use crate::hosts::{Caller, Fault, Given, NOTHING, Outcome, run};
 use crate::texts::{BAD_SIZE, NOT_BUILT, OK};
 use history::{Act, Ended, Entry};
 use history_plain::{State, is_legal, is_talk};
@@ -54,12 +54,11 @@ pub const LONGEST: usize = 46;
 const READINGS: [u64; 10] = [7, 5, 9, 8, 12, 0, 12, 15, 1 << 63, 20];
 
 /// The three callers, each in one piece, and nothing that fails.
-pub fn three<'a>() -> Given<'a> {
-    Given {
-        readings: &READINGS,
-        ..plain(&CALLERS)
-    }
-}
+pub const THREE: Given = Given {
+    callers: &CALLERS,
+    readings: &READINGS,
+    ..NOTHING
+};
 
 /// What a run told of a caller: its number, what it sent and got, and how its conversation ended.
 #[derive(Drop)]
@@ -288,15 +287,11 @@ fn stops_before_gone(number: u64, entries: &[(Entry, End)]) -> bool {
 }
 
 /// How a conversation ended: as it ends by itself where all was answered.
-fn ended_of(talk: &Talk, out: &[u8], given: Given<'_>) -> Ended {
-    if is_answered(talk.answers, out) {
-        talk.ended
-    } else if !given.reads.is_empty() {
-        Ended::ReadFault
-    } else if !given.writes.is_empty() {
-        Ended::WriteFault
-    } else {
-        talk.ended
+fn ended_of(talk: &Talk, out: &[u8], fault: Fault) -> Ended {
+    match fault {
+        Fault::Read(_) if !is_answered(talk.answers, out) => Ended::ReadFault,
+        Fault::Write(_) if !is_answered(talk.answers, out) => Ended::WriteFault,
+        _ => talk.ended,
     }
 }
 
@@ -315,14 +310,14 @@ fn heard_of(alloc: Global, number: u64, conn: &MemConn, ended: Ended) -> Result<
 }
 
 /// What a run over the three callers told.
-pub fn told_of(alloc: Global, outcome: &Outcome, given: Given<'_>) -> Result<Told, Memory> {
+pub fn told_of(alloc: Global, outcome: &Outcome, given: Given) -> Result<Told, Memory> {
     let entries = match outcome.host.kit() {
         Some(kit) => copies_of(alloc, kit.journal.entries())?,
         None => Vec::new(alloc),
     };
     let mut callers = Vec::new(alloc);
     for ((number, conn), talk) in outcome.host.back().iter().zip(&TALKS) {
-        let ended = ended_of(talk, conn.bytes_written(), given);
+        let ended = ended_of(talk, conn.bytes_written(), given.fault);
         callers.push(heard_of(alloc, *number, conn, ended)?)?;
     }
     Ok(Told {
@@ -334,7 +329,7 @@ pub fn told_of(alloc: Global, outcome: &Outcome, given: Given<'_>) -> Result<Tol
 }
 
 /// A run over the three callers.
-pub fn run_three<R: Wait>(rt: &R, alloc: Global, given: Given<'_>) -> Result<Told, Memory> {
+pub fn run_three<R: Wait>(rt: &R, alloc: Global, given: Given) -> Result<Told, Memory> {
     let outcome = run(rt, alloc, &[], given)?;
     told_of(alloc, &outcome, given)
 }

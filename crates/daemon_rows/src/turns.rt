@@ -425,7 +425,7 @@ fn are_answered(
 }
 
 /// What an act is.
-fn what(act: &Act) -> What {
+fn what_of(act: &Act) -> What {
     match act {
         Act::Began => What::Began,
         Act::Did(_, _) => What::Did,
@@ -440,7 +440,7 @@ fn are_noted(entries: &[(Entry, End)], noted: &[(u64, u64, What)]) -> bool {
     for ((entry, end), (number, at, done)) in entries.iter().zip(noted) {
         if entry.conn != *number
             || entry.at != *at
-            || what(&entry.act) != *done
+            || what_of(&entry.act) != *done
             || *end != End::Done
         {
             return false;

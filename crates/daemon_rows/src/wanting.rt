@@ -107,7 +107,7 @@ fn is_stop(entry: &Entry) -> bool {
 
 impl Dialer for WantingHost {
     ghost use Rattle.std.specs.Prelude.{[], false};
-    ghost use Rattle.nsq_fakes.specs.MemHosts.{dial_faults_of, dial_count_fits};
+    ghost use Rattle.nsq_fakes.specs.MemHosts.{dial_faults_of, dial_faults_fit};
 
     type Conn = MemConn;
 
@@ -123,12 +123,12 @@ impl Dialer for WantingHost {
         self.outside.dial(rt, address)
     }
 
-    ghost dial_faults_fit = { λ host. dial_count_fits host.outside };
+    ghost dial_faults_fit = { λ host. dial_faults_fit host.outside };
 }
 
 impl Host<Entry> for WantingHost {
     ghost use Rattle.std.specs.Prelude.{refl, [], false, None, Some};
-    ghost use Rattle.std.proofs.Common.{ap, rules};
+    ghost use Rattle.std.proofs.Common.{ap, arith};
     ghost use Rattle.std.proofs.lemmas.Bool.{false≢true};
 
     type Folder = MemFolder;
@@ -201,7 +201,7 @@ impl Host<Entry> for WantingHost {
 
     ghost back_given = { λ h told. absurd (false≢true told) };
 
-    ghost faults_fit = { λ h. record { accept = h.accept_faults.fits; print = Prim.search rules; tell = Prim.search rules } };
+    ghost faults_fit = { λ h. record { accept = h.accept_faults.fits; print = Prim.omega arith; tell = Prim.omega arith } };
 }
 
 /// A journal that finds no memory for the first so many entries that are a Stop.

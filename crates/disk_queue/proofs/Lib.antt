@@ -7,6 +7,4 @@ pub mod Turning
 pub mod Peeked
 pub mod Advances
 pub mod ListDropped
-pub mod OpeningReads
-pub mod OpeningLists
 pub mod OpeningDone

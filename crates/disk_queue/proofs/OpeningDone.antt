@@ -23,7 +23,7 @@ use Rattle.queue_opening.specs.declared.refusal.Open.{Open}
 use Rattle.queue_opening.specs.declared.refusal.Open.TheVariants.{Fault, BadMeta as IsBadMeta, Memory}
 use Rattle.queue_opening.specs.declared.plan.Plan.{Plan}
 use Rattle.queue_opening.proofs.Walks.{file_order}
-use Rattle.disk_queue.proofs.OpeningLists.{Listed, listed, ends_all, gone_below, aside_own, aside_from, tidied_at}
+use Rattle.queue_opening.proofs.Lists.{Listed, listed, ends_all, gone_below, aside_own, aside_from, tidied_at}
 
 abbrev pub bad_of : Finding → List ℕ
 bad_of BadMeta = []

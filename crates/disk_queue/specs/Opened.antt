@@ -10,7 +10,7 @@ use Rattle.disk_queue.specs.Seen.{Seen}
 use Rattle.disk_queue.specs.Holding.{Holds}
 use Rattle.queue_image.specs.Metas.{Says}
 use Rattle.disk_queue.specs.Answers.{IsKept}
-pub use Rattle.queue_opening.specs.Tidied.{IsSetAside}
+pub use Rattle.queue_opening.specs.Tidied.{IsSetAside, IsTidiedAt}
 pub use Rattle.queue_opening.specs.Refusals.{OpenFails}
 use Rattle.queue_opening.specs.declared.refusal.Open.{Open}
 use Rattle.queue_opening.specs.declared.refusal.Open.TheVariants.{Fault, BadMeta as IsBadMeta, Memory}
@@ -24,18 +24,6 @@ pub record IsOpened (q : Seen) (old new : Files) : Type 0 where
   pub kept : IsKept q new bodies
   pub ends : length (content new q.name q.positions.write_file) ≡ q.positions.write_at
   pub nothing : bodies ≡ [] → IsAtEnd q.positions × (q.positions.write_at ≡ 0)
-
--- with metadata of these positions, where these files are bad. Set aside are those above the write file and the bad ones, and none else;
--- those below the read file are gone, and the good ones before the write file stay. Writing goes on in the write file, cut at the write position;
--- or where that is bad, at the start of the next file, whose number is at most 2 ^ 40
-pub record IsTidiedAt (name : List ℕ) (old new : Files) (p : Positions) (bad_files : List ℕ) (q : Positions) : Type 0 where
-  pub removed : (k : ℕ) → k < p.read_file → new (data_file name k) ≡ None
-  pub above : (k : ℕ) → p.write_file < k → k < 2 ^ 64 → IsSetAside name old new q.write_file k
-  pub bad : (k : ℕ) → Contains bad_files k → IsSetAside name old new q.write_file k
-  pub kept_aside : (k : ℕ) → k ≤ p.write_file → ¬ Contains bad_files k → new (set_aside (data_file name k)) ≡ old (set_aside (data_file name k))
-  pub good : (k : ℕ) → q.read_file ≤ k → k < p.write_file → ¬ Contains bad_files k → new (data_file name k) ≡ old (data_file name k)
-  pub same_write : ¬ Contains bad_files p.write_file → (q.write_file ≡ p.write_file) × (new (data_file name p.write_file) ≡ Some (cut_to (content old name p.write_file) q.write_at))
-  pub next_write : Contains bad_files p.write_file → (q.write_file ≡ min (p.write_file + 1) (2 ^ 40)) × (q.write_at ≡ 0)
 
 -- what becomes of the files. Without metadata every data file is set aside, and writing begins at file 0. The metadata and its temporary are
 -- never set aside, and no temporary is left

@@ -1,7 +1,7 @@
 use queue_image::Positions;
 
 /// The records behind the list that aren't in it yet.
-#[derive(Clone, Copy, Debug, PartialEq, Eq)]
+#[derive(Clone, Copy)]
 pub struct Staged {
     /// The number of the file where they end.
     pub file: u64,
@@ -12,7 +12,7 @@ pub struct Staged {
 }
 
 /// What is known of the last save.
-#[derive(Clone, Copy, Debug, PartialEq, Eq)]
+#[derive(Clone, Copy)]
 pub struct LastSave {
     /// The positions that the last finished save wrote; before the first one those of the queue's making.
     pub positions: Positions,

@@ -1,5 +1,5 @@
 ghost use Rattle.std.specs.Prelude.{◌≡◌, ◌≤◌, length, map, All, IfOk, MatchOption};
-ghost use Rattle.queue_image.specs.Folders.{files_of};
+ghost use Rattle.queue_plain.specs.Folders.{files_of};
 ghost use Rattle.queue_image.specs.FileNames.{channel_queue};
 ghost use Rattle.queue_image.specs.Finds.{BadMeta};
 ghost use Rattle.history.specs.Data.{KeptChannel};
@@ -10,7 +10,7 @@ use crate::names::LAST_EPOCH;
 use crate::{KeptChannel, KeptTopic, read_names};
 use nsq_base::{Bodies, Body, Chan, Memory, Topic};
 use queue_image::file_names::channel_queue;
-use queue_image::{NamedFile, found_queue, look_up};
+use queue_plain::{NamedFile, found_queue, look_up};
 use std::alloc::Global;
 use std::marker::Model;
 use v2_frame::{Message, Taken};
@@ -205,8 +205,8 @@ fn messages_in(
     ensures { IfOk result (λ messages. MatchOption messages (IsFoundQueue (files_of files.now) name.now BadMeta) (λ found. HasMessages (files_of files.now) name.now found.items)) }
 {
     match found_queue(alloc, files, name, LEAST_RECORD, LONGEST_RECORD)? {
-        queue_image::Found::BadMeta => Ok(None),
-        queue_image::Found::Records(listing) => Ok(Some(messages_of(alloc, &listing.bodies)?)),
+        queue_plain::Found::BadMeta => Ok(None),
+        queue_plain::Found::Records(listing) => Ok(Some(messages_of(alloc, &listing.bodies)?)),
     }
 }
 

@@ -17,7 +17,7 @@ pub fn is_legal(
 {
     let mut state = start;
     for (entry, end) in history {
-        match step(alloc, &state, entry, *end)? {
+        match step(alloc, state, entry, *end)? {
             Some(next) => state = next,
             None => return Ok(None),
         }

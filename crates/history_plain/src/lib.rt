@@ -3,6 +3,7 @@
 //! folder finds.
 #![tactic(auto)]
 
+mod by_name;
 mod findings;
 mod histories;
 mod names;

@@ -5,6 +5,7 @@ ghost use Rattle.history.specs.Data.{SaysChannel, SaysTopic, SaysEpoch, IsNames,
 ghost use Rattle.history_plain.specs.Reads.{Answers};
 ghost use Rattle.history.specs.Once.{channel_once, topic_once};
 
+use crate::by_name::Named;
 use crate::names_lists::{Listed, flag, name_in, present, read_list};
 use nsq_base::{Chan, Memory, Topic};
 use serde_json::Value;
@@ -70,10 +71,16 @@ impl Model for KeptNames {
     ghost view = { λ k. record { epoch = k.epoch; topics = k.topics.items } };
 }
 
+impl Named for KeptChannel {
+    ghost name_of = { λ c. c.name };
+
+    fn name(&self) -> &[u8] {
+        self.name.bytes()
+    }
+}
+
 impl Listed for KeptChannel {
     ghost says = { SaysChannel };
-
-    ghost name_of = { λ c. c.name };
 
     fn read(alloc: Global, item: &Value) -> Result<Option<KeptChannel>, Memory> {
         let (Some(name), Some(paused)) = (name_in(item), flag(item)) else {
@@ -85,17 +92,19 @@ impl Listed for KeptChannel {
         }
     }
 
+    ghost once = { channel_once };
+}
+
+impl Named for KeptTopic {
+    ghost name_of = { λ t. t.name };
+
     fn name(&self) -> &[u8] {
         self.name.bytes()
     }
-
-    ghost once = { channel_once };
 }
 
 impl Listed for KeptTopic {
     ghost says = { SaysTopic };
-
-    ghost name_of = { λ t. t.name };
 
     fn read(alloc: Global, item: &Value) -> Result<Option<KeptTopic>, Memory> {
         let (Some(name), Some(paused)) = (name_in(item), flag(item)) else {
@@ -112,10 +121,6 @@ impl Listed for KeptTopic {
             })),
             None => Ok(None),
         }
-    }
-
-    fn name(&self) -> &[u8] {
-        self.name.bytes()
     }
 
     ghost once = { topic_once };

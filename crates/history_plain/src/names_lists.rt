@@ -1,31 +1,25 @@
-ghost use Rattle.std.specs.Prelude.{◌≡◌, ℕ, List, [], fold, IfOk, option_map, option_and_then, codes};
-ghost use Rattle.std.specs.List.{filter, list_any};
+ghost use Rattle.std.specs.Prelude.{◌≡◌, IfOk, option_map, option_and_then, codes};
+ghost use Rattle.std.specs.List.{list_any};
 ghost use Rattle.std.specs.Str.{bytes_eq};
 ghost use Rattle.serde_json.specs.Data.{Data};
 ghost use Rattle.serde_json.specs.Find.{get, as_str};
 ghost use Rattle.serde_json.specs.View.{view, items_view};
 ghost use Rattle.nsq_base.specs.Name.{is_ephemeral};
-ghost use Rattle.nsq_base.specs.Names.{is_before, put_by};
-ghost use Rattle.history.specs.Data.{SaysFlag, in_order};
+ghost use Rattle.history.specs.Data.{SaysFlag};
 ghost use Rattle.history_plain.specs.Reads.{Answers, ItemsKeep, ListKeeps, present};
 
+use crate::by_name::{Named, in_order};
 use nsq_base::Memory;
 use serde_json::Value;
 use std::alloc::Global;
 
 /// What stands in a list of the file of names.
-pub trait Listed: Drop {
+pub trait Listed: Named {
     ghost says: { Data → Self → Type 0 };
-
-    ghost name_of: { Self → List ℕ };
 
     /// What an item says, None where it says nothing.
     fn read(alloc: Global, item: &Value) -> Result<Option<Self>, Memory>
         ensures { IfOk result (Answers says (view item.now)) };
-
-    /// Its name.
-    fn name(&self) -> &[u8]
-        ensures { result.now ≡ name_of self.now };
 
     ghost once: { (item : Data) (x y : Self) → says item x → says item y → x ≡ y };
 }
@@ -108,51 +102,4 @@ fn has<X: Listed>(durables: &[X], listed: &X) -> bool
     ensures { result ≡ list_any (λ other. bytes_eq (X.name_of other) (X.name_of listed.now)) durables.now }
 {
     durables.iter().any(|other| other.name() == listed.name())
-}
-
-// In byte order of their names.
-fn in_order<X: Listed>(alloc: Global, durables: Vec<X>) -> Result<Vec<X>, Memory>
-    ensures { IfOk result (λ kept. kept.items ≡ fold (put_by X.name_of) [] durables.items) }
-{
-    let mut kept = Vec::new(alloc);
-    for listed in durables {
-        kept = put(alloc, kept, listed)?;
-    }
-    Ok(kept)
-}
-
-// With one more at its place in byte order.
-fn put<X: Listed>(alloc: Global, kept: Vec<X>, listed: X) -> Result<Vec<X>, Memory>
-    ensures { IfOk result (λ all. all.items ≡ put_by X.name_of kept.items listed) }
-{
-    let (mut all, after) = split(alloc, kept, &listed)?;
-    all.push(listed)?;
-    for other in after {
-        all.push(other)?;
-    }
-    Ok(all)
-}
-
-// Those that come before one in byte order, and those that come after it.
-fn split<X: Listed>(alloc: Global, kept: Vec<X>, listed: &X) -> Result<(Vec<X>, Vec<X>), Memory>
-    ensures { IfOk result (λ sides. (sides.0.items ≡ filter (λ other. is_before (X.name_of other) (X.name_of listed.now)) kept.items)
-        × (sides.1.items ≡ filter (λ other. is_before (X.name_of listed.now) (X.name_of other)) kept.items)) }
-{
-    let mut before = Vec::new(alloc);
-    let mut after = Vec::new(alloc);
-    for other in kept {
-        if is_before(&other, listed) {
-            before.push(other)?;
-        } else if is_before(listed, &other) {
-            after.push(other)?;
-        }
-    }
-    Ok((before, after))
-}
-
-// Whether one comes before another in byte order.
-fn is_before<X: Listed>(a: &X, b: &X) -> bool
-    ensures { result ≡ is_before (X.name_of a.now) (X.name_of b.now) }
-{
-    a.name().cmp(b.name()).is_lt()
 }

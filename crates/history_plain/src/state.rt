@@ -1,9 +1,9 @@
-ghost use Rattle.std.specs.Prelude.{◌≡◌, IfOk, Bool, IsTrue};
+ghost use Rattle.std.specs.Prelude.{◌≡◌, [], ◌∷◌, ◌++◌, IfOk, OnOk, Bool, IsTrue};
 ghost use Rattle.std.specs.Str.{bytes_eq};
-ghost use Rattle.nsq_base.specs.Names.{is_before};
 ghost use Rattle.history.specs.State.{is_there, has_begun, with_client, without_client};
 
-use nsq_base::{Body, Memory, Options, Topic};
+use crate::by_name::Named;
+use nsq_base::{Memory, Options, Topic};
 use std::alloc::Global;
 use std::marker::Model;
 use v2_frame::Message;
@@ -93,13 +93,21 @@ impl Model for State {
     ghost invariant = { λ s. s.epoch < 2 ^ 24 };
 }
 
+impl Named for TopicState {
+    ghost name_of = { λ t. t.name };
+
+    fn name(&self) -> &[u8] {
+        self.name.bytes()
+    }
+}
+
 impl Waiting {
     /// A copy. Want of memory is the only error.
     pub fn copy(&self, alloc: Global) -> Result<Waiting, Memory>
         ensures { IfOk result (λ waiting. waiting ≡ self.now) }
     {
         Ok(Waiting {
-            message: copy_message(alloc, &self.message)?,
+            message: self.message.copy(alloc)?,
             loose: self.loose,
         })
     }
@@ -111,13 +119,6 @@ impl TopicState {
         ensures { result ≡ bytes_eq name.now self.now.name }
     {
         name.bytes() == self.name.bytes()
-    }
-
-    /// Whether its name comes before another topic's in byte order.
-    pub fn is_before(&self, other: &TopicState) -> bool
-        ensures { result ≡ is_before self.now.name other.now.name }
-    {
-        self.name.bytes().cmp(other.name.bytes()).is_lt()
     }
 
     /// A copy. Want of memory is the only error.
@@ -134,22 +135,6 @@ impl TopicState {
 }
 
 impl State {
-    /// A copy. Want of memory is the only error.
-    pub fn copy(&self, alloc: Global) -> Result<State, Memory>
-        ensures { IfOk result (λ state. state ≡ self.now) }
-    {
-        Ok(State {
-            options: self.options.copy(alloc)?,
-            epoch: self.epoch,
-            ids_used: self.ids_used,
-            moment: self.moment,
-            stopped: self.stopped,
-            clients: copy_clients(alloc, &self.clients)?,
-            began: Vec::from_slice(alloc, &self.began)?,
-            topics: copy_topics(alloc, &self.topics)?,
-        })
-    }
-
     /// Whether the client of this connection is there.
     pub fn is_there(&self, number: u64) -> bool
         ensures { result ≡ is_there self.now number }
@@ -168,8 +153,7 @@ impl State {
     pub fn with_client(mut self, at: u64, number: u64) -> Result<State, Memory>
         ensures { IfOk result (λ state. state ≡ with_client self at number) }
     {
-        self.clients.push(Client { number })?;
-        self.began.push(number)?;
+        add_client(&mut self.clients, &mut self.began, number)?;
         Ok(self)
     }
 
@@ -182,17 +166,13 @@ impl State {
     }
 }
 
-// A copy of a message.
-fn copy_message(alloc: Global, message: &Message) -> Result<Message, Memory>
-    ensures { IfOk result (λ copy. copy ≡ message.now) }
+// Adds a client of this number, which began.
+fn add_client(clients: &mut Vec<Client>, began: &mut Vec<u64>, number: u64) -> Result<(), Memory>
+    ensures { OnOk result ((clients.new.items ≡ clients.old.items ++ record { number = number } ∷ []) × (began.new.items ≡ began.old.items ++ number ∷ [])) }
 {
-    Ok(Message {
-        stamp: message.stamp,
-        attempts: message.attempts,
-        id: message.id,
-        body: Body::copy(alloc, message.body.bytes())?,
-        delay: message.delay,
-    })
+    clients.push(Client { number })?;
+    began.push(number)?;
+    Ok(())
 }
 
 // Copies of messages that wait.
@@ -202,30 +182,6 @@ fn copy_waiting(alloc: Global, waiting: &[Waiting]) -> Result<Vec<Waiting>, Memo
     let mut copies = Vec::new(alloc);
     for w in waiting {
         copies.push(w.copy(alloc)?)?;
-    }
-    Ok(copies)
-}
-
-// Copies of clients.
-fn copy_clients(alloc: Global, clients: &[Client]) -> Result<Vec<Client>, Memory>
-    ensures { IfOk result (λ copies. copies.items ≡ clients.now) }
-{
-    let mut copies = Vec::new(alloc);
-    for client in clients {
-        copies.push(Client {
-            number: client.number,
-        })?;
-    }
-    Ok(copies)
-}
-
-// Copies of topics.
-fn copy_topics(alloc: Global, topics: &[TopicState]) -> Result<Vec<TopicState>, Memory>
-    ensures { IfOk result (λ copies. copies.items ≡ topics.now) }
-{
-    let mut copies = Vec::new(alloc);
-    for topic in topics {
-        copies.push(topic.copy(alloc)?)?;
     }
     Ok(copies)
 }

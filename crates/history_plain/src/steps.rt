@@ -1,14 +1,14 @@
-ghost use Rattle.std.specs.Prelude.{◌≡◌, ◌<◌, ◌^◌, ◌↔◌, IfOk, IsTrue, Option, Some, false, ◌∷◌, [], MatchOption};
-ghost use Rattle.std.specs.List.{filter, find};
-ghost use Rattle.nsq_base.specs.Names.{is_before};
+ghost use Rattle.std.specs.Prelude.{◌≡◌, ◌+◌, ◌<◌, ◌^◌, ◌↔◌, IfOk, IsTrue, Option, Some, false, ◌∷◌, [], MatchOption};
+ghost use Rattle.std.specs.List.{find};
 ghost use Rattle.std.specs.Option.{option_copied};
 ghost use Rattle.std.specs.Str.{bytes_eq};
 ghost use Rattle.nsq_outside.specs.declared.journal.End.TheVariants.{Done};
-ghost use Rattle.history.specs.State.{topic_or_new, put_topic, put_message, published_message, published};
+ghost use Rattle.history.specs.State.{topic_or_new, put_topic, put_message, published_topic, published};
 ghost use Rattle.history.specs.Reply.{reply, refusal, ok_frame};
 ghost use Rattle.history.specs.Step.{IsServed, CanFault, IsAllowedAct, IsAllowed, DoesCommand, DoesAct};
 ghost use Rattle.history.specs.Legal.{Step, MayStep};
 
+use crate::by_name::put;
 use crate::replies::{has_ids, ok_frame, refusal, reply, same_frame, same_reply};
 use crate::{State, TopicState, Waiting};
 use history::{Act, Entry};
@@ -18,14 +18,13 @@ use std::alloc::Global;
 use v2_frame::{Command, Fault, Frame, Message};
 
 /// The state behind the entry, where it may stand behind this state with this end; None where it may not.
-pub fn step(alloc: Global, state: &State, entry: &Entry, end: End) -> Result<Option<State>, Memory>
-    ensures { IfOk result (λ next. MatchOption next (¬ MayStep state.now entry.now end) (Step state.now (entry.now, end))) }
+pub fn step(alloc: Global, state: State, entry: &Entry, end: End) -> Result<Option<State>, Memory>
+    ensures { IfOk result (λ next. MatchOption next (¬ MayStep state entry.now end) (Step state (entry.now, end))) }
 {
     let timely = state.moment <= entry.at && entry.at <= 1 << 62;
-    if !timely || !is_allowed(alloc, state, entry, end)? {
+    if !timely || !is_allowed(alloc, &state, entry, end)? {
         return Ok(None);
     }
-    let state = state.copy(alloc)?;
     let mut state = act(alloc, state, entry, end)?;
     state.moment = entry.at;
     Ok(Some(state))
@@ -165,15 +164,37 @@ fn carry_out(alloc: Global, state: State, entry: &Entry, command: &Command) -> R
 }
 
 // The state after a message of this body was published.
-fn publish(
+fn publish(alloc: Global, state: State, at: u64, name: &Topic, body: &Body) -> Result<State, Memory>
+    requires { state.ids_used < 2 ^ 40 }
+    ensures { IfOk result (λ next. next ≡ published state at 0 name.now (body.now ∷ [])) }
+{
+    let topic = published_topic(alloc, &state, at, name, body)?;
+    with_topic(alloc, state, topic)
+}
+
+// The state with this topic at its place, after one more id was used.
+fn with_topic(alloc: Global, state: State, topic: TopicState) -> Result<State, Memory>
+    requires { state.ids_used < 2 ^ 40 }
+    ensures { IfOk result (λ next. next ≡ record state { ids_used = state.ids_used + 1; topics = put_topic state.topics topic }) }
+{
+    let topics = put(alloc, state.topics, topic)?;
+    Ok(State {
+        ids_used: state.ids_used + 1,
+        topics,
+        ..state
+    })
+}
+
+// The topic of this name after a message of this body was published to it with the next id.
+fn published_topic(
     alloc: Global,
-    mut state: State,
+    state: &State,
     at: u64,
     name: &Topic,
     body: &Body,
-) -> Result<State, Memory>
-    requires { state.ids_used < 2 ^ 40 }
-    ensures { IfOk result (λ next. next ≡ published state at 0 name.now (body.now ∷ [])) }
+) -> Result<TopicState, Memory>
+    requires { state.now.ids_used < 2 ^ 40 }
+    ensures { IfOk result (λ topic. topic ≡ published_topic state.now at 0 name.now (body.now ∷ [])) }
 {
     let message = Message {
         stamp: at,
@@ -182,11 +203,8 @@ fn publish(
         body: Body::copy(alloc, body.bytes())?,
         delay: 0,
     };
-    let topic = topic_or_new(alloc, &state, name)?;
-    let topic = put_message(topic, state.options.mem_queue_size, message)?;
-    state.ids_used += 1;
-    state.topics = put_topic(alloc, &state.topics, topic)?;
-    Ok(state)
+    let topic = topic_or_new(alloc, state, name)?;
+    put_message(topic, state.options.mem_queue_size, message)
 }
 
 // A copy of the topic of this name, as it is made where there is none.
@@ -227,55 +245,4 @@ fn put_message(mut topic: TopicState, mem: u64, message: Message) -> Result<Topi
     topic.count = topic.count.saturating_add(1);
     topic.waiting.push(Waiting { message, loose })?;
     Ok(topic)
-}
-
-// The topics with this one at its place in byte order, in place of the one of its name.
-fn put_topic(
-    alloc: Global,
-    topics: &[TopicState],
-    topic: TopicState,
-) -> Result<Vec<TopicState>, Memory>
-    ensures { IfOk result (λ all. all.items ≡ put_topic topics.now topic) }
-{
-    let mut all = topics_before(alloc, topics, &topic)?;
-    let after = topics_after(alloc, topics, &topic)?;
-    all.push(topic)?;
-    for other in after {
-        all.push(other)?;
-    }
-    Ok(all)
-}
-
-// Copies of the topics whose names come before this one's.
-fn topics_before(
-    alloc: Global,
-    topics: &[TopicState],
-    topic: &TopicState,
-) -> Result<Vec<TopicState>, Memory>
-    ensures { IfOk result (λ found. found.items ≡ filter (λ other. is_before other.name topic.now.name) topics.now) }
-{
-    let mut found = Vec::new(alloc);
-    for other in topics {
-        if other.is_before(topic) {
-            found.push(other.copy(alloc)?)?;
-        }
-    }
-    Ok(found)
-}
-
-// Copies of the topics whose names come after this one's.
-fn topics_after(
-    alloc: Global,
-    topics: &[TopicState],
-    topic: &TopicState,
-) -> Result<Vec<TopicState>, Memory>
-    ensures { IfOk result (λ found. found.items ≡ filter (λ other. is_before topic.now.name other.name) topics.now) }
-{
-    let mut found = Vec::new(alloc);
-    for other in topics {
-        if topic.is_before(other) {
-            found.push(other.copy(alloc)?)?;
-        }
-    }
-    Ok(found)
 }

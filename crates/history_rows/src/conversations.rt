@@ -39,25 +39,34 @@ struct Row {
 }
 
 const OK: &[u8] = b"\0\0\0\x06\0\0\0\0OK";
+
 const NO_MEMORY: &[u8] = b"\0\0\0\x1a\0\0\0\x01E_MEMORY out of memory";
+
 const BAD_SIZE: &[u8] = b"\0\0\0\x1a\0\0\0\x01E_BAD_MESSAGE bad size";
+
 const BAD_BODY: &[u8] = b"\0\0\0\x17\0\0\0\x01E_BAD_BODY bad body";
+
 const BAD_MAGIC: &[u8] = b"\0\0\0\x12\0\0\0\x01E_BAD_PROTOCOL";
 
 /// A publish of `hi`, of a body above the limit, of none, and one whose body breaks off.
 const PUB: &[u8] = b"  V2PUB t\n\0\0\0\x02hi";
+
 const LONG_PUB: &[u8] = b"  V2PUB t\n\0\0\0\x03hi!";
+
 const EMPTY_PUB: &[u8] = b"  V2PUB t\n\0\0\0\0";
+
 const CUT_PUB: &[u8] = b"  V2PUB t\n\0\0\0\x02h";
 
 /// A publish of `hi`, a byte a piece.
 const BYTE_BY_BYTE: Pieces = &[
-    b" ", b" ", b"V", b"2", b"P", b"U", b"B", b" ", b"t", b"\n", b"\0", b"\0", b"\0", b"\x02", b"h", b"i",
+    b" ", b" ", b"V", b"2", b"P", b"U", b"B", b" ", b"t", b"\n", b"\0", b"\0", b"\0", b"\x02",
+    b"h", b"i",
 ];
 
 /// The same, and then an empty piece.
 const EMPTY_PIECE: Pieces = &[
-    b" ", b" ", b"V", b"2", b"P", b"U", b"B", b" ", b"t", b"\n", b"\0", b"\0", b"\0", b"\x02", b"h", b"i", b"",
+    b" ", b" ", b"V", b"2", b"P", b"U", b"B", b" ", b"t", b"\n", b"\0", b"\0", b"\0", b"\x02",
+    b"h", b"i", b"",
 ];
 
 /// A publish of `a`, `b` and `c` in one batch, in three pieces, and the same with a last size above what is left.
@@ -66,21 +75,31 @@ const BATCH: Pieces = &[
     b"\x01",
     b"c",
 ];
+
 const CUT_BATCH: Pieces = &[
     b"  V2MPUB t\n\0\0\0\x13\0\0\0\x03\0\0\0\x01a\0\0\0\x01b\0\0\0",
     b"\x02",
     b"c",
 ];
-const CUT_BATCH_AT_ONCE: Pieces =
-    &[b"  V2MPUB t\n\0\0\0\x13\0\0\0\x03\0\0\0\x01a\0\0\0\x01b\0\0\0\x02c"];
+
+const CUT_BATCH_AT_ONCE: Pieces = &[
+    b"  V2MPUB t\n\0\0\0\x13\0\0\0\x03\0\0\0\x01a\0\0\0\x01b\0\0\0\x02c",
+];
 
 const BEGAN: Told = Told::Began;
+
 const HI: Told = Told::Pub(b"hi");
+
 const GONE: Told = Told::Gone;
+
 const THREE: Told = Told::Mpub(&[b"a", b"b", b"c"]);
+
 const WRONG_MAGIC: Told = Told::Refused(FaultKind::BadMagic, 0, b"E_BAD_PROTOCOL");
+
 const WRONG_SIZE: Told = Told::Refused(FaultKind::BadSize, 10, b"E_BAD_MESSAGE bad size");
+
 const WRONG_PLACE: Told = Told::Refused(FaultKind::BadSize, 14, b"E_BAD_MESSAGE bad size");
+
 const WRONG_BODY: Told = Told::Refused(FaultKind::BadBody, 29, b"E_BAD_BODY bad body");
 
 const ROWS: [Row; 49] = [
@@ -553,7 +572,13 @@ fn act_of(alloc: Global, topic: Topic, told: Told) -> Result<Act, Memory> {
         Told::Refused(kind, at, error) => {
             let body = Body::copy(alloc, error)?;
             let kind_of = FrameKind::Error;
-            Ok(Act::Refused(Fault { kind, at }, Frame { kind: kind_of, body }))
+            Ok(Act::Refused(
+                Fault { kind, at },
+                Frame {
+                    kind: kind_of,
+                    body,
+                },
+            ))
         }
         Told::Gone => Ok(Act::Gone),
     }

@@ -2,7 +2,7 @@
 
 use history_plain::{Finding, FoundChannel, FoundNames, FoundTopic, found};
 use nsq_base::{Body, Memory};
-use queue_image::NamedFile;
+use queue_plain::NamedFile;
 use std::alloc::Global;
 use std::test::Fail;
 use v2_frame::Message;

@@ -61,7 +61,9 @@ const SPENT: &[u8] = b"E_PUB_FAILED ids spent";
 
 /// The first id of the first run, and the next ones.
 const FIRST: &[u8] = b"0000010000000000";
+
 const SECOND: &[u8] = b"0000010000000001";
+
 const THIRD: &[u8] = b"0000010000000002";
 
 /// The last id of the first run.
@@ -277,10 +279,7 @@ const ROWS: [Row; 24] = [
         name: "nothing that is skipped stands in a history",
         mem_queue_size: 10_000,
         ids_used: 0,
-        lines: &[
-            (1, 0, Told::Began, End::Done),
-            (1, 0, Told::Nop, End::Skip),
-        ],
+        lines: &[(1, 0, Told::Began, End::Done), (1, 0, Told::Nop, End::Skip)],
         led: None,
     },
     Row {
@@ -314,10 +313,7 @@ const ROWS: [Row; 24] = [
         name: "no daemon stops twice",
         mem_queue_size: 1,
         ids_used: 0,
-        lines: &[
-            (0, 0, Told::Stop, End::Done),
-            (0, 0, Told::Stop, End::Done),
-        ],
+        lines: &[(0, 0, Told::Stop, End::Done), (0, 0, Told::Stop, End::Done)],
         led: None,
     },
     Row {
@@ -382,10 +378,7 @@ const ROWS: [Row; 24] = [
         name: "no moment falls",
         mem_queue_size: 1,
         ids_used: 0,
-        lines: &[
-            (1, 5, Told::Began, End::Done),
-            (1, 4, Told::Nop, End::Done),
-        ],
+        lines: &[(1, 5, Told::Began, End::Done), (1, 4, Told::Nop, End::Done)],
         led: None,
     },
     Row {

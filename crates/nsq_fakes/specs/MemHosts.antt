@@ -1,5 +1,5 @@
 -- What a host in memory shows.
-use Rattle.std.specs.Prelude.{ℕ, ◌≡◌, ◌-◌, ◌^◌, ◌<◌, ◌≤◌, List, [], drop, map, length, IsSomeAnd, slice_get}
+use Rattle.std.specs.Prelude.{ℕ, ◌≡◌, ◌<◌, List, [], drop, map, length, IsSomeAnd, slice_get}
 use Rattle.nsq_outside.specs.Hosts.{DialerContent, HostContent, HostState, IsFreshCaller}
 use Rattle.nsq_fakes.specs.MemConns.{left_of, has_ended, pieces_of, written_of, read_faults_of, write_faults_of, IsRestarted}
 use Rattle.nsq_fakes.specs.MemDialers.{dialled_of}
@@ -35,10 +35,6 @@ dials_of host = dialled_of host.dialer
 -- how often a dial failed
 abbrev pub dial_faults_of : {E : Type 0} → MemHost E → ℕ
 dial_faults_of host = host.dialer.faults.count
-
--- that count is at most 2^64 - 1
-pub dial_count_fits : {E : Type 0} (host : MemHost E) → dial_faults_of host ≤ 2 ^ 64 - 1
-dial_count_fits host = host.dialer.faults.fits
 
 -- a connection that it gives to a caller is unused
 abbrev pub IsUnusedCaller : Accept MemConn → Type 0

@@ -1,5 +1,5 @@
 -- What clauses see of what opens TCP connections.
-use Rattle.std.specs.Prelude.{ℕ, ◌≡◌, ◌-◌, ◌^◌, ◌≤◌, []}
+use Rattle.std.specs.Prelude.{ℕ, ◌≡◌, []}
 use Rattle.nsq_outside.specs.Hosts.{DialerContent, IsFreshLink}
 use Rattle.nsq_system.specs.TcpConns.{no_pieces, no_bytes, ended_of, read_faults_of, write_faults_of, kind_of, IsNewTcpConn}
 use Rattle.nsq_outside.specs.declared.host.Dialled.{Dialled}
@@ -11,10 +11,6 @@ use Rattle.nsq_system.specs.declared.tcp_dialer.TcpDialer.{TcpDialer}
 -- how often a dial failed
 abbrev pub dial_faults_of : {N : Type 0} → TcpDialer N → ℕ
 dial_faults_of dialer = dialer.faults.count
-
--- that count is at most 2^64 - 1
-pub dial_count_fits : {N : Type 0} (dialer : TcpDialer N) → dial_faults_of dialer ≤ 2 ^ 64 - 1
-dial_count_fits dialer = dialer.faults.fits
 
 -- a TCP dialer doesn't tell its content
 abbrev pub no_content : {N : Type 0} → TcpDialer N → DialerContent

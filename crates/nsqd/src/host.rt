@@ -96,7 +96,6 @@ where
 
 impl<N: Files + Clock + Net<Stream = TcpStream>> Dialer for SysHost<N> {
     ghost use Rattle.std.specs.Prelude.{false};
-    ghost use Rattle.nsq_system.specs.TcpDialers.{dial_count_fits};
     ghost use Rattle.nsqd.specs.SysHosts.{state_of, no_dials, dial_faults_of};
 
     type Conn = TcpConn;
@@ -113,7 +112,7 @@ impl<N: Files + Clock + Net<Stream = TcpStream>> Dialer for SysHost<N> {
         self.dialer.dial(rt, address)
     }
 
-    ghost dial_faults_fit = { λ host. dial_count_fits host.dialer };
+    ghost dial_faults_fit = { λ host. host.dialer.faults.fits };
 }
 
 impl<

@@ -4,3 +4,5 @@ pub mod Plans
 pub mod Finds
 pub mod Asides
 pub mod Tidies
+pub mod FoundReads
+pub mod Lists

@@ -1,11 +1,12 @@
 -- What an opening does with a queue's files before it saves.
-use Rattle.std.specs.Prelude.{ℕ, ◌≡◌, ◌≢◌, ◌^◌, ◌<◌, ◌≤◌, ◌⊎◌, List, Option, Some, None, IsSome, Contains, length}
+use Rattle.std.specs.Prelude.{ℕ, ◌≡◌, ◌≢◌, ◌+◌, min, ◌^◌, ◌<◌, ◌≤◌, ◌⊎◌, List, Option, Some, None, IsSome, Contains, length}
 use Rattle.nsq_outside.specs.Files.{Files, SameFiles, OnlyChanges, Renames, cut_to}
 use Rattle.nsq_outside.specs.declared.did.Did.{Did}
 use Rattle.nsq_outside.specs.declared.did.Did.TheVariants.{Done, Failed}
 use Rattle.queue_image.specs.FileNames.{data_file, meta_file, meta_temp, set_aside}
 use Rattle.queue_image.specs.Metas.{meta_text}
 use Rattle.queue_image.specs.Between.{content}
+use Rattle.queue_image.specs.declared.positions.Positions.{Positions}
 use Rattle.queue_opening.specs.declared.plan.Plan.{Plan}
 
 -- the data file of that number, if there was one, has `.bad` added to its name now, in place of a file that had this name; where there was
@@ -14,6 +15,18 @@ pub record IsSetAside (name : List ℕ) (old new : Files) (write k : ℕ) : Type
   pub moved : IsSome (old (data_file name k)) → new (set_aside (data_file name k)) ≡ old (data_file name k)
   pub gone : k ≢ write → new (data_file name k) ≡ None
   pub stays : old (data_file name k) ≡ None → new (set_aside (data_file name k)) ≡ old (set_aside (data_file name k))
+
+-- with metadata of these positions, where these files are bad. Set aside are those above the write file and the bad ones, and none else;
+-- those below the read file are gone, and the good ones before the write file stay. Writing goes on in the write file, cut at the write position;
+-- or where that is bad, at the start of the next file, whose number is at most 2 ^ 40
+pub record IsTidiedAt (name : List ℕ) (old new : Files) (p : Positions) (bad_files : List ℕ) (q : Positions) : Type 0 where
+  pub removed : (k : ℕ) → k < p.read_file → new (data_file name k) ≡ None
+  pub above : (k : ℕ) → p.write_file < k → k < 2 ^ 64 → IsSetAside name old new q.write_file k
+  pub bad : (k : ℕ) → Contains bad_files k → IsSetAside name old new q.write_file k
+  pub kept_aside : (k : ℕ) → k ≤ p.write_file → ¬ Contains bad_files k → new (set_aside (data_file name k)) ≡ old (set_aside (data_file name k))
+  pub good : (k : ℕ) → q.read_file ≤ k → k < p.write_file → ¬ Contains bad_files k → new (data_file name k) ≡ old (data_file name k)
+  pub same_write : ¬ Contains bad_files p.write_file → (q.write_file ≡ p.write_file) × (new (data_file name p.write_file) ≡ Some (cut_to (content old name p.write_file) q.write_at))
+  pub next_write : Contains bad_files p.write_file → (q.write_file ≡ min (p.write_file + 1) (2 ^ 40)) × (q.write_at ≡ 0)
 
 -- the file of a number is set aside unless it is below a first one
 pub record AsideStep (name : List ℕ) (from n : ℕ) (old new : Files) (did : Did) : Type 0 where

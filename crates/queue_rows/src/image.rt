@@ -1,8 +1,7 @@
 //! What queue files are called, what their bytes are, and what the plain program finds in them.
 
 use nsq_base::{Bodies, Body, Memory};
-use queue_image::file_names;
-use queue_image::{Positions, laws, read_meta};
+use queue_image::{Positions, file_names, laws, read_meta};
 use queue_plain::{Found, NamedFile, Row, found_queue, records_of};
 use std::alloc::Global;
 use std::test::Fail;
@@ -155,7 +154,7 @@ const FINDINGS: [Finding; 7] = [
 ];
 
 // The files as the plain program takes them.
-fn named(alloc: Global, files: &[File]) -> Result<Vec<NamedFile>, Memory> {
+fn copied(alloc: Global, files: &[File]) -> Result<Vec<NamedFile>, Memory> {
     let mut all = Vec::new(alloc);
     for file in files {
         all.push(NamedFile {
@@ -181,7 +180,7 @@ fn are(found: &Bodies, expected: &[&[u8]]) -> bool {
 
 // Whether the plain program finds what the row says.
 fn finds(alloc: Global, row: &Finding) -> Result<bool, Memory> {
-    let files = named(alloc, row.files)?;
+    let files = copied(alloc, row.files)?;
     match (
         found_queue(alloc, files.as_slice(), row.queue, 26, row.limit)?,
         row.bodies,

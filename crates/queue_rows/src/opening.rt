@@ -58,13 +58,17 @@ const ROWS: [Script; 8] = [
         queue: "q",
         options: OPTIONS,
         files: &[
-            File { name: "q.diskqueue.meta.dat", bytes: b"7\n0,5\n0,11\n" },
-            File { name: "q.diskqueue.000000.dat", bytes: b"\0\0\0\x01a\0\0\0\x02bc\0\0\0\x01d" },
+            File {
+                name: "q.diskqueue.meta.dat",
+                bytes: b"7\n0,5\n0,11\n",
+            },
+            File {
+                name: "q.diskqueue.000000.dat",
+                bytes: b"\0\0\0\x01a\0\0\0\x02bc\0\0\0\x01d",
+            },
         ],
         fails: &[],
-        steps: &[
-            Step::Open(1),
-        ],
+        steps: &[Step::Open(1)],
         left: &[
             Look::Has("q.diskqueue.meta.dat", &[b"1\n0,5\n0,11\n"]),
             Look::Has("q.diskqueue.000000.dat", &[b"\0\0\0\x01a\0\0\0\x02bc"]),
@@ -88,23 +92,28 @@ const ROWS: [Script; 8] = [
             Step::Look(Look::Has("q.diskqueue.000004.dat", &[b""])),
             Step::Put(b"f", Put::Stored(Sync::NotDue)),
         ],
-        left: &[
-            Look::Has("q.diskqueue.000004.dat", &[b"\0\0\0\x01f"]),
-        ],
+        left: &[Look::Has("q.diskqueue.000004.dat", &[b"\0\0\0\x01f"])],
     },
     Script {
         name: "a damaged read file",
         queue: "q",
         options: OPTIONS,
         files: &[
-            File { name: "q.diskqueue.meta.dat", bytes: b"9\n1,5\n2,5\n" },
-            File { name: "q.diskqueue.000001.dat", bytes: b"\0\0\0\x01a\0\0\0" },
-            File { name: "q.diskqueue.000002.dat", bytes: b"\0\0\0\x01b\0\0\0\x01c" },
+            File {
+                name: "q.diskqueue.meta.dat",
+                bytes: b"9\n1,5\n2,5\n",
+            },
+            File {
+                name: "q.diskqueue.000001.dat",
+                bytes: b"\0\0\0\x01a\0\0\0",
+            },
+            File {
+                name: "q.diskqueue.000002.dat",
+                bytes: b"\0\0\0\x01b\0\0\0\x01c",
+            },
         ],
         fails: &[],
-        steps: &[
-            Step::Open(1),
-        ],
+        steps: &[Step::Open(1)],
         left: &[
             Look::Has("q.diskqueue.meta.dat", &[b"1\n1,0\n2,5\n"]),
             Look::Has("q.diskqueue.000001.dat.bad", &[b"\0\0\0\x01a\0\0\0"]),
@@ -116,14 +125,21 @@ const ROWS: [Script; 8] = [
         queue: "q",
         options: OPTIONS,
         files: &[
-            File { name: "q.diskqueue.meta.dat", bytes: b"9\n0,0\n1099511627776,4\n" },
-            File { name: "q.diskqueue.000000.dat", bytes: b"\0\0\0\x01a" },
-            File { name: "q.diskqueue.1099511627776.dat", bytes: b"\0\0\0\x01b" },
+            File {
+                name: "q.diskqueue.meta.dat",
+                bytes: b"9\n0,0\n1099511627776,4\n",
+            },
+            File {
+                name: "q.diskqueue.000000.dat",
+                bytes: b"\0\0\0\x01a",
+            },
+            File {
+                name: "q.diskqueue.1099511627776.dat",
+                bytes: b"\0\0\0\x01b",
+            },
         ],
         fails: &[],
-        steps: &[
-            Step::Open(1),
-        ],
+        steps: &[Step::Open(1)],
         left: &[
             Look::Has("q.diskqueue.meta.dat", &[b"1\n0,0\n1099511627776,0\n"]),
             Look::Has("q.diskqueue.1099511627776.dat.bad", &[b"\0\0\0\x01b"]),
@@ -135,14 +151,21 @@ const ROWS: [Script; 8] = [
         queue: "q",
         options: OPTIONS,
         files: &[
-            File { name: "q.diskqueue.000000.dat", bytes: b"\0\0\0\x01a" },
-            File { name: "q.diskqueue.000007.dat", bytes: b"seven" },
-            File { name: "q:c.diskqueue.000000.dat", bytes: b"another" },
+            File {
+                name: "q.diskqueue.000000.dat",
+                bytes: b"\0\0\0\x01a",
+            },
+            File {
+                name: "q.diskqueue.000007.dat",
+                bytes: b"seven",
+            },
+            File {
+                name: "q:c.diskqueue.000000.dat",
+                bytes: b"another",
+            },
         ],
         fails: &[],
-        steps: &[
-            Step::Open(0),
-        ],
+        steps: &[Step::Open(0)],
         left: &[
             Look::Has("q.diskqueue.meta.dat", &[b"0\n0,0\n0,0\n"]),
             Look::Has("q.diskqueue.000000.dat", &[b""]),
@@ -157,13 +180,17 @@ const ROWS: [Script; 8] = [
         queue: "q",
         options: OPTIONS,
         files: &[
-            File { name: "q.diskqueue.meta.dat", bytes: b"4\n3,5\n3,5\n" },
-            File { name: "q.diskqueue.000003.dat", bytes: b"\0\0\0\x01a\0\0" },
+            File {
+                name: "q.diskqueue.meta.dat",
+                bytes: b"4\n3,5\n3,5\n",
+            },
+            File {
+                name: "q.diskqueue.000003.dat",
+                bytes: b"\0\0\0\x01a\0\0",
+            },
         ],
         fails: &[],
-        steps: &[
-            Step::Open(0),
-        ],
+        steps: &[Step::Open(0)],
         left: &[
             Look::Has("q.diskqueue.meta.dat", &[b"0\n3,0\n3,0\n"]),
             Look::Has("q.diskqueue.000003.dat", &[b""]),
@@ -175,15 +202,22 @@ const ROWS: [Script; 8] = [
         queue: "q",
         options: OPTIONS,
         files: &[
-            File { name: "q.diskqueue.meta.dat", bytes: b"0\n0,0\n1099511627776,0\n" },
-            File { name: "q.diskqueue.000005.dat", bytes: b"" },
+            File {
+                name: "q.diskqueue.meta.dat",
+                bytes: b"0\n0,0\n1099511627776,0\n",
+            },
+            File {
+                name: "q.diskqueue.000005.dat",
+                bytes: b"",
+            },
         ],
         fails: &[],
-        steps: &[
-            Step::Open(0),
-        ],
+        steps: &[Step::Open(0)],
         left: &[
-            Look::Has("q.diskqueue.meta.dat", &[b"0\n1099511627776,0\n1099511627776,0\n"]),
+            Look::Has(
+                "q.diskqueue.meta.dat",
+                &[b"0\n1099511627776,0\n1099511627776,0\n"],
+            ),
             Look::Absent("q.diskqueue.000005.dat"),
         ],
     },
@@ -329,7 +363,7 @@ fn opens_again(alloc: Global, failing: u64) -> Result<bool, Memory> {
 }
 
 // How many calls the opening of the damaged files makes.
-const CALLS: u64 = 19;
+const CALLS: u64 = 20;
 
 #[test]
 fn rows(rt: HostRuntime) -> Result<(), Fail> {

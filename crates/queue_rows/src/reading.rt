@@ -18,7 +18,10 @@ const ROWS: [Script; 6] = [
             Step::Put(&[b'c'; 40], Put::Stored(Sync::Done)),
             Step::Take(Take::Got(40, Sync::NotDue), &[b'a'; 40]),
             Step::Take(Take::Got(40, Sync::NotDue), &[b'b'; 40]),
-            Step::Look(Look::Has("q.diskqueue.000000.dat", &[b"\0\0\0\x28", &[b'a'; 40], b"\0\0\0\x28", &[b'b'; 40]])),
+            Step::Look(Look::Has(
+                "q.diskqueue.000000.dat",
+                &[b"\0\0\0\x28", &[b'a'; 40], b"\0\0\0\x28", &[b'b'; 40]],
+            )),
             Step::Take(Take::Got(40, Sync::Done), &[b'c'; 40]),
             Step::Look(Look::Has("q.diskqueue.meta.dat", &[b"0\n1,44\n1,44\n"])),
             Step::Look(Look::Absent("q.diskqueue.000000.dat")),
@@ -68,9 +71,11 @@ const ROWS: [Script; 6] = [
         queue: "q",
         options: ROLLING,
         files: &[],
-        fails: &[
-            Failing { call: FolderCall::SyncNames, from: 2, to: 3 },
-        ],
+        fails: &[Failing {
+            call: FolderCall::SyncNames,
+            from: 2,
+            to: 3,
+        }],
         steps: &[
             Step::Put(&[b'a'; 40], Put::Stored(Sync::NotDue)),
             Step::Put(&[b'b'; 40], Put::Stored(Sync::NotDue)),
@@ -78,34 +83,38 @@ const ROWS: [Script; 6] = [
             Step::Take(Take::Got(40, Sync::NotDue), &[b'a'; 40]),
             Step::Take(Take::Got(40, Sync::NotDue), &[b'b'; 40]),
             Step::Take(Take::Got(40, Sync::Failed), &[b'c'; 40]),
-            Step::Look(Look::Has("q.diskqueue.000000.dat", &[b"\0\0\0\x28", &[b'a'; 40], b"\0\0\0\x28", &[b'b'; 40]])),
+            Step::Look(Look::Has(
+                "q.diskqueue.000000.dat",
+                &[b"\0\0\0\x28", &[b'a'; 40], b"\0\0\0\x28", &[b'b'; 40]],
+            )),
             Step::Look(Look::Has("q.diskqueue.meta.dat", &[b"3\n0,0\n1,44\n"])),
             Step::Sync(Sync::Done),
         ],
-        left: &[
-            Look::Absent("q.diskqueue.000000.dat"),
-        ],
+        left: &[Look::Absent("q.diskqueue.000000.dat")],
     },
     Script {
         name: "a failed removal is tried again",
         queue: "q",
         options: ROLLING,
         files: &[],
-        fails: &[
-            Failing { call: FolderCall::Remove, from: 0, to: 1 },
-        ],
+        fails: &[Failing {
+            call: FolderCall::Remove,
+            from: 0,
+            to: 1,
+        }],
         steps: &[
             Step::Put(&[b'a'; 40], Put::Stored(Sync::NotDue)),
             Step::Put(&[b'b'; 40], Put::Stored(Sync::NotDue)),
             Step::Put(&[b'c'; 40], Put::Stored(Sync::Done)),
             Step::Empty(Emptied::Done),
-            Step::Look(Look::Has("q.diskqueue.000000.dat", &[b"\0\0\0\x28", &[b'a'; 40], b"\0\0\0\x28", &[b'b'; 40]])),
+            Step::Look(Look::Has(
+                "q.diskqueue.000000.dat",
+                &[b"\0\0\0\x28", &[b'a'; 40], b"\0\0\0\x28", &[b'b'; 40]],
+            )),
             Step::Look(Look::Has("q.diskqueue.meta.dat", &[b"0\n1,44\n1,44\n"])),
             Step::Sync(Sync::Done),
         ],
-        left: &[
-            Look::Absent("q.diskqueue.000000.dat"),
-        ],
+        left: &[Look::Absent("q.diskqueue.000000.dat")],
     },
     Script {
         name: "a deleted queue has no file",

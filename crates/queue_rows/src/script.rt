@@ -88,11 +88,7 @@ pub fn holds(alloc: Global, script: &Script) -> Result<bool, Memory> {
 }
 
 /// A folder with these files, of which these calls fail.
-pub fn folder_of(
-    alloc: Global,
-    files: &[File],
-    fails: &[Failing],
-) -> Result<MemFolder, Memory> {
+pub fn folder_of(alloc: Global, files: &[File], fails: &[Failing]) -> Result<MemFolder, Memory> {
     let mut all = Vec::new(alloc);
     for file in files {
         all.push((
@@ -172,12 +168,7 @@ fn puts(
 }
 
 // Whether the record is staged.
-fn stages(
-    queue: &mut Queue,
-    folder: &mut MemFolder,
-    options: &QueueOptions,
-    bytes: &[u8],
-) -> bool
+fn stages(queue: &mut Queue, folder: &mut MemFolder, options: &QueueOptions, bytes: &[u8]) -> bool
     requires options { queue.old.options ≡ options.now }
     ensures options { queue.new.options ≡ options.now }
 {
@@ -187,12 +178,7 @@ fn stages(
     queue.stage(folder, bytes) == Stage::Staged
 }
 
-fn forgets(
-    queue: &mut Queue,
-    folder: &mut MemFolder,
-    options: &QueueOptions,
-    bytes: &[u8],
-) -> bool
+fn forgets(queue: &mut Queue, folder: &mut MemFolder, options: &QueueOptions, bytes: &[u8]) -> bool
     requires options { queue.old.options ≡ options.now }
     ensures options { queue.new.options ≡ options.now }
     ensures none_now { queue.new.staged.count ≡ 0 }

@@ -218,13 +218,7 @@ fn holds(alloc: Global, scratch: &mut [u8], script: &Script) -> Result<bool, Mem
 {
     let fails = script.fails.to_vec(alloc)?;
     let mut folder = MemFolder::new(alloc, Vec::new(alloc), fails)?;
-    let mut backlog = Backlog::fresh(
-        alloc,
-        script.backlog,
-        script.ring,
-        script.durable,
-        OPTIONS,
-    )?;
+    let mut backlog = Backlog::fresh(alloc, script.backlog, script.ring, script.durable, OPTIONS)?;
     for step in script.steps {
         if !step_holds(alloc, &mut backlog, &mut folder, scratch, script, *step)? {
             return Ok(false);
@@ -299,9 +293,8 @@ fn put(
         PutOne::Kept => Fate::Kept,
         PutOne::Dropped => Fate::Dropped,
         PutOne::Spilled => Fate::Spilled,
-        PutOne::Fault(message) if message.delay == 5 && message.body.bytes() == [letter] => {
-            Fate::Back
-        }
+        PutOne::Fault(message)
+            if message.delay == 5 && message.body.bytes() == [letter].as_slice() => { Fate::Back }
         PutOne::Fault(_message) => Fate::Other,
     })
 }
@@ -342,11 +335,7 @@ fn told(message: &Message) -> Option<(u8, u64)> {
     }
 }
 
-fn take(
-    backlog: &mut Backlog,
-    folder: &mut MemFolder,
-    scratch: &mut [u8],
-) -> Option<(u8, u64)>
+fn take(backlog: &mut Backlog, folder: &mut MemFolder, scratch: &mut [u8]) -> Option<(u8, u64)>
     requires nothing { backlog.old.lent ≡ Nothing }
     requires scratch { 16777242 ≤ length scratch.old }
     ensures nothing_now { backlog.new.lent ≡ Nothing }
@@ -412,13 +401,7 @@ fn delete(
     ensures nothing_now { OnOk result (backlog.new.lent ≡ Nothing) }
     ensures disk { OnOk result (IsTrue script.now.durable → IsSome backlog.new.queue) }
 {
-    let fresh = Backlog::fresh(
-        alloc,
-        script.backlog,
-        script.ring,
-        script.durable,
-        OPTIONS,
-    )?;
+    let fresh = Backlog::fresh(alloc, script.backlog, script.ring, script.durable, OPTIONS)?;
     let old = std::mem::replace(backlog, fresh);
     Ok(match old.delete(folder) {
         Gone::Done => true,
@@ -426,10 +409,17 @@ fn delete(
     })
 }
 
+// Room for the longest message.
+fn scratch(alloc: Global) -> Result<Vec<u8>, Memory>
+    ensures { IfOk result (λ bytes. length bytes.items ≡ 16777242) }
+{
+    Ok(vec![in alloc; 0; 16_777_242]?)
+}
+
 #[test]
 fn rows(rt: HostRuntime) -> Result<(), Fail> {
     let alloc = rt.alloc();
-    let mut scratch = vec![in alloc; 0; 16_777_242]?;
+    let mut scratch = scratch(alloc)?;
     for row in &ROWS {
         let holds = holds(alloc, &mut scratch, row)?;
         assert!(rt; holds, "{}", row.name);

@@ -37,16 +37,23 @@ const ROWS: [Script; 13] = [
         name: "a message to the byte",
         queue: "t",
         options: ROLLING,
-        files: &[
-            File { name: "t.diskqueue.000000.dat", bytes: b"what another run left behind, which is longer than the record" },
-        ],
+        files: &[File {
+            name: "t.diskqueue.000000.dat",
+            bytes: b"what another run left behind, which is longer than the record",
+        }],
         fails: &[],
         steps: &[
-            Step::Put(b"\0\0\0\0\0\0\0\0\0\x000000010000000000hi", Put::Stored(Sync::NotDue)),
+            Step::Put(
+                b"\0\0\0\0\0\0\0\0\0\x000000010000000000hi",
+                Put::Stored(Sync::NotDue),
+            ),
             Step::Sync(Sync::Done),
         ],
         left: &[
-            Look::Has("t.diskqueue.000000.dat", &[b"\0\0\0\x1c\0\0\0\0\0\0\0\0\0\x000000010000000000hi"]),
+            Look::Has(
+                "t.diskqueue.000000.dat",
+                &[b"\0\0\0\x1c\0\0\0\0\0\0\0\0\0\x000000010000000000hi"],
+            ),
             Look::Has("t.diskqueue.meta.dat", &[b"1\n0,0\n0,32\n"]),
         ],
     },
@@ -55,9 +62,11 @@ const ROWS: [Script; 13] = [
         queue: "q",
         options: ROLLING,
         files: &[],
-        fails: &[
-            Failing { call: FolderCall::WriteAt, from: 3, to: 4 },
-        ],
+        fails: &[Failing {
+            call: FolderCall::WriteAt,
+            from: 3,
+            to: 4,
+        }],
         steps: &[
             Step::Put(&[b'a'; 40], Put::Stored(Sync::NotDue)),
             Step::Put(&[b'b'; 40], Put::Stored(Sync::NotDue)),
@@ -73,33 +82,33 @@ const ROWS: [Script; 13] = [
         queue: "q",
         options: WIDE,
         files: &[],
-        fails: &[
-            Failing { call: FolderCall::WriteAt, from: 1, to: 2 },
-        ],
+        fails: &[Failing {
+            call: FolderCall::WriteAt,
+            from: 1,
+            to: 2,
+        }],
         steps: &[
             Step::Put(&[b'a'; 4096], Put::Stored(Sync::NotDue)),
             Step::Put(&[b'b'; 4096], Put::Fault),
         ],
-        left: &[
-            Look::Has("q.diskqueue.000000.dat", &[b"\0\0\x10\0", &[b'a'; 4096]]),
-        ],
+        left: &[Look::Has("q.diskqueue.000000.dat", &[b"\0\0\x10\0", &[b'a'; 4096]])],
     },
     Script {
         name: "a long record is two writes",
         queue: "q",
         options: WIDE,
         files: &[],
-        fails: &[
-            Failing { call: FolderCall::WriteAt, from: 1, to: 2 },
-        ],
+        fails: &[Failing {
+            call: FolderCall::WriteAt,
+            from: 1,
+            to: 2,
+        }],
         steps: &[
             Step::Put(&[b'a'; 5000], Put::Fault),
             Step::Look(Look::Has("q.diskqueue.000000.dat", &[b"\0\0\x13\x88"])),
             Step::Put(&[b'b'; 5000], Put::Stored(Sync::NotDue)),
         ],
-        left: &[
-            Look::Has("q.diskqueue.000000.dat", &[b"\0\0\x13\x88", &[b'b'; 5000]]),
-        ],
+        left: &[Look::Has("q.diskqueue.000000.dat", &[b"\0\0\x13\x88", &[b'b'; 5000]])],
     },
     Script {
         name: "a forgotten record leaves its place",
@@ -113,18 +122,18 @@ const ROWS: [Script; 13] = [
             Step::Commit(&[b'b'; 30], Sync::NotDue),
             Step::Depth(1),
         ],
-        left: &[
-            Look::Has("q.diskqueue.000000.dat", &[b"\0\0\0\x1e", &[b'b'; 30]]),
-        ],
+        left: &[Look::Has("q.diskqueue.000000.dat", &[b"\0\0\0\x1e", &[b'b'; 30]])],
     },
     Script {
         name: "a failed rename leaves the file",
         queue: "q",
         options: ROLLING,
         files: &[],
-        fails: &[
-            Failing { call: FolderCall::Rename, from: 1, to: 2 },
-        ],
+        fails: &[Failing {
+            call: FolderCall::Rename,
+            from: 1,
+            to: 2,
+        }],
         steps: &[
             Step::Replace(b"one", Did::Done),
             Step::Look(Look::Has("a", &[b"one"])),
@@ -133,50 +142,50 @@ const ROWS: [Script; 13] = [
             Step::Look(Look::Has("a", &[b"one"])),
             Step::Replace(b"3", Did::Done),
         ],
-        left: &[
-            Look::Has("a", &[b"3"]),
-        ],
+        left: &[Look::Has("a", &[b"3"])],
     },
     Script {
         name: "nothing is saved before the records are durable",
         queue: "q",
         options: ROLLING,
         files: &[],
-        fails: &[
-            Failing { call: FolderCall::Sync, from: 0, to: 1 },
-        ],
+        fails: &[Failing {
+            call: FolderCall::Sync,
+            from: 0,
+            to: 1,
+        }],
         steps: &[
             Step::Put(&[b'a'; 40], Put::Stored(Sync::NotDue)),
             Step::Sync(Sync::Failed),
         ],
-        left: &[
-            Look::Absent("q.diskqueue.meta.dat.tmp"),
-        ],
+        left: &[Look::Absent("q.diskqueue.meta.dat.tmp")],
     },
     Script {
         name: "nothing is saved before the names are durable",
         queue: "q",
         options: ROLLING,
         files: &[],
-        fails: &[
-            Failing { call: FolderCall::SyncNames, from: 0, to: 1 },
-        ],
+        fails: &[Failing {
+            call: FolderCall::SyncNames,
+            from: 0,
+            to: 1,
+        }],
         steps: &[
             Step::Put(&[b'a'; 40], Put::Stored(Sync::NotDue)),
             Step::Sync(Sync::Failed),
         ],
-        left: &[
-            Look::Absent("q.diskqueue.meta.dat.tmp"),
-        ],
+        left: &[Look::Absent("q.diskqueue.meta.dat.tmp")],
     },
     Script {
         name: "no metadata before its text is durable",
         queue: "q",
         options: ROLLING,
         files: &[],
-        fails: &[
-            Failing { call: FolderCall::Sync, from: 1, to: 2 },
-        ],
+        fails: &[Failing {
+            call: FolderCall::Sync,
+            from: 1,
+            to: 2,
+        }],
         steps: &[
             Step::Put(&[b'a'; 40], Put::Stored(Sync::NotDue)),
             Step::Sync(Sync::Failed),
@@ -191,32 +200,37 @@ const ROWS: [Script; 13] = [
         queue: "q",
         options: ROLLING,
         files: &[],
-        fails: &[
-            Failing { call: FolderCall::SyncNames, from: 1, to: 2 },
-        ],
+        fails: &[Failing {
+            call: FolderCall::SyncNames,
+            from: 1,
+            to: 2,
+        }],
         steps: &[
             Step::Put(&[b'a'; 40], Put::Stored(Sync::NotDue)),
             Step::Sync(Sync::Failed),
         ],
-        left: &[
-            Look::Has("q.diskqueue.meta.dat", &[b"1\n0,0\n0,44\n"]),
-        ],
+        left: &[Look::Has("q.diskqueue.meta.dat", &[b"1\n0,0\n0,44\n"])],
     },
     Script {
         name: "a full file is durable before the next",
         queue: "q",
         options: ROLLING,
         files: &[],
-        fails: &[
-            Failing { call: FolderCall::Sync, from: 0, to: 1 },
-        ],
+        fails: &[Failing {
+            call: FolderCall::Sync,
+            from: 0,
+            to: 1,
+        }],
         steps: &[
             Step::Put(&[b'a'; 40], Put::Stored(Sync::NotDue)),
             Step::Put(&[b'b'; 40], Put::Stored(Sync::NotDue)),
             Step::Put(&[b'c'; 40], Put::Fault),
         ],
         left: &[
-            Look::Has("q.diskqueue.000000.dat", &[b"\0\0\0\x28", &[b'a'; 40], b"\0\0\0\x28", &[b'b'; 40]]),
+            Look::Has(
+                "q.diskqueue.000000.dat",
+                &[b"\0\0\0\x28", &[b'a'; 40], b"\0\0\0\x28", &[b'b'; 40]],
+            ),
             Look::Absent("q.diskqueue.000001.dat"),
         ],
     },
@@ -225,9 +239,11 @@ const ROWS: [Script; 13] = [
         queue: "q",
         options: ROLLING,
         files: &[],
-        fails: &[
-            Failing { call: FolderCall::Cut, from: 1, to: 2 },
-        ],
+        fails: &[Failing {
+            call: FolderCall::Cut,
+            from: 1,
+            to: 2,
+        }],
         steps: &[
             Step::Put(&[b'a'; 40], Put::Stored(Sync::NotDue)),
             Step::Put(&[b'b'; 40], Put::Stored(Sync::NotDue)),

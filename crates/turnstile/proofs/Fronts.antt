@@ -1,15 +1,14 @@
 -- Fronts of one list, what stands in a list, and the entries of a number.
-use Rattle.std.proofs.Common.{◌≡◌, ◌≢◌, ◌⊎◌, ℕ, zero, suc, ◌+◌, ◌<◌, ◌≤◌, Bool, true, false, cond, not, ◌&&◌, eqb, leb, List, [], ◌∷◌, ◌++◌, map, length, get_or, refl, sym, ap, ◌∙◌, subst, inl, inr, ⊎_elim, arith, append_assoc, append-nil, length-append}
+use Rattle.std.proofs.Common.{◌≡◌, ◌≢◌, ◌⊎◌, ℕ, zero, suc, ◌+◌, ◌<◌, ◌≤◌, Bool, true, false, not, ◌&&◌, eqb, leb, List, [], ◌∷◌, ◌++◌, length, get_or, refl, sym, ap, ◌∙◌, subst, inl, inr, ⊎_elim, arith, append_assoc, append-nil, length-append}
 use Rattle.std.specs.Prelude.{IsTrue, All, filter}
-use mathlib.Core.Option.{some, none, some-injective, some-ne-none}
+use mathlib.Core.Option.{some, some-injective, some-ne-none}
 use mathlib.Core.List.{map-append}
 use lib.ListN.{get_elem?}
 use Rattle.std.proofs.lemmas.Bool.{cond_both, ne_eqb, leb-true, leb-false, and_left, and_right, not_from_true}
-use Rattle.std.proofs.lemmas.List.Elements.{All-append, filter-append}
+use Rattle.std.proofs.lemmas.List.Elements.{filter-append}
 use Rattle.turnstile.specs.declared.view.Joined.{Joined}
-use Rattle.turnstile.specs.Lists.{BeginsWith, IsIn, own, Appends}
-use Rattle.turnstile.specs.Views.{longer}
-use Rattle.turnstile.specs.Rule.{numbers_of}
+use Rattle.turnstile.specs.Lists.{BeginsWith, IsIn, own}
+use Rattle.turnstile.specs.Views.{numbers_of, longer}
 
 module _ {X : Type 0} where
   pub begins_refl : (xs : List X) → BeginsWith xs xs

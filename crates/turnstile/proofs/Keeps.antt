@@ -1,5 +1,5 @@
 -- Each step keeps the rule.
-use Rattle.std.proofs.Common.{◌≡◌, ◌≢◌, ◌⊎◌, ℕ, zero, suc, ◌+◌, ◌<◌, ◌≤◌, Bool, true, false, eqb, List, [], ◌∷◌, ◌++◌, map, length, get_or, set, refl, sym, ap, ◌∙◌, subst, inl, inr, ⊎_elim, arith, append_assoc, Option, Some, None}
+use Rattle.std.proofs.Common.{◌≡◌, ◌≢◌, ◌⊎◌, ℕ, zero, suc, ◌<◌, Bool, true, eqb, List, [], ◌∷◌, ◌++◌, length, get_or, set, refl, sym, ap, ◌∙◌, subst, inl, inr, ⊎_elim, arith, Option, Some, None}
 use Rattle.std.specs.Prelude.{IsTrue, All}
 use mathlib.Core.Option.{some, none, some-injective, some-ne-none}
 use mathlib.Core.Option as maybe
@@ -7,16 +7,16 @@ use mathlib.Core.Logic.{dite}
 use native.Mathlib.Decide.{ℕ_discrete}
 use prog.Atomic.{either}
 use lib.ListN.{get_elem?}
-use Rattle.std.proofs.lemmas.Bool.{eq-eqb, ne_eqb, true≢false, false≢true}
+use Rattle.std.proofs.lemmas.Bool.{eq-eqb, ne_eqb, false≢true}
 use Rattle.std.proofs.lemmas.List.Elements.{All-append}
-use Rattle.atomic_table.specs.Table.{State, Me, Step, step, Act, keeps, takes, gives, carried_after, homes_after, stepped, Allows, Splits, Joins, opening, Final, Seen}
-use Rattle.atomic_table.proofs.Lists.{at_set, set_here, set_else, set_again, at_longer, at_last, exchanged}
+use Rattle.atomic_table.specs.Table.{State, Me, step, Act, keeps, takes, gives, carried_after, homes_after, stepped, Allows, Splits, Joins, opening, Final, Seen}
+use Rattle.atomic_table.proofs.Lists.{at_set, set_here, set_else, set_again, at_longer, at_last}
 use Rattle.turnstile.specs.declared.view.View.{View}
 use Rattle.turnstile.specs.declared.view.Joined.{Joined}
 use Rattle.turnstile.specs.Lists.{BeginsWith, IsIn, own, Appends}
-use Rattle.turnstile.specs.Views.{longer, first_view, with_given, later_view, winning, counting, freeing, absorbing, spent, joined_numbers, IsNew, IsLast, Descends}
-use Rattle.turnstile.specs.Rule.{IsAt, numbers_of, Fits, IsHome, IsOut, IsRuled, Wins, Won, Counts, Counted, Freed, Knows, Looked}
-use Rattle.turnstile.proofs.Fronts.{begins_refl, begins_trans, longer_begins, longer_within, longer_is, is_in_front, is_in_last, is_in_snoc, all_one, all_nil, at_snoc_place, at_single, numbers_more, own_none, own_other, own_append, own_between}
+use Rattle.turnstile.specs.Views.{numbers_of, longer, first_view, with_given, later_view, winning, counting, freeing, absorbing, spent, joined_numbers, IsLast, Descends}
+use Rattle.turnstile.specs.Rule.{IsAt, Fits, IsHome, IsOut, IsRuled, Wins, Won, Counted, Freed, Looked}
+use Rattle.turnstile.proofs.Fronts.{begins_refl, begins_trans, longer_begins, longer_within, longer_is, is_in_front, is_in_last, is_in_snoc, all_one, all_nil, at_snoc_place, at_single, numbers_more, own_none, own_other, own_between}
 
 module _ {X E P : Type 0} (list : X → List E) (number : E → ℕ) (is_common : E → Bool) (descends : P → X → Type 0) where
   abbrev V : Type 0

@@ -1,14 +1,12 @@
 -- What the rule says between any two steps, point by point.
-use Rattle.std.proofs.Common.{◌≡◌, ◌≢◌, ◌⊎◌, ℕ, Bool, ◌<◌, ◌≤◌, List, [], ◌∷◌, ◌++◌, length, sym, ap, ◌∙◌, inl, inr, ⊎_elim, arith, Option, Some}
-use Rattle.std.specs.Prelude.{All}
+use Rattle.std.proofs.Common.{◌≡◌, ◌⊎◌, ℕ, Bool, ◌<◌, List, [], ◌∷◌, length, sym, ap, ◌∙◌, inl, inr, ⊎_elim, arith, Option, Some}
 use mathlib.Core.Option.{some, none}
 use mathlib.Core.Logic.{dite}
 use native.Mathlib.Decide.{ℕ_discrete, dec_le}
-use lib.ListN.{get_elem?}
 use Rattle.atomic_table.specs.Table.{State}
 use Rattle.turnstile.specs.declared.view.View.{View}
-use Rattle.turnstile.specs.Lists.{BeginsWith, IsIn, own}
-use Rattle.turnstile.specs.Rule.{IsAt, numbers_of, IsHome, IsOut, IsRuled}
+use Rattle.turnstile.specs.Lists.{BeginsWith, own}
+use Rattle.turnstile.specs.Rule.{IsAt, IsHome, IsOut, IsRuled}
 use Rattle.turnstile.proofs.Fronts.{begins_shorter, own_between}
 use Rattle.turnstile.proofs.Keeps.{holds_turn}
 
@@ -43,9 +41,9 @@ module _ {X E P : Type 0} (list : X → List E) (number : E → ℕ) (is_common 
         λ k v a. let f = r.fits k v a in (rw h.its_list f.is_front, (r.root, f.of_root, h.fits_root)),
       ))
       (λ (o : IsOut r.word r.longest s). absurd (
-          let e : r.word ∷ [] ≡ 0 ∷ [] = sym r.words ∙ words in
-          let word : r.word ≡ 0 = cc in
-          ⊎_elim (λ (a : r.word ≡ 1). omega arith) (λ (a : r.word ≡ 2). omega arith) o.in_turn))
+      let e : r.word ∷ [] ≡ 0 ∷ [] = sym r.words ∙ words in
+      let word : r.word ≡ 0 = cc in
+      ⊎_elim (λ (a : r.word ≡ 1). omega arith) (λ (a : r.word ≡ 2). omega arith) o.in_turn))
       r.turn
 
   -- while one holds the turn and hasn't counted, the list that the value had as it was taken begins with what each pass has seen

@@ -6,9 +6,8 @@ use Rattle.turnstile.specs.declared.pass.Pass.{Pass}
 use Rattle.turnstile.specs.declared.pass.Held.{Held}
 use Rattle.turnstile.specs.declared.turnstile.Turnstile.{Turnstile}
 use Rattle.turnstile.specs.declared.view.View.{View}
-use Rattle.turnstile.specs.declared.view.Joined.{Joined}
-use Rattle.turnstile.specs.Lists.{BeginsWith, IsIn, told, own, Appends}
-use Rattle.turnstile.specs.Views.{hand, joined_numbers, IsNew, IsLast, Descends}
+use Rattle.turnstile.specs.Lists.{IsIn, own, Appends}
+use Rattle.turnstile.specs.Views.{hand, joined_numbers, Descends}
 
 -- the seat of a pass that wasn't joined, and its hand as it is while it holds the turn and while it doesn't
 pub record IsPassSeat {X E P : Type 0} (seat : Seat (Option X) (View E P)) : Type 0 where

@@ -1,23 +1,18 @@
 -- The rule of the table, which holds between any two steps on its word, and what each step tells.
 -- The slot's value is at home where the slot is, and else it is in the hands of the one pass that holds the turn.
-use Rattle.std.specs.Prelude.{◌≡◌, ◌≢◌, ◌⊎◌, ℕ, Bool, true, IsTrue, List, [], ◌∷◌, ◌++◌, map, Option, Some, None, All}
+use Rattle.std.specs.Prelude.{◌≡◌, ◌≢◌, ◌⊎◌, ℕ, Bool, true, List, [], ◌∷◌, Option, Some, All}
 use mathlib.Core.Option.{some, none}
-use mathlib.Core.Option as maybe
 use lib.ListN.{get_elem?}
 use Rattle.atomic_table.specs.Table.{State, Me, Step}
 use Rattle.turnstile.specs.declared.view.View.{View}
 use Rattle.turnstile.specs.declared.view.Joined.{Joined}
 use Rattle.turnstile.specs.Lists.{BeginsWith, IsIn, own}
-use Rattle.turnstile.specs.Views.{Descends, winning, counting, freeing}
+use Rattle.turnstile.specs.Views.{numbers_of, Descends, winning, counting, freeing}
 
 -- the pass k has this view, and wasn't joined
 pub record IsAt {E P : Type 0} (views : List (View E P)) (k : ℕ) (v : View E P) : Type 0 where
   pub at : get_elem? views k ≡ some v
   pub live : v.is_live ≡ true
-
--- the numbers of joined passes
-abbrev pub numbers_of : {E : Type 0} → List (Joined E) → List ℕ
-numbers_of joined = map (λ j. j.number) joined
 
 module _ {E P : Type 0} (number : E → ℕ) (is_common : E → Bool) (longest : List E) (root : P) (given : List ℕ) (joined : List (Joined E)) where
   -- what is so of each pass that wasn't joined

@@ -1,5 +1,5 @@
 -- What passes know, as it begins and as it changes.
-use Rattle.std.specs.Prelude.{◌≡◌, ℕ, ◌<◌, ◌≤◌, ◌⊎◌, Bool, true, false, if◌then◌else◌, List, [], ◌∷◌, ◌++◌, map, length, nat_le, ◌==◌, Option, Some, None, All}
+use Rattle.std.specs.Prelude.{◌≡◌, ℕ, ◌⊎◌, true, false, if◌then◌else◌, List, [], ◌∷◌, ◌++◌, map, length, nat_le, ◌==◌, Option, Some, None}
 use Rattle.turnstile.specs.declared.view.View.{View}
 use Rattle.turnstile.specs.declared.view.Joined.{Joined}
 use Rattle.turnstile.specs.Lists.{IsIn}
@@ -11,6 +11,10 @@ hand turn = if turn == 0 then [] else (0, None) ∷ []
 -- the longer of two lists
 abbrev pub longer : {X : Type 0} → List X → List X → List X
 longer xs ys = if nat_le (length xs) (length ys) then ys else xs
+
+-- the numbers of joined passes
+abbrev pub numbers_of : {E : Type 0} → List (Joined E) → List ℕ
+numbers_of joined = map (λ j. j.number) joined
 
 module _ {E P : Type 0} where
   -- the view of the first pass, where the value with which the turnstile was made has this list and this picture
@@ -49,9 +53,9 @@ module _ {E P : Type 0} where
   abbrev pub spent : View E P
   spent = record { is_live = false; number = 0; root = None; seen = []; earlier = []; turn = 0; taken = []; given = []; joined = [] }
 
-  -- the numbers of the passes that were joined
+  -- the numbers of the passes that were joined to this one
   abbrev pub joined_numbers : View E P → List ℕ
-  joined_numbers v = map (λ j. j.number) v.joined
+  joined_numbers v = numbers_of v.joined
 
   -- the view is the first pass's, which has given no pass this number
   pub record IsNew (n : ℕ) (v : View E P) : Type 0 where

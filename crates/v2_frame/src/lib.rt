@@ -2,6 +2,7 @@
 //!
 //! Contracts speak of whole byte lists: `Spells` says which bytes spell a command, `IsScript` which commands stand in a row
 //! in a stream and whether what follows is a fault or not yet finished. No cut of the stream into pieces changes its script.
+//! `judge_front` says what stands at a command's start of whole bytes, and `Reader` gives a stream's script piece by piece.
 //! `frame_bytes` and `message_bytes` say what a frame and a message are, `AreFrames` which frames stand in a row, and
 //! `HasGiven` that a reader of frames gave out those of all that was fed, whatever the pieces were.
 #![tactic(auto)]

@@ -11,7 +11,8 @@ use history::{Act, Entry};
 use nsq_base::{Body, Memory};
 use nsq_outside::End;
 use std::alloc::Global;
-use v2_frame::{Command, Frame, Limits, Rest, script_of};
+use v2_frame::{Command, Frame, Limits, Rest};
+use v2_plain::script_of;
 
 /// The most bytes that one read gives.
 const LONGEST_PIECE: usize = 16384;

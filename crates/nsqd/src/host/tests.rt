@@ -90,7 +90,7 @@ fn gives_one_caller(rt: &HostRuntime) -> Result<bool, Fail> {
         && conn.write(rt, b"OK") == Write::Took(2);
     host.done(1, conn);
     let answer = io::read_to_string(alloc, client)?;
-    Ok(is_served && answer.as_str() == "OK" && host.accept_faults == 0)
+    Ok(is_served && answer.as_str() == "OK" && host.accept_faults.count == 0)
 }
 
 /// Whether the host counts that an address is in use or is none, and that it doesn't listen.
@@ -100,9 +100,9 @@ fn counts_faults(rt: &HostRuntime) -> Result<bool, Fail> {
     let address = address_of(alloc, &listener)?;
     let mut host = SysHost::new(rt.clone()?, alloc)?;
     let in_use = host.start(rt, address.as_str(), "", ".");
-    let in_use_faults = host.accept_faults;
+    let in_use_faults = host.accept_faults.count;
     let no_port = host.start(rt, "no port", "", ".");
-    let no_port_faults = host.accept_faults;
+    let no_port_faults = host.accept_faults.count;
     let called = caller(host.accept(rt));
     Ok(
         in_use == Did::Failed
@@ -110,7 +110,7 @@ fn counts_faults(rt: &HostRuntime) -> Result<bool, Fail> {
             && no_port == Did::Failed
             && no_port_faults == 2
             && called.is_none()
-            && host.accept_faults == 3,
+            && host.accept_faults.count == 3,
     )
 }
 

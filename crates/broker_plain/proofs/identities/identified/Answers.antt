@@ -1,4 +1,4 @@
-use Rattle.std.proofs.Common.{◌≡◌, IfOk, sym, ap, subst, ◌∙◌}
+use Rattle.std.proofs.Common.{◌≡◌, IfOk, sym, subst, ◌∙◌}
 use Rattle.std.proofs.lemmas.Bool.{false≢true}
 use Rattle.serde_json.specs.View.{view}
 use Rattle.v2_frame.specs.declared.frame.Frame.{Frame}

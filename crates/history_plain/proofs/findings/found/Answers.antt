@@ -1,5 +1,5 @@
 use Rattle.std.proofs.Common.{◌<◌, sym, ap, subst, ◌∙◌, arith}
-use Rattle.queue_image.specs.Folders.{files_of}
+use Rattle.queue_plain.specs.Folders.{files_of}
 use Rattle.history.specs.Data.{Kept, IsNames, last_epoch}
 use Rattle.history.specs.Found.{IsFound, Names}
 use Rattle.history.specs.Found.IsFound.{fresh, spoilt, spent}

@@ -1,5 +1,5 @@
 use Rattle.std.proofs.Common.{◌∙◌, ap}
-use Rattle.queue_image.specs.Folders.{files_of}
+use Rattle.queue_plain.specs.Folders.{files_of}
 use Rattle.history.specs.Data.{KeptTopic}
 use Rattle.history_plain.proofs.FindingLemmas.{bad_of_channel}
 use Rattle.history_plain.proofs.findings.found_topic.Goals as goal

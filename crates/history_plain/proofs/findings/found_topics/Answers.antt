@@ -1,4 +1,4 @@
-use Rattle.queue_image.specs.Folders.{files_of}
+use Rattle.queue_plain.specs.Folders.{files_of}
 use Rattle.history.specs.Found.{FindsTopic}
 use Rattle.history_plain.proofs.FindingLemmas.{pairwise_next}
 use Rattle.history_plain.proofs.findings.found_topics.Goals as goal

@@ -1,5 +1,5 @@
 use Rattle.std.proofs.Common.{take}
-use Rattle.queue_image.specs.Folders.{files_of}
+use Rattle.queue_plain.specs.Folders.{files_of}
 use Rattle.history.specs.Found.{Pairwise, FindsTopic}
 use Rattle.history_plain.proofs.findings.found_topics.Given as goal
 

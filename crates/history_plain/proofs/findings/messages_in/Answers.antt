@@ -1,4 +1,4 @@
-use Rattle.queue_image.specs.Folders.{files_of}
+use Rattle.queue_plain.specs.Folders.{files_of}
 use Rattle.history_plain.proofs.FindingLemmas.{found_least}
 use Rattle.history_plain.proofs.findings.messages_in.Goals as goal
 

@@ -1,4 +1,4 @@
-use Rattle.std.proofs.Common.{rules, arith, ap, ◌∙◌, refl}
+use Rattle.std.proofs.Common.{rules, arith, refl}
 use Rattle.turnstile.proofs.Keeps.{joins, looks}
 use Rattle.turnstile.proofs.turnstile.Turnstile.absorb.Goals as goal
 

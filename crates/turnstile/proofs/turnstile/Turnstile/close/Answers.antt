@@ -1,6 +1,6 @@
-use Rattle.std.proofs.Common.{rules, arith, ap, ◌∙◌, subst, sym}
+use Rattle.std.proofs.Common.{ap, ◌∙◌}
 use mathlib.Core.Option.{some}
-use Rattle.turnstile.proofs.Keeps.{never_empty, closes, Closes}
+use Rattle.turnstile.proofs.Keeps.{never_empty, closes}
 use Rattle.turnstile.proofs.turnstile.Turnstile.close.Goals as goal
 
 pub unreachable-requires : goal.unreachable-requires

@@ -1,4 +1,4 @@
-use Rattle.std.proofs.Common.{rules, arith, subst, sym, refl}
+use Rattle.std.proofs.Common.{rules, arith, refl}
 use Rattle.turnstile.proofs.Keeps.{splits, looks}
 use Rattle.turnstile.proofs.turnstile.Turnstile.cut.Goals as goal
 

@@ -1,4 +1,3 @@
-use Rattle.std.proofs.Common.{rules, arith, ap, ◌∙◌, subst, sym}
 use Rattle.turnstile.proofs.Keeps.{opens}
 use Rattle.turnstile.proofs.turnstile.Turnstile.new.Goals as goal
 

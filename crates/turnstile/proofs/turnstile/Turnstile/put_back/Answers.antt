@@ -1,4 +1,4 @@
-use Rattle.std.proofs.Common.{rules, arith, ◌≡◌, List, [], ◌∷◌, Some, None, ap, sym, ◌∙◌, refl}
+use Rattle.std.proofs.Common.{rules, arith, ◌≡◌, List, [], ◌∷◌, Some, None, ◌∙◌, refl}
 use Rattle.atomic_table.specs.Table.{rest}
 use Rattle.turnstile.specs.Lists.{told}
 use Rattle.turnstile.specs.Views.{counting}

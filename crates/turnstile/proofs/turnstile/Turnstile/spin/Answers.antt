@@ -1,4 +1,3 @@
-use Rattle.std.proofs.Common.{rules, arith, ap, ◌∙◌, subst, sym}
 use Rattle.turnstile.proofs.turnstile.Turnstile.spin.Goals as goal
 
 pub returns-then-try_win-clause-won : goal.returns-then-try_win-clause-won

@@ -1,4 +1,4 @@
-use Rattle.std.proofs.Common.{rules, ◌∷◌, Some, arith, ap, ◌∙◌, subst, sym}
+use Rattle.std.proofs.Common.{rules, ◌∷◌, Some, ap, ◌∙◌, sym}
 use Rattle.atomic_table.specs.Table.{rest}
 use Rattle.turnstile.proofs.turnstile.Turnstile.take_out.Goals as goal
 

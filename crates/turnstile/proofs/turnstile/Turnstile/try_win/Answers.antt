@@ -1,4 +1,4 @@
-use Rattle.std.proofs.Common.{rules, arith}
+use Rattle.std.proofs.Common.{arith}
 use Rattle.turnstile.proofs.Keeps.{wins}
 use Rattle.turnstile.proofs.turnstile.Turnstile.try_win.Goals as goal
 

@@ -1,4 +1,3 @@
-use Rattle.std.proofs.Common.{rules, arith, ap, ◌∙◌, subst, sym}
 use Rattle.turnstile.proofs.turnstile.Turnstile.win.Goals as goal
 
 pub returns-then-spin-clause-won : goal.returns-then-spin-clause-won

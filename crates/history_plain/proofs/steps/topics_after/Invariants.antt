@@ -1,8 +1,0 @@
-use Rattle.std.proofs.Common.{◌≡◌, take}
-use Rattle.std.specs.List.{filter}
-use Rattle.nsq_base.specs.Names.{is_before}
-use Rattle.history.specs.State.{Topic}
-use Rattle.history_plain.proofs.steps.topics_after.Given as goal
-
-abbrev pub invariant-loop-other : goal.invariant-loop-other
-invariant-loop-other l = l.found.items ≡ filter (λ (other : Topic). is_before l.topic.name other.name) (take l.other-index l.topics)

@@ -219,10 +219,13 @@ const SPLITTINGS: [Splitting; 2] = [
 
 // Whether the bytes are what the row says. Its records have at most 60 bytes.
 fn splits(alloc: Global, row: &Splitting) -> Result<bool, Memory> {
-    Ok(match records_of(alloc, row.bytes, row.least, 60)? {
-        Row::Whole(_bodies) => row.damage.is_none(),
-        Row::Damaged { place, size } => row.damage == Some((place, size)),
-    })
+    Ok(
+        match (records_of(alloc, row.bytes, row.least, 60)?, row.damage) {
+            (Row::Whole(_bodies), None) => true,
+            (Row::Damaged { place, size }, Some(damage)) => place == damage.0 && size == damage.1,
+            (Row::Whole(_), Some(_)) | (Row::Damaged { .. }, None) => false,
+        },
+    )
 }
 
 // What a metadata text says.

@@ -15,14 +15,6 @@ const FILES: [&str; 6] = [
     "q.diskqueue.000004.dat",
 ];
 
-/// The records that are found, where each has at least so many bytes, and 60 at most; none where the metadata is bad.
-pub fn listed(alloc: Global, folder: &MemFolder, least: u32) -> Result<Bodies, Memory> {
-    match found(alloc, folder, least)? {
-        Found::BadMeta => Ok(Bodies::new(alloc)),
-        Found::Records(listing) => Ok(listing.bodies),
-    }
-}
-
 /// Whether these records are found, of 26 to 60 bytes each, and no bad file.
 pub fn finds(alloc: Global, folder: &MemFolder, expected: &Bodies) -> Result<bool, Memory> {
     match found(alloc, folder, 26)? {
@@ -33,8 +25,16 @@ pub fn finds(alloc: Global, folder: &MemFolder, expected: &Bodies) -> Result<boo
     }
 }
 
-/// Whether the bodies are the same, one by one.
-pub fn same_bodies(found: &Bodies, expected: &Bodies) -> bool {
+/// Whether these records are found, of 1 to 60 bytes each, whatever files are bad.
+pub fn finds_short(alloc: Global, folder: &MemFolder, expected: &Bodies) -> Result<bool, Memory> {
+    match found(alloc, folder, 1)? {
+        Found::BadMeta => Ok(false),
+        Found::Records(listing) => Ok(same_bodies(&listing.bodies, expected)),
+    }
+}
+
+// Whether the bodies are the same, one by one.
+fn same_bodies(found: &Bodies, expected: &Bodies) -> bool {
     if found.count() != expected.count() {
         return false;
     }

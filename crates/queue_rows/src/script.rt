@@ -45,6 +45,8 @@ pub struct File {
 pub enum Look {
     /// These pieces, one behind the other.
     Has(&'static str, &'static [&'static [u8]]),
+    /// These bytes, and then so many of that value.
+    Filled(&'static str, &'static [u8], u8, usize),
     /// It is absent.
     Absent(&'static str),
 }
@@ -54,6 +56,8 @@ pub enum Look {
 pub enum Step {
     /// A record is put.
     Put(&'static [u8], Put),
+    /// A record of so many bytes of that value is put.
+    Fill(u8, usize, Put),
     /// A record is staged and forgotten.
     Forget(&'static [u8]),
     /// A record is staged and committed.
@@ -133,6 +137,10 @@ fn step_holds(
     let options = &script.options;
     match step {
         Step::Put(bytes, answer) => Ok(puts(queue, folder, options, bytes, answer)),
+        Step::Fill(byte, times, answer) => {
+            let bytes = filled(alloc, byte, times)?;
+            Ok(puts(queue, folder, options, &bytes, answer))
+        }
         Step::Forget(bytes) => Ok(forgets(queue, folder, options, bytes)),
         Step::Commit(bytes, answer) => Ok(commits(queue, folder, options, bytes, answer)),
         Step::Peek(answer, bytes) => Ok(peeks(queue, folder, options, answer, bytes)),
@@ -164,7 +172,14 @@ fn puts(
     if bytes.len() < options.least as usize {
         return false;
     }
-    queue.put(folder, bytes) == answer
+    let answered = queue.put(folder, bytes);
+    answered == answer
+}
+
+fn filled(alloc: Global, byte: u8, times: usize) -> Result<Vec<u8>, Memory> {
+    let mut bytes = Vec::new(alloc);
+    bytes.resize(times, byte)?;
+    Ok(bytes)
 }
 
 // Whether the record is staged.
@@ -314,7 +329,19 @@ pub fn is(folder: &MemFolder, look: Look) -> bool {
             Some(bytes) => is_made_of(bytes, pieces),
             None => false,
         },
+        Look::Filled(name, head, byte, times) => match folder.file(name) {
+            Some(bytes) => is_filled(bytes, head, byte, times),
+            None => false,
+        },
         Look::Absent(name) => folder.file(name).is_none(),
+    }
+}
+
+// Whether the bytes are these and then so many of that value.
+fn is_filled(bytes: &[u8], head: &[u8], byte: u8, times: usize) -> bool {
+    match bytes.strip_prefix(head) {
+        Some(rest) => rest.len() == times && rest.iter().all(|b| *b == byte),
+        None => false,
     }
 }
 

@@ -88,10 +88,10 @@ const ROWS: [Script; 13] = [
             to: 2,
         }],
         steps: &[
-            Step::Put(&[b'a'; 4096], Put::Stored(Sync::NotDue)),
-            Step::Put(&[b'b'; 4096], Put::Fault),
+            Step::Fill(b'a', 4096, Put::Stored(Sync::NotDue)),
+            Step::Fill(b'b', 4096, Put::Fault),
         ],
-        left: &[Look::Has("q.diskqueue.000000.dat", &[b"\0\0\x10\0", &[b'a'; 4096]])],
+        left: &[Look::Filled("q.diskqueue.000000.dat", b"\0\0\x10\0", b'a', 4096)],
     },
     Script {
         name: "a long record is two writes",
@@ -104,11 +104,11 @@ const ROWS: [Script; 13] = [
             to: 2,
         }],
         steps: &[
-            Step::Put(&[b'a'; 5000], Put::Fault),
+            Step::Fill(b'a', 5000, Put::Fault),
             Step::Look(Look::Has("q.diskqueue.000000.dat", &[b"\0\0\x13\x88"])),
-            Step::Put(&[b'b'; 5000], Put::Stored(Sync::NotDue)),
+            Step::Fill(b'b', 5000, Put::Stored(Sync::NotDue)),
         ],
-        left: &[Look::Has("q.diskqueue.000000.dat", &[b"\0\0\x13\x88", &[b'b'; 5000]])],
+        left: &[Look::Filled("q.diskqueue.000000.dat", b"\0\0\x13\x88", b'b', 5000)],
     },
     Script {
         name: "a forgotten record leaves its place",

@@ -69,7 +69,7 @@ const NAMES: &[u8] =
 /// The topic `t` with the channel `c`.
 const CHANNEL: &[u8] = br#"{"topics":[{"name":"t","channels":[{"name":"c"}]}]}"#;
 
-const ROWS: [Row; 12] = [
+const ROWS: &[Row] = &[
     Row {
         name: "no file",
         files: &[],
@@ -261,7 +261,7 @@ fn holds(alloc: Global, row: &Row) -> Result<bool, Memory> {
 
 #[test]
 fn rows(rt: HostRuntime) -> Result<(), Fail> {
-    for row in &ROWS {
+    for row in ROWS {
         let holds = holds(rt.alloc(), row)?;
         assert!(rt; holds, "{}", row.name);
     }

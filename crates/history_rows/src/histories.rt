@@ -69,7 +69,7 @@ const THIRD: &[u8] = b"0000010000000002";
 /// The last id of the first run.
 const LAST: &[u8] = b"000001ffffffffff";
 
-const ROWS: [Row; 24] = [
+const ROWS: &[Row] = &[
     Row {
         name: "no entry",
         mem_queue_size: 1,
@@ -554,7 +554,7 @@ fn call_laws() {
 #[test]
 fn rows(rt: HostRuntime) -> Result<(), Fail> {
     call_laws();
-    for row in &ROWS {
+    for row in ROWS {
         let holds = holds(rt.alloc(), row)?;
         assert!(rt; holds, "{}", row.name);
     }

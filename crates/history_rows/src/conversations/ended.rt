@@ -1,0 +1,188 @@
+//! Conversations that end without a fault of the client: nothing more is sent, the daemon stops, or memory is wanting.
+
+use super::{Got, Piece, Row, Told, holds};
+use history::Ended;
+use std::test::Fail;
+
+const ROWS: [Row; 19] = [
+    Row {
+        name: "a connection that sends nothing",
+        sent: &[],
+        told: &[Told::Began],
+        got: &[],
+        stopped: false,
+        is: Some(Ended::EndOfInput),
+        is_not: Some(Ended::Closed),
+    },
+    Row {
+        name: "a connection that sends nothing, and then is gone",
+        sent: &[],
+        told: &[Told::Began, Told::Gone],
+        got: &[],
+        stopped: false,
+        is: Some(Ended::EndOfInput),
+        is_not: Some(Ended::Closed),
+    },
+    Row {
+        name: "a connection that sends nothing, and then is gone, as a read failed",
+        sent: &[],
+        told: &[Told::Began, Told::Gone],
+        got: &[],
+        stopped: false,
+        is: Some(Ended::ReadFault),
+        is_not: None,
+    },
+    Row {
+        name: "a connection that is closed by a stop",
+        sent: &[],
+        told: &[Told::Began, Told::Gone],
+        got: &[],
+        stopped: true,
+        is: Some(Ended::Closed),
+        is_not: None,
+    },
+    Row {
+        name: "bytes that answer nothing",
+        sent: &[],
+        told: &[Told::Began, Told::Gone],
+        got: &[Got::X],
+        stopped: false,
+        is: None,
+        is_not: Some(Ended::EndOfInput),
+    },
+    Row {
+        name: "a connection that never began",
+        sent: &[],
+        told: &[],
+        got: &[],
+        stopped: false,
+        is: None,
+        is_not: Some(Ended::EndOfInput),
+    },
+    Row {
+        name: "a connection that is gone and never began",
+        sent: &[],
+        told: &[Told::Gone],
+        got: &[],
+        stopped: false,
+        is: None,
+        is_not: Some(Ended::EndOfInput),
+    },
+    Row {
+        name: "a body that breaks off",
+        sent: &[Piece::CutPub],
+        told: &[Told::Began],
+        got: &[],
+        stopped: false,
+        is: Some(Ended::EndOfInput),
+        is_not: Some(Ended::Closed),
+    },
+    Row {
+        name: "a body that breaks off, and then gone",
+        sent: &[Piece::CutPub],
+        told: &[Told::Began, Told::Gone],
+        got: &[],
+        stopped: false,
+        is: Some(Ended::EndOfInput),
+        is_not: None,
+    },
+    Row {
+        name: "a body that breaks off and is answered",
+        sent: &[Piece::CutPub],
+        told: &[Told::Began, Told::Gone],
+        got: &[Got::BadBody],
+        stopped: false,
+        is: None,
+        is_not: Some(Ended::EndOfInput),
+    },
+    Row {
+        name: "a body that breaks off and is taken",
+        sent: &[Piece::CutPub],
+        told: &[Told::Began, Told::H],
+        got: &[Got::Ok],
+        stopped: false,
+        is: None,
+        is_not: Some(Ended::EndOfInput),
+    },
+    Row {
+        name: "memory is wanting, and the frame is cut short",
+        sent: &[Piece::Pub],
+        told: &[Told::Began, Told::Gone],
+        got: &[Got::CutNoMemory],
+        stopped: false,
+        is: Some(Ended::Memory),
+        is_not: Some(Ended::EndOfInput),
+    },
+    Row {
+        name: "memory is wanting",
+        sent: &[Piece::Pub],
+        told: &[Told::Began, Told::Gone],
+        got: &[Got::NoMemory],
+        stopped: false,
+        is: Some(Ended::Memory),
+        is_not: Some(Ended::EndOfInput),
+    },
+    Row {
+        name: "memory is wanting, and a byte follows",
+        sent: &[Piece::Pub],
+        told: &[Told::Began, Told::Gone],
+        got: &[Got::NoMemory, Got::LineEnd],
+        stopped: false,
+        is: None,
+        is_not: Some(Ended::Memory),
+    },
+    Row {
+        name: "memory is wanting behind a publish",
+        sent: &[Piece::Pub],
+        told: &[Told::Began, Told::Hi],
+        got: &[Got::Ok, Got::NoMemory],
+        stopped: false,
+        is: Some(Ended::Memory),
+        is_not: Some(Ended::EndOfInput),
+    },
+    Row {
+        name: "memory is wanting for the answer to a publish",
+        sent: &[Piece::Pub],
+        told: &[Told::Began, Told::Hi],
+        got: &[Got::NoMemory],
+        stopped: false,
+        is: Some(Ended::Memory),
+        is_not: None,
+    },
+    Row {
+        name: "memory is wanting, and then a publish is answered",
+        sent: &[Piece::Pub],
+        told: &[Told::Began, Told::Hi],
+        got: &[Got::NoMemory, Got::Ok],
+        stopped: false,
+        is: None,
+        is_not: Some(Ended::Memory),
+    },
+    Row {
+        name: "memory is wanting before the first entry",
+        sent: &[],
+        told: &[],
+        got: &[Got::NoMemory],
+        stopped: false,
+        is: Some(Ended::Memory),
+        is_not: Some(Ended::EndOfInput),
+    },
+    Row {
+        name: "a piece before the first entry",
+        sent: &[Piece::X],
+        told: &[],
+        got: &[Got::NoMemory],
+        stopped: false,
+        is: None,
+        is_not: Some(Ended::Memory),
+    },
+];
+
+#[test]
+fn rows(rt: HostRuntime) -> Result<(), Fail> {
+    for row in &ROWS {
+        let holds = holds(rt.alloc(), row)?;
+        assert!(rt; holds, "{}", row.name);
+    }
+    Ok(())
+}

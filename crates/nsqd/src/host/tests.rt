@@ -9,7 +9,7 @@ use nsqd_core::{close, line, serve};
 use std::io::{Read as _, Write as _};
 use std::net::TcpListener;
 use std::test::Fail;
-use std::thread::{self, join};
+use std::thread::{self, Threads, join};
 use std::time::Duration;
 use std::{fs, io};
 
@@ -65,14 +65,14 @@ fn is_halt(accept: Accept<TcpConn>) -> bool {
 }
 
 /// Whether the host gives one caller, which is read and written, and no second one.
-fn gives_one_caller(rt: &HostRuntime) -> Result<bool, Fail> {
-    let alloc = rt.alloc();
-    let address = free_address(rt, alloc)?;
-    let mut host = SysHost::new(rt.clone()?, alloc)?;
+fn gives_one_caller<R: Wait>(rt: &R, own: &HostRuntime) -> Result<bool, Fail> {
+    let alloc = own.alloc();
+    let address = free_address(own, alloc)?;
+    let mut host = SysHost::new(own.clone()?, alloc)?;
     if host.start(rt, address.as_str(), "", ".") != Did::Done {
         return Ok(false);
     }
-    let mut client = TcpStream::connect(rt, address.as_str())?;
+    let mut client = TcpStream::connect(own, address.as_str())?;
     client.write_all(b"  V2")?;
     let mut called = None;
     for _ in 0..TRIES {
@@ -94,11 +94,11 @@ fn gives_one_caller(rt: &HostRuntime) -> Result<bool, Fail> {
 }
 
 /// Whether the host counts that an address is in use or is none, and that it doesn't listen.
-fn counts_faults(rt: &HostRuntime) -> Result<bool, Fail> {
-    let alloc = rt.alloc();
-    let listener = TcpListener::bind(rt, "127.0.0.1:0")?;
+fn counts_faults<R: Wait>(rt: &R, own: &HostRuntime) -> Result<bool, Fail> {
+    let alloc = own.alloc();
+    let listener = TcpListener::bind(own, "127.0.0.1:0")?;
     let address = address_of(alloc, &listener)?;
-    let mut host = SysHost::new(rt.clone()?, alloc)?;
+    let mut host = SysHost::new(own.clone()?, alloc)?;
     let in_use = host.start(rt, address.as_str(), "", ".");
     let in_use_faults = host.accept_faults.count;
     let no_port = host.start(rt, "no port", "", ".");
@@ -115,17 +115,17 @@ fn counts_faults(rt: &HostRuntime) -> Result<bool, Fail> {
 }
 
 /// Whether the folder is the one that was asked for, the kit comes home, and the standard streams take what they are given.
-fn keeps_its_kit(rt: &HostRuntime) -> Result<bool, Fail> {
-    let alloc = rt.alloc();
-    new_folder(rt, FILES)?;
-    let address = free_address(rt, alloc)?;
-    let mut host = SysHost::new(rt.clone()?, alloc)?;
+fn keeps_its_kit<R: Wait>(rt: &R, own: &HostRuntime) -> Result<bool, Fail> {
+    let alloc = own.alloc();
+    new_folder(own, FILES)?;
+    let address = free_address(own, alloc)?;
+    let mut host = SysHost::new(own.clone()?, alloc)?;
     let started = host.start(rt, address.as_str(), "", FILES);
     let mut home = host.lend();
     let cut = home.folder.cut("a", 3);
     host.restore(home);
-    let length = fs::metadata(rt, "nsqd_host_files/a")?.len();
-    fs::remove_dir_all(rt, FILES)?;
+    let length = fs::metadata(own, "nsqd_host_files/a")?.len();
+    fs::remove_dir_all(own, FILES)?;
     let printed = host.print(rt, b"nsqd 1.0.0\n");
     host.tell(rt, b"nsqd: a \xffline");
     Ok(
@@ -135,8 +135,8 @@ fn keeps_its_kit(rt: &HostRuntime) -> Result<bool, Fail> {
             && host.kit.is_some()
             && !host.beside()
             && printed == Did::Done
-            && host.print_faults == 0
-            && host.tell_faults == 0,
+            && host.print_faults.count == 0
+            && host.tell_faults.count == 0,
     )
 }
 
@@ -232,42 +232,45 @@ fn is_kept(rt: &HostRuntime, before: u64, after: u64) -> Result<bool, Fail> {
 }
 
 /// Whether a daemon takes the publish of a real connection, and stops well behind it.
-fn serves(rt: &HostRuntime) -> Result<bool, Fail> {
-    let alloc = rt.alloc();
-    new_folder(rt, PUBLISHED)?;
-    let address = free_address(rt, alloc)?;
-    let own = rt.clone()?;
-    let mut clock = SysClock::new(rt.clone()?);
+fn serves<R: Wait + Threads + Sync>(rt: &R, own: &HostRuntime) -> Result<bool, Fail> {
+    let alloc = own.alloc();
+    new_folder(own, PUBLISHED)?;
+    let address = free_address(own, alloc)?;
+    let for_host = own.clone()?;
+    let mut clock = SysClock::new(own.clone()?);
     let before = clock.now();
     let (got, served) = join(
         rt,
-        || publish(rt, address.as_str()),
-        || serve_at(rt, own, address.as_str(), PUBLISHED),
+        || publish(own, address.as_str()),
+        || serve_at(rt, for_host, address.as_str(), PUBLISHED),
     );
     Ok(
         served? == (0, None)
             && got == Some(*b"\0\0\0\x06\0\0\0\0OK")
-            && is_kept(rt, before, clock.now())?,
+            && is_kept(own, before, clock.now())?,
     )
 }
 
 /// Whether a daemon whose port is in use says so, and leaves its folder alone.
-fn refuses_a_port(rt: &HostRuntime) -> Result<bool, Fail> {
-    let alloc = rt.alloc();
-    new_folder(rt, IN_USE)?;
-    let listener = TcpListener::bind(rt, "127.0.0.1:0")?;
+fn refuses_a_port<R: Wait>(rt: &R, own: &HostRuntime) -> Result<bool, Fail> {
+    let alloc = own.alloc();
+    new_folder(own, IN_USE)?;
+    let listener = TcpListener::bind(own, "127.0.0.1:0")?;
     let address = address_of(alloc, &listener)?;
-    let (status, line) = serve_at(rt, rt.clone()?, address.as_str(), IN_USE)?;
-    fs::remove_dir(rt, IN_USE)?;
+    let (status, line) = serve_at(rt, own.clone()?, address.as_str(), IN_USE)?;
+    fs::remove_dir(own, IN_USE)?;
     Ok(status == 4 && line == Some(b"nsqd: accept failed".as_slice()))
 }
 
 #[test]
 fn the_real_machine(rt: HostRuntime) -> Result<(), Fail> {
-    assert!(rt; gives_one_caller(&rt)?, "one caller");
-    assert!(rt; counts_faults(&rt)?, "an address in use");
-    assert!(rt; keeps_its_kit(&rt)?, "the kit and the standard streams");
-    assert!(rt; serves(&rt)?, "a real connection");
-    assert!(rt; refuses_a_port(&rt)?, "a port in use");
+    assert!(rt; gives_one_caller(&rt, &rt)?, "one caller");
+    assert!(rt; counts_faults(&rt, &rt)?, "an address in use");
+    assert!(rt;
+        keeps_its_kit(&rt, &rt)?,
+        "the kit and the standard streams"
+    );
+    assert!(rt; serves(&rt, &rt)?, "a real connection");
+    assert!(rt; refuses_a_port(&rt, &rt)?, "a port in use");
     Ok(())
 }

@@ -107,7 +107,7 @@ fn is_stop(entry: &Entry) -> bool {
 
 impl Dialer for WantingHost {
     ghost use Rattle.std.specs.Prelude.{[], false};
-    ghost use Rattle.nsq_fakes.specs.MemHosts.{dial_faults_of, dial_faults_fit};
+    ghost use Rattle.nsq_fakes.specs.MemHosts.{dial_faults_of};
 
     type Conn = MemConn;
 
@@ -123,7 +123,7 @@ impl Dialer for WantingHost {
         self.outside.dial(rt, address)
     }
 
-    ghost dial_faults_fit = { λ host. dial_faults_fit host.outside };
+    ghost dial_faults_fit = { λ host. host.outside.dialer.faults.fits };
 }
 
 impl Host<Entry> for WantingHost {

@@ -9,7 +9,7 @@ use std::marker::Model;
 ///
 /// A rename has its old name there, and its new one in `to`; of any other call `to` is empty. A listing and a sync of names
 /// have no name.
-#[derive(Drop, Debug)]
+#[derive(Drop)]
 pub struct Called {
     pub call: FolderCall,
     pub name: String,

@@ -3,7 +3,7 @@ ghost use Rattle.std.specs.List.{Any};
 ghost use Rattle.nsq_fakes.specs.Failings.{Hits, count_of, CountsCall};
 
 /// A method of `Folder`, or `Any` of them.
-#[derive(Clone, Copy, Debug, PartialEq, Eq)]
+#[derive(Clone, Copy, PartialEq, Eq)]
 pub enum FolderCall {
     List,
     Len,
@@ -20,7 +20,7 @@ pub enum FolderCall {
 /// Calls that fail: those of a method whose numbers are at least `from` and below `to`.
 ///
 /// The calls of each method are counted from 0, and so are the calls of all methods together, for `FolderCall::Any`.
-#[derive(Clone, Copy, Debug, PartialEq, Eq)]
+#[derive(Clone, Copy, PartialEq, Eq)]
 pub struct Failing {
     pub call: FolderCall,
     pub from: u64,

@@ -5,7 +5,7 @@ use nsq_base::Body;
 use std::collections::VecDeque;
 
 /// What a read of a connection in memory finds.
-#[derive(Drop, Debug)]
+#[derive(Drop)]
 pub enum Piece {
     /// These bytes. No byte comes after a piece of 0 bytes.
     Bytes(Body),

@@ -1,7 +1,7 @@
 use std::marker::Model;
 
 /// The addresses and the folder's path that a host was started with.
-#[derive(Drop, Debug)]
+#[derive(Drop)]
 pub struct Start {
     pub tcp: String,
     pub http: String,

@@ -265,14 +265,14 @@ const ROWS: [Row; 12] = [
         name: "a busy writer does not wait",
         kind: Kind::Tcp,
         steps: &[],
-        rounds: 50,
+        rounds: 250,
         round: &[
             Step::Conn(Call::Busy),
             Step::Conn(Call::Read(Read::Nothing, b"")),
         ],
         last: &[],
         least: 0,
-        most: 500,
+        most: 2_500,
     },
 ];
 

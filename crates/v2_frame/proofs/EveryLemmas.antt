@@ -57,8 +57,8 @@ size_there (x ∷ []) b l = absurd (omega arith)
 size_there (x ∷ y ∷ []) b l = absurd (omega arith)
 size_there (x ∷ y ∷ z ∷ []) b l = absurd (omega arith)
 size_there (x ∷ y ∷ z ∷ w ∷ behind) b l =
-    let same : size4 (from_be_bytes w32 (x ∷ y ∷ z ∷ w ∷ [])) ≡ x ∷ y ∷ z ∷ w ∷ [] = be_bytes_4 (x ∷ y ∷ z ∷ w ∷ []) (from_be_bytes w32 (x ∷ y ∷ z ∷ w ∷ [])) refl (byte_at (x ∷ y ∷ z ∷ w ∷ []) (b.0, b.1, b.2, b.3, tt)) refl in
-    (from_be_bytes w32 (x ∷ y ∷ z ∷ w ∷ []), record { whole = ap (λ (s : List ℕ). s ++ behind) (sym same); fits = omega (arith, b.0, b.1, b.2, b.3) })
+    let same : size4 (from_be_bytes w32 (x ∷ y ∷ z ∷ w ∷ [])) ≡ x ∷ y ∷ z ∷ w ∷ [] = be_bytes_4 (x ∷ y ∷ z ∷ w ∷ []) (from_be_bytes w32 (x ∷ y ∷ z ∷ w ∷ [])) refl (byte_at (x ∷ y ∷ z ∷ w ∷ []) (b.0, (b.1.0, (b.1.1.0, (b.1.1.1.0, tt))))) refl in
+    (from_be_bytes w32 (x ∷ y ∷ z ∷ w ∷ []), record { whole = ap (λ (s : List ℕ). s ++ behind) (sym same); fits = omega (arith, b.0, b.1.0, b.1.1.0, b.1.1.1.0) })
 
 -- a size and so many bytes, or what is wrong in their place
 data Sized (most : ℕ) (bytes : List ℕ) : Type 0 where
@@ -113,22 +113,22 @@ body_first most bytes body behind {bodies = bodies} {left = left} e good h =
 
 bodies_there : (most n : ℕ) (bytes : List ℕ) → AreBytes bytes → Good most n bytes ⊎ Wrong most n bytes
 bodies_there most zero bytes b = inl (record { bodies = []; left = bytes; have = no_bodies most bytes; all = refl })
-bodies_there most (suc n) bytes b = by (sizing_there most bytes b)
+bodies_there most (suc n) bytes b = by (λ text c. bodies_there most n text c) (sizing_there most bytes b)
   where
     on : (body behind : List ℕ) → bytes ≡ sized body ++ behind → IsBody most body → Good most n behind ⊎ Wrong most n behind → Good most (suc n) bytes ⊎ Wrong most (suc n) bytes
     on body behind e good (inl g) = inl (record { bodies = body ∷ g.bodies; left = g.left; have = body_first most bytes body behind e good g.have; all = omega (arith, g.all) })
     on body behind e good (inr w) = inr (record { bodies = body ∷ w.bodies; left = w.left; kind = w.kind; have = body_first most bytes body behind e good w.have; less = omega (arith, w.less); bad = w.bad })
 
-    by : Sized most bytes → Good most (suc n) bytes ⊎ Wrong most (suc n) bytes
-    by (few_bytes l) = inr (wrong_first most n bytes (no_size l))
-    by (no_good h wrong) = inr (wrong_first most n bytes (bad_size h wrong))
-    by (cut_short h good l) = inr (wrong_first most n bytes (cut_body h good l))
-    by (all_there size f) =
+    by : ((text : List ℕ) → AreBytes text → Good most n text ⊎ Wrong most n text) → Sized most bytes → Good most (suc n) bytes ⊎ Wrong most (suc n) bytes
+    by next (few_bytes l) = inr (wrong_first most n bytes (no_size l))
+    by next (no_good h wrong) = inr (wrong_first most n bytes (bad_size h wrong))
+    by next (cut_short h good l) = inr (wrong_first most n bytes (cut_body h good l))
+    by next (all_there size f) =
         let text = drop 4 bytes in
         let long : length (take size text) ≡ size = simp length-take (omega (arith, f.there, length-drop 4 bytes)) in
         let e : bytes ≡ sized (take size text) ++ drop size text =
         f.size_is.whole ∙ ap (λ (x : List ℕ). size4 size ++ x) (sym (take-append-drop size text)) ∙ ap (λ (m : ℕ). size4 m ++ (take size text ++ drop size text)) (sym long) in
-        on (take size text) (drop size text) e (subst (λ (m : ℕ). IsSize most m) (sym long) f.good) (bodies_there most n (drop size text) (bytes_drop size text (bytes_drop 4 bytes b)))
+        on (take size text) (drop size text) e (subst (λ (m : ℕ). IsSize most m) (sym long) f.good) (next (drop size text) (bytes_drop size text (bytes_drop 4 bytes b)))
 
 -- the content of an MPUB is good, or has a fault
 record GoodContent (most : ℕ) (content : List ℕ) : Type 0 where
@@ -263,16 +263,16 @@ record Stops (limits : Limits) (bytes : List ℕ) : Type 0 where
 
 row_there : (fuel : ℕ) (limits : Limits) (bytes : List ℕ) → AreBytes bytes → length bytes < fuel → Stops limits bytes
 row_there zero limits bytes b l = absurd (omega arith)
-row_there (suc fuel) limits bytes b l = let v = verdict_there limits bytes b in by v.0 v.1
+row_there (suc fuel) limits bytes b l = let v = verdict_there limits bytes b in by (λ behind c less. row_there fuel limits behind c less) v.0 v.1
   where
-    by : (verdict : Verdict) → Judged limits bytes verdict → Stops limits bytes
-    by Unfinished d = record { commands = []; left = bytes; row = none; stop = inl d }
-    by (Faulty kind at) d = record { commands = []; left = bytes; row = none; stop = inr (kind, at, d) }
-    by (Whole c behind) d =
+    by : ((behind : List ℕ) → AreBytes behind → length behind < fuel → Stops limits behind) → (verdict : Verdict) → Judged limits bytes verdict → Stops limits bytes
+    by on Unfinished d = record { commands = []; left = bytes; row = none; stop = inl d }
+    by on (Faulty kind at) d = record { commands = []; left = bytes; row = none; stop = inr (kind, at, d) }
+    by on (Whole c behind) d =
         let begins : Begins limits bytes c behind = judged_begins d in
         let line = begins.spells.line in
         let less : length behind < fuel = omega (arith, ap length begins.whole, length-append begins.front behind, ap length begins.spells.whole, length-append line (10 ∷ behind_of c)) in
-        let next = row_there fuel limits behind (bytes_behind begins.front behind (subst AreBytes begins.whole b)) less in
+        let next = on behind (bytes_behind begins.front behind (subst AreBytes begins.whole b)) less in
         record { commands = c ∷ next.commands; left = next.left; row = more begins next.row; stop = next.stop }
 
 script_behind : (limits : Limits) (place : ℕ) (bytes : List ℕ) → Stops limits bytes → (commands : List Command) × (end : Rest) × HasScript limits place bytes commands end

@@ -151,7 +151,7 @@ module _ (a b : List ℕ) where
   two_words : Told ((a ≡ codes "PUB") × (b ≢ [])) → Told ((a ≡ codes "MPUB") × (b ≢ [])) → Told ((a ≡ codes "RDY") × ((z : ℤ) × IsNumber b z)) → Told ((a ≡ codes "FIN") × IsIdWord b) → Told ((a ≡ codes "TOUCH") × IsIdWord b) → Saying (a ∷ b ∷ [])
   two_words (inl h) _ _ _ _ = inl (Pub b, (ap (λ (x : List ℕ). x ∷ b ∷ []) h.0, h.1))
   two_words (inr p) (inl h) _ _ _ = inl (Mpub b, (ap (λ (x : List ℕ). x ∷ b ∷ []) h.0, h.1))
-  two_words (inr p) (inr m) (inl h) _ _ = inl (Rdy h.1, inr (b, ap (λ (x : List ℕ). x ∷ b ∷ []) h.0, h.2))
+  two_words (inr p) (inr m) (inl h) _ _ = inl (Rdy h.1.0, inr (b, ap (λ (x : List ℕ). x ∷ b ∷ []) h.0, h.1.1))
   two_words (inr p) (inr m) (inr r) (inl h) _ = inl (Fin b, (ap (λ (x : List ℕ). x ∷ b ∷ []) h.0, h.1))
   two_words (inr p) (inr m) (inr r) (inr f) (inl h) = inl (Touch b, (ap (λ (x : List ℕ). x ∷ b ∷ []) h.0, h.1))
   two_words (inr p) (inr m) (inr r) (inr f) (inr t) = inr (λ heading s. two_not p m r f t heading s)
@@ -174,13 +174,13 @@ module _ (a b c : List ℕ) where
   three_not u d q Nop s = omega (arith, ap length s)
 
   three_words : Told ((a ≡ codes "SUB") × ((b ≢ []) × (c ≢ []))) → Told ((a ≡ codes "DPUB") × ((b ≢ []) × ((z : ℤ) × IsNumber c z))) → Told ((a ≡ codes "REQ") × (IsIdWord b × ((z : ℤ) × IsNumber c z))) → Saying (a ∷ b ∷ c ∷ [])
-  three_words (inl h) _ _ = inl (Sub b c, (ap (λ (x : List ℕ). x ∷ b ∷ c ∷ []) h.0, h.1, h.2))
-  three_words (inr u) (inl h) _ = inl (Dpub b h.2, (c, ap (λ (x : List ℕ). x ∷ b ∷ c ∷ []) h.0, h.1, h.3))
-  three_words (inr u) (inr d) (inl h) = inl (Req b h.2, (c, ap (λ (x : List ℕ). x ∷ b ∷ c ∷ []) h.0, h.1, h.3))
+  three_words (inl h) _ _ = inl (Sub b c, (ap (λ (x : List ℕ). x ∷ b ∷ c ∷ []) h.0, h.1.0, h.1.1))
+  three_words (inr u) (inl h) _ = inl (Dpub b h.1.1.0, (c, ap (λ (x : List ℕ). x ∷ b ∷ c ∷ []) h.0, h.1.0, h.1.1.1))
+  three_words (inr u) (inr d) (inl h) = inl (Req b h.1.1.0, (c, ap (λ (x : List ℕ). x ∷ b ∷ c ∷ []) h.0, h.1.0, h.1.1.1))
   three_words (inr u) (inr d) (inr q) = inr (λ heading s. three_not u d q heading s)
 
 pub saying : (words : List (List ℕ)) → Saying words
-saying [] = inr (λ heading s. let long : (0 < length ([] : List (List ℕ))) × (length ([] : List (List ℕ)) ≤ 3) = says_long [] heading s in omega (arith, long.0))
+saying [] = inr (λ heading s. omega (arith, (says_long [] heading s).0))
 saying (a ∷ []) = one_word a (same a (codes "IDENTIFY")) (same a (codes "RDY")) (same a (codes "CLS")) (same a (codes "NOP"))
 saying (a ∷ b ∷ []) =
     two_words a b (both (same a (codes "PUB")) (some b)) (both (same a (codes "MPUB")) (some b)) (both (same a (codes "RDY")) (number b)) (both (same a (codes "FIN")) (id_word b)) (both (same a (codes "TOUCH")) (id_word b))

@@ -179,23 +179,31 @@ module _ (limits : Limits) (bytes : List ℕ) (b : AreBytes bytes) where
       by (all_there size f) = on size f
 
   batch_there : (topic : List ℕ) (size : ℕ) → IsWholeField limits.body bytes size → GoodContent limits.msg (take size (drop 4 bytes)) ⊎ WrongContent limits.msg (take size (drop 4 bytes)) → Behinds limits (Mpub topic) bytes
-  batch_there topic size f (inl g) =
-      (Whole (command.Mpub topic g.bodies) (drop (4 + size) bytes), text_whole limits (Mpub topic) limits.body size bytes (content_of g.bodies) f g.is (command.Mpub topic g.bodies) refl refl
-      (g.some, g.each, text_good limits (Mpub topic) limits.body size bytes (content_of g.bodies) f g.is limits.body refl))
+  batch_there topic size f (inl g) = (
+    Whole (command.Mpub topic g.bodies) (drop (4 + size) bytes),
+    text_whole limits (Mpub topic) limits.body size bytes (content_of g.bodies) f g.is (command.Mpub topic g.bodies) refl refl
+        (g.some, g.each, text_good limits (Mpub topic) limits.body size bytes (content_of g.bodies) f g.is limits.body refl),
+  )
   batch_there topic size f (inr w) = (Faulty w.kind w.at, text_bad limits (Mpub topic) limits.body size bytes (take size (drop 4 bytes)) f refl topic w.kind w.at refl refl w.bad)
 
   behind_there : (heading : Heading) → Behinds limits heading bytes
-  behind_there Identify = sized_there Identify (record { most = limits.body; wrong = BadBody }) refl (λ size f.
-      (Whole (command.Identify (take size (drop 4 bytes))) (drop (4 + size) bytes), text_whole limits Identify limits.body size bytes (take size (drop 4 bytes)) f refl (command.Identify (take size (drop 4 bytes))) refl refl
-      (text_good limits Identify limits.body size bytes (take size (drop 4 bytes)) f refl limits.body refl)))
-  behind_there (Pub topic) = sized_there (Pub topic) (record { most = limits.msg; wrong = BadSize }) refl (λ size f.
-      (Whole (command.Pub topic (take size (drop 4 bytes))) (drop (4 + size) bytes), text_whole limits (Pub topic) limits.msg size bytes (take size (drop 4 bytes)) f refl (command.Pub topic (take size (drop 4 bytes))) refl refl
-      (text_good limits (Pub topic) limits.msg size bytes (take size (drop 4 bytes)) f refl limits.msg refl)))
+  behind_there Identify = sized_there Identify (record { most = limits.body; wrong = BadBody }) refl (λ size f. (
+    Whole (command.Identify (take size (drop 4 bytes))) (drop (4 + size) bytes),
+    text_whole limits Identify limits.body size bytes (take size (drop 4 bytes)) f refl (command.Identify (take size (drop 4 bytes))) refl refl
+        (text_good limits Identify limits.body size bytes (take size (drop 4 bytes)) f refl limits.body refl),
+  ))
+  behind_there (Pub topic) = sized_there (Pub topic) (record { most = limits.msg; wrong = BadSize }) refl (λ size f. (
+    Whole (command.Pub topic (take size (drop 4 bytes))) (drop (4 + size) bytes),
+    text_whole limits (Pub topic) limits.msg size bytes (take size (drop 4 bytes)) f refl (command.Pub topic (take size (drop 4 bytes))) refl refl
+        (text_good limits (Pub topic) limits.msg size bytes (take size (drop 4 bytes)) f refl limits.msg refl),
+  ))
   behind_there (Mpub topic) = sized_there (Mpub topic) (record { most = limits.body; wrong = BadBody }) refl (λ size f.
       batch_there topic size f (content_there limits.msg (take size (drop 4 bytes)) (bytes_take size (drop 4 bytes) (bytes_drop 4 bytes b))))
-  behind_there (Dpub topic delay) = sized_there (Dpub topic delay) (record { most = limits.msg; wrong = BadSize }) refl (λ size f.
-      (Whole (command.Dpub topic delay (take size (drop 4 bytes))) (drop (4 + size) bytes), text_whole limits (Dpub topic delay) limits.msg size bytes (take size (drop 4 bytes)) f refl (command.Dpub topic delay (take size (drop 4 bytes))) refl refl
-      (text_good limits (Dpub topic delay) limits.msg size bytes (take size (drop 4 bytes)) f refl limits.msg refl)))
+  behind_there (Dpub topic delay) = sized_there (Dpub topic delay) (record { most = limits.msg; wrong = BadSize }) refl (λ size f. (
+    Whole (command.Dpub topic delay (take size (drop 4 bytes))) (drop (4 + size) bytes),
+    text_whole limits (Dpub topic delay) limits.msg size bytes (take size (drop 4 bytes)) f refl (command.Dpub topic delay (take size (drop 4 bytes))) refl refl
+        (text_good limits (Dpub topic delay) limits.msg size bytes (take size (drop 4 bytes)) f refl limits.msg refl),
+  ))
   behind_there (Sub topic channel) = (Whole (command.Sub topic channel) bytes, whole refl refl tt)
   behind_there (Rdy count) = (Whole (command.Rdy count) bytes, whole refl refl tt)
   behind_there (Fin id) = (Whole (command.Fin id) bytes, whole refl refl tt)

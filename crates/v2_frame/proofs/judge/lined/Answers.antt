@@ -69,5 +69,5 @@ returns-in_err-command-in-Ok-Sized-clause-memory c =
     (c.in-Some.ensures (words_of c.text_of-text.result.now) c.words_of.ensures) in
     let line = c.args.end + 1 in
     let rest = take (length c.args.bytes.now - line) (drop line c.args.bytes.now) in
-    let is : HasSizedText c.args.limits c.args.bytes.now = sized_text heading c.in-Ok-Sized.start rest h (rw c.in-Ok-Sized.field-0-is at c.in-Ok-Sized.ensures) (behind_place c.args.bytes.now line) (rw c.in_err-command-in-Ok-Sized.is at c.in_err-command-in-Ok-Sized.ensures.memory) in
+    let is : HasSizedText c.args.limits c.args.bytes.now = sized_text heading c.in-Ok-Sized.start rest h (rw c.in-Ok-Sized.field-0-is at c.in-Ok-Sized.ensures) (behind_place c.args.bytes.now line) c.in_err-command-in-Ok-Sized.ensures.memory in
     search rules

@@ -1,5 +1,5 @@
 -- All bytes have a verdict, and so every stream has a script.
-use Rattle.std.proofs.Common.{◌≡◌, ◌≢◌, true, false, ℕ, ◌+◌, ◌-◌, ◌^◌, ◌<◌, ◌≤◌, List, [], ◌∷◌, ◌++◌, Some, length, take, drop, get_or, refl, sym, ap, ◌∙◌, subst, arith, append_assoc, length-append, length-take, length-drop, take-append-drop, inl, inr}
+use Rattle.std.proofs.Common.{◌≡◌, ◌≢◌, true, false, ℕ, ◌+◌, ◌-◌, ◌<◌, ◌≤◌, List, [], ◌∷◌, ◌++◌, Some, length, take, drop, get_or, refl, sym, ap, ◌∙◌, subst, arith, append_assoc, length-append, length-take, length-drop, take-append-drop, inl, inr}
 use Rattle.std.specs.Prelude.{◌⊎◌, ◌==◌, zero, suc}
 use Rattle.std.specs.Int.{from_be_bytes, w32}
 use Rattle.std.specs.List.{AllByRecursion, flat_map}
@@ -21,7 +21,7 @@ use Rattle.v2_frame.specs.Command.{bytes_behind as behind_of}
 use Rattle.v2_frame.specs.Judging.{Verdict, Whole, Faulty, Unfinished, shifted, HasSize, HasBodies, IsBadMessage, no_size, bad_size, cut_body, IsBadContent, no_count, count_zero, bad_message, left_over, place_behind, Sizing, sizing_of, Behind, whole, open_size, open_body, HasHeading, Judged, long_line, bad_word, bad_topic, bad_channel, good_line, IsFault, IsUnfinished, Begins}
 use Rattle.v2_frame.specs.Judging.{bad_size as wrong_size}
 use Rattle.v2_frame.specs.Parts.{IsWholeField}
-use Rattle.v2_frame.specs.Script.{magic, Row, none, more, told_place, HasScript, IsScript, open_magic, good_magic}
+use Rattle.v2_frame.specs.Script.{magic, Row, none, more, told_place, HasScript, open_magic, good_magic}
 use Rattle.v2_frame.specs.Laws.{AreBytes, HasVerdict, SomeScript}
 use Rattle.v2_frame.proofs.SizeLemmas.{size_long}
 use Rattle.v2_frame.proofs.FieldLemmas.{text_good, text_whole, text_bad}

@@ -1,6 +1,6 @@
 -- Names, numbers and ids can be told, and words say a heading or nothing.
 use Rattle.std.proofs.Common.{◌≡◌, ◌≢◌, ℕ, ◌<◌, ◌≤◌, true, false, ℤ, pos, List, [], ◌∷◌, length, codes, refl, sym, ap, subst, arith, inl, inr}
-use Rattle.std.specs.Prelude.{◌⊎◌, Bool, suc, if◌then◌else◌, neg_ℤ}
+use Rattle.std.specs.Prelude.{◌⊎◌, Bool, if◌then◌else◌, neg_ℤ}
 use Rattle.std.specs.Bool.{Decides}
 use Rattle.std.specs.List.{AllPass, list_all}
 use Rattle.std.specs.Char.{digit_value}

@@ -48,13 +48,15 @@ AreBytes bytes = AllByRecursion (λ b. b < 256) bytes
 abbrev pub HasVerdict : Limits → List ℕ → Type 0
 HasVerdict limits bytes = (verdict : Verdict) × Judged limits bytes verdict
 
+-- all bytes have one
 abbrev pub EveryVerdict : Type 0
 EveryVerdict = (limits : Limits) (bytes : List ℕ) → AreBytes bytes → HasVerdict limits bytes
 
--- a stream has a script
+-- a stream of these bytes has a script
 abbrev pub SomeScript : Limits → List ℕ → Type 0
 SomeScript limits bytes = (commands : List Command) × (rest : Rest) × IsScript limits bytes commands rest
 
+-- every stream has one
 abbrev pub EveryScript : Type 0
 EveryScript = (limits : Limits) (bytes : List ℕ) → AreBytes bytes → SomeScript limits bytes
 

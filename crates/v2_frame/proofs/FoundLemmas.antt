@@ -1,19 +1,16 @@
 -- The verdict on a line, as the judge finds it.
 use Rattle.std.proofs.Common.{◌≡◌, ℕ, ◌+◌, ◌<◌, ◌≤◌, List, ◌∷◌, ◌++◌, length, take, drop, refl, sym, ap, subst, arith, length-take}
-use Rattle.std.specs.Prelude.{IsSome}
-use Rattle.std.proofs.Common.{rules}
 use Rattle.v2_frame.specs.declared.command.Command.{Command}
 use Rattle.v2_frame.specs.declared.fault.FaultKind.{FaultKind}
 use Rattle.v2_frame.specs.declared.fault.FaultKind.TheVariants.{LineTooLong, BadWord, BadTopic, BadChannel}
 use Rattle.v2_frame.specs.declared.fault.Limits.{Limits}
 use Rattle.v2_frame.specs.declared.start.Sized.{Sized}
-use Rattle.v2_frame.specs.declared.start.Sized.TheVariants as sized
 use Rattle.v2_frame.specs.declared.start.Start.TheVariants as start
 use Rattle.v2_frame.specs.Line.{HasNo, HasLine, text_of, words_of}
 use Rattle.v2_frame.specs.Heading.{Heading, Says, SaysNothing}
 use Rattle.v2_frame.specs.Command.{longest_line}
-use Rattle.v2_frame.specs.Judging.{Verdict, Whole, Faulty, shifted, sizing_of, Behind, whole, HasHeading, Judged, long_line, bad_word, bad_topic, bad_channel, good_line}
-use Rattle.v2_frame.specs.Parts.{sized_heading, IsStart, HasBadName, HasSizedLine}
+use Rattle.v2_frame.specs.Judging.{Verdict, Whole, Faulty, shifted, Behind, whole, HasHeading, Judged, long_line, bad_word, bad_topic, bad_channel, good_line}
+use Rattle.v2_frame.specs.Parts.{sized_heading, IsStart, HasBadName, HasText, HasSizedText}
 
 -- the line at the first line feed, and its text
 module _ (limits : Limits) (bytes text : List ℕ) (end : ℕ) (within : end < length bytes) (first : HasNo 10 (take end bytes)) (whole_is : bytes ≡ take end bytes ++ 10 ∷ drop (end + 1) bytes) (text_is : text ≡ text_of (take end bytes)) where
@@ -46,13 +43,8 @@ pub found_sized : {limits : Limits} {bytes line rest : List ℕ} (heading : Head
 found_sized {limits = limits} {rest = rest} heading sized slice verdict h s e b =
     good_line h s.1 (subst (λ (x : Heading). Behind limits x rest verdict) (sym s.0) (subst (λ (x : List ℕ). Behind limits (sized_heading sized) x verdict) e b)) refl
 
-some_sizing : (limits : Limits) (s : Sized) → IsSome (sizing_of limits (sized_heading s))
-some_sizing limits sized.Identify = search rules
-some_sizing limits (sized.Pub topic) = search rules
-some_sizing limits (sized.Mpub topic) = search rules
-some_sizing limits (sized.Dpub topic delay) = search rules
-
--- a line that has something behind it
-pub sized_line : {limits : Limits} {bytes line rest : List ℕ} (heading : Heading) (s : Sized) → HasHeading bytes line heading rest → IsStart heading (start.Sized s) → HasSizedLine limits bytes
-sized_line {limits = limits} {line = line} {rest = rest} heading s h is =
-    record { line = line; rest = rest; heading = heading; is = h; sized = subst (λ (x : Heading). IsSome (sizing_of limits x)) (sym is.0) (some_sizing limits s) }
+-- a good size and so many bytes behind a good line
+pub sized_text : {limits : Limits} {bytes line rest : List ℕ} (heading : Heading) (s : Sized) (slice : List ℕ) → HasHeading bytes line heading rest → IsStart heading (start.Sized s) → slice ≡ rest → HasText limits (sized_heading s) slice
+    → HasSizedText limits bytes
+sized_text {limits = limits} {line = line} {rest = rest} heading s slice h is e t =
+    record { line = line; rest = rest; heading = heading; is = h; named = is.1; text = subst (λ (x : Heading). HasText limits x rest) (sym is.0) (subst (λ (x : List ℕ). HasText limits (sized_heading s) x) e t) }

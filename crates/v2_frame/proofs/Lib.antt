@@ -14,3 +14,5 @@ pub mod WritingLemmas
 pub mod MessageLemmas
 pub mod FrameLemmas
 pub mod FrameRowLemmas
+pub mod SayingLemmas
+pub mod EveryLemmas

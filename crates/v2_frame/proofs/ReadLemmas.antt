@@ -135,7 +135,7 @@ next_read old new (got.Fault fault) bytes commands t h =
       subst (λ (x : List Command). IsScript old.limits bytes x (rest.Faulty fault)) (append-nil commands) script,
     )
 next_read old new got.Memory bytes commands t h =
-    (subst (λ (x : List Command). HasRead new bytes x) (sym (append-nil commands)) (subst (λ (x : Reading). HasRead x bytes commands) (sym t.1) h), tt)
+    (subst (λ (x : List Command). HasRead new bytes x) (sym (append-nil commands)) (subst (λ (x : Reading). HasRead x bytes commands) (sym t.2) h), tt)
 
 -- what an answer does to what was read and given, and what it tells
 pub given_read : (old new : Reading) (answer : Got) (bytes : List ℕ) (commands : List Command) → Gives old new answer → HasRead old bytes commands → HasRead new bytes (commands ++ given answer) × Tells old.limits bytes commands answer
@@ -208,7 +208,7 @@ next_left : (old new : Reading) (answer : Got) (commands : List Command) (end : 
 next_left old new (got.Whole command) commands end t = takes_left old new command commands end t
 next_left old new got.More commands end t = (λ s. subst (λ (x : Reading). IsLeft x commands end) (sym t.1) s, λ s. subst (λ (x : Reading). IsLeft x commands end) t.1 s)
 next_left old new (got.Fault fault) commands end t = fails_left old new fault commands end t
-next_left old new got.Memory commands end t = (λ s. subst (λ (x : Reading). IsLeft x commands end) (sym t.1) s, λ s. subst (λ (x : Reading). IsLeft x commands end) t.1 s)
+next_left old new got.Memory commands end t = (λ s. subst (λ (x : Reading). IsLeft x commands end) (sym t.2) s, λ s. subst (λ (x : Reading). IsLeft x commands end) t.2 s)
 
 -- what was left is what is given and what is left then
 pub given_left : (old new : Reading) (answer : Got) (commands : List Command) (end : Rest) → Gives old new answer → IsLeft old (given answer ++ commands) end ↔ IsLeft new commands end
@@ -230,7 +230,7 @@ next_limits : (old new : Reading) (answer : Got) → GivesNext old new answer �
 next_limits old new (got.Whole command) t = t.limits
 next_limits old new got.More t = ap (λ (x : Reading). x.limits) t.1
 next_limits old new (got.Fault fault) t = t.limits
-next_limits old new got.Memory t = ap (λ (x : Reading). x.limits) t.1
+next_limits old new got.Memory t = ap (λ (x : Reading). x.limits) t.2
 
 pub given_limits : (old new : Reading) (answer : Got) → Gives old new answer → new.limits ≡ old.limits
 given_limits old new answer g = next_limits g.begun new answer g.next ∙ starts_limits old g.begun g.starts
@@ -245,3 +245,23 @@ given_less old new command g =
     let front = g.next.begins.front in
     let line = g.next.begins.spells.line in
     omega (arith, starts_less old g.begun g.starts, ap length g.next.begins.whole, length-append front new.pending, ap length g.next.begins.spells.whole, length-append line (10 ∷ bytes_behind command))
+
+-- after a fault each answer is that fault
+starts_failed : (old new : Reading) (fault : Fault) → old.stage ≡ Failed fault → Starts old new → new.stage ≡ Failed fault
+starts_failed old new fault f (inl e) = ap (λ (x : Reading). x.stage) e ∙ f
+starts_failed old new fault f (inr m) = let opening : old.stage ≡ Opening = m.opening in cc
+
+next_stays : (old new : Reading) (answer : Got) (fault : Fault) → old.stage ≡ Failed fault → GivesNext old new answer → (answer ≡ got.Fault fault) × (new.stage ≡ Failed fault)
+next_stays old new (got.Whole command) fault f t = let stands : old.stage ≡ Commands = t.stands in cc
+next_stays old new got.More fault f t =
+    let left : LeftAt (Failed fault) old.limits old.place old.pending [] rest.Unfinished = subst (λ (x : Stage). LeftAt x old.limits old.place old.pending [] rest.Unfinished) f t.0 in
+    let wrong : rest.Unfinished ≡ rest.Faulty fault = left.1 in cc
+next_stays old new (got.Fault other) fault f t =
+    let left : LeftAt (Failed fault) old.limits old.place old.pending [] (rest.Faulty other) = subst (λ (x : Stage). LeftAt x old.limits old.place old.pending [] (rest.Faulty other)) f t.left in
+    let told : rest.Faulty other ≡ rest.Faulty fault = left.1 in
+    let same : other ≡ fault = cc in
+    (ap got.Fault same, t.failed ∙ ap Failed same)
+next_stays old new got.Memory fault f t = let stands : old.stage ≡ Commands = t.0 in cc
+
+pub fault_stays : (old new : Reading) (answer : Got) (fault : Fault) → old.stage ≡ Failed fault → Gives old new answer → (answer ≡ got.Fault fault) × (new.stage ≡ Failed fault)
+fault_stays old new answer fault f g = next_stays g.begun new answer fault (starts_failed old g.begun fault f g.starts) g.next

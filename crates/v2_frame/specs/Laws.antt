@@ -1,5 +1,6 @@
 -- The laws of the V2 stream, each the contract of a function that does nothing.
-use Rattle.std.specs.Prelude.{◌≡◌, ℕ, List, ◌++◌}
+use Rattle.std.specs.Prelude.{◌≡◌, ℕ, ◌<◌, List, ◌++◌}
+use Rattle.std.specs.List.{AllByRecursion}
 use Rattle.v2_frame.specs.declared.command.Command.{Command}
 use Rattle.v2_frame.specs.declared.fault.Fault.{Fault}
 use Rattle.v2_frame.specs.declared.fault.Limits.{Limits}
@@ -38,6 +39,26 @@ ScriptsGoOn = (limits : Limits) (bytes more : List ℕ) (commands longer : List 
 -- a stream has at most one script
 abbrev pub OneScript : Type 0
 OneScript = (limits : Limits) (bytes : List ℕ) (commands others : List Command) (rest other : Rest) → IsScript limits bytes commands rest → IsScript limits bytes others other → (commands ≡ others) × (rest ≡ other)
+
+-- each is a byte
+abbrev pub AreBytes : List ℕ → Type 0
+AreBytes bytes = AllByRecursion (λ b. b < 256) bytes
+
+-- bytes at a command's start have a verdict
+abbrev pub HasVerdict : Limits → List ℕ → Type 0
+HasVerdict limits bytes = (verdict : Verdict) × Judged limits bytes verdict
+
+-- all bytes have one
+abbrev pub EveryVerdict : Type 0
+EveryVerdict = (limits : Limits) (bytes : List ℕ) → AreBytes bytes → HasVerdict limits bytes
+
+-- a stream of these bytes has a script
+abbrev pub SomeScript : Limits → List ℕ → Type 0
+SomeScript limits bytes = (commands : List Command) × (rest : Rest) × IsScript limits bytes commands rest
+
+-- every stream has one
+abbrev pub EveryScript : Type 0
+EveryScript = (limits : Limits) (bytes : List ℕ) → AreBytes bytes → SomeScript limits bytes
 
 -- the canonical spelling of a command that has a spelling is one
 abbrev pub CanonicalIsSpelling : Type 0

@@ -1,5 +1,5 @@
 -- What the parts of the judge answer.
-use Rattle.std.specs.Prelude.{◌≡◌, ◌≢◌, ◌⊎◌, ℕ, ◌+◌, ◌<◌, ◌≤◌, List, [], ◌∷◌, ◌++◌, length, take, drop, codes, IsSome}
+use Rattle.std.specs.Prelude.{◌≡◌, ◌≢◌, ◌⊎◌, ℕ, ◌+◌, ◌<◌, ◌≤◌, List, [], ◌∷◌, ◌++◌, length, take, drop, codes, Some}
 use Rattle.std.specs.List.{AllByRecursion}
 use Rattle.v2_frame.specs.declared.batch.Content.{Content}
 use Rattle.v2_frame.specs.declared.batch.Content.TheVariants as content
@@ -23,7 +23,7 @@ use Rattle.v2_frame.specs.declared.line.Words.TheVariants.{One, Two, Three, Many
 use Rattle.v2_frame.specs.Line.{HasNo}
 use Rattle.v2_frame.specs.Heading.{Heading, Identify, Sub, Pub, Mpub, Dpub, Rdy, Fin, Req, Touch, Cls, Nop, IsWellNamed, HasBadTopic, HasBadChannel}
 use Rattle.v2_frame.specs.Command.{heading_of, bytes_behind, content_of, IsSize, IsBody, IsWithin}
-use Rattle.v2_frame.specs.Judging.{Verdict, Whole, Faulty, Unfinished, HasSize, IsBadSize, IsBadContent, HasHeading, sizing_of}
+use Rattle.v2_frame.specs.Judging.{Verdict, Whole, Faulty, Unfinished, HasSize, IsBadSize, IsBadContent, HasHeading, Sizing, sizing_of}
 
 -- these are the words, where there are at most three
 abbrev pub AreWords : List (List ℕ) → Words → Type 0
@@ -123,10 +123,19 @@ pub record EndsLine (bytes : List ℕ) (end : ℕ) : Type 0 where
   pub first : HasNo 10 (take end bytes)
   pub whole : bytes ≡ take end bytes ++ 10 ∷ drop (end + 1) bytes
 
--- the bytes begin with the line of a command that has a size behind its line
-pub record HasSizedLine (limits : Limits) (bytes : List ℕ) : Type 0 where
+-- behind a line that says the heading stand a good size and so many bytes
+pub record HasText (limits : Limits) (heading : Heading) (bytes : List ℕ) : Type 0 where
+  pub sizing : Sizing
+  pub sized : sizing_of limits heading ≡ Some sizing
+  pub size : ℕ
+  pub there : IsWholeField sizing.most bytes size
+
+-- the bytes begin with a good line of a command that has a size behind its line, and the size is good, and so many bytes are
+-- there
+pub record HasSizedText (limits : Limits) (bytes : List ℕ) : Type 0 where
   pub line : List ℕ
   pub rest : List ℕ
   pub heading : Heading
   pub is : HasHeading bytes line heading rest
-  pub sized : IsSome (sizing_of limits heading)
+  pub named : IsWellNamed heading
+  pub text : HasText limits heading rest

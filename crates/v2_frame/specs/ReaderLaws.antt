@@ -1,6 +1,7 @@
 -- What a reader's answers say of the whole stream, whatever the pieces were.
 use Rattle.std.specs.Prelude.{◌≡◌, ◌↔◌, ℕ, ◌+◌, ◌-◌, ◌<◌, List, [], ◌∷◌, ◌++◌, length}
 use Rattle.v2_frame.specs.declared.command.Command.{Command}
+use Rattle.v2_frame.specs.declared.fault.Fault.{Fault}
 use Rattle.v2_frame.specs.declared.fault.Limits.{Limits}
 use Rattle.v2_frame.specs.declared.fault.Rest.{Rest}
 use Rattle.v2_frame.specs.declared.fault.Rest.TheVariants.{Unfinished, Faulty}
@@ -68,3 +69,7 @@ CommandsTakeBytes = (old new : Reading) (command : Command) → Gives old new (g
 -- what was left is what is given and what is left then
 abbrev pub GivenIsLeft : Type 0
 GivenIsLeft = (old new : Reading) (got : Got) (commands : List Command) (rest : Rest) → Gives old new got → IsLeft old (given got ++ commands) rest ↔ IsLeft new commands rest
+
+-- after a fault each answer is that fault
+abbrev pub FaultStays : Type 0
+FaultStays = (old new : Reading) (answer : Got) (fault : Fault) → old.stage ≡ Failed fault → Gives old new answer → (answer ≡ got.Fault fault) × (new.stage ≡ Failed fault)

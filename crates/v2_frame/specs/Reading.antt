@@ -13,7 +13,7 @@ use Rattle.v2_frame.specs.declared.got.Stage.TheVariants.{Opening, Commands, Fai
 use Rattle.v2_frame.specs.Line.{HasNo}
 use Rattle.v2_frame.specs.Judging.{Begins, IsUnfinished}
 use Rattle.v2_frame.specs.Script.{magic, told_place, HasScript, IsScript}
-use Rattle.v2_frame.specs.Parts.{HasSizedLine}
+use Rattle.v2_frame.specs.Parts.{HasSizedText}
 
 -- a reader: its limits, how far it has come, the place in the stream of the first byte that isn't done, as it is told, and
 -- the bytes that were fed and aren't done
@@ -74,12 +74,13 @@ pub record Fails (old new : Reading) (fault : Fault) : Type 0 where
   pub limits : new.limits ≡ old.limits
 
 -- what is given by a reader that has read the magic, where it stands at the front: the next command, or nothing yet, or the
--- stream's fault; or memory is wanting for what stands behind a command's line, and nothing changed
+-- stream's fault; or memory is wanting for what stands behind a command's line, where the line and the size behind it are good
+-- and so many bytes are there, and nothing changed
 abbrev pub GivesNext : Reading → Reading → Got → Type 0
 GivesNext old new (got.Whole command) = Takes old new command
 GivesNext old new got.More = IsLeft old [] Unfinished × (new ≡ old)
 GivesNext old new (got.Fault fault) = Fails old new fault
-GivesNext old new got.Memory = HasSizedLine old.limits old.pending × (new ≡ old)
+GivesNext old new got.Memory = (old.stage ≡ Commands) × HasSizedText old.limits old.pending × (new ≡ old)
 
 -- what a reader gives
 pub record Gives (old new : Reading) (got : Got) : Type 0 where

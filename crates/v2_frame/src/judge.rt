@@ -3,7 +3,7 @@ ghost use Rattle.v2_frame.specs.Judging.{Behind, Judged};
 ghost use Rattle.v2_frame.specs.Script.{told_place};
 ghost use Rattle.v2_frame.specs.Line.{HasNo};
 ghost use Rattle.v2_frame.specs.declared.fault.Limits.{Limits};
-ghost use Rattle.v2_frame.specs.Parts.{verdict_of, sized_heading, EndsLine, HasSizedLine, StaysWithin, TakesSome};
+ghost use Rattle.v2_frame.specs.Parts.{verdict_of, sized_heading, EndsLine, HasSizedText, HasText, StaysWithin, TakesSome};
 
 use crate::batch::{Content, content_of};
 use crate::heading::heading_of;
@@ -45,10 +45,12 @@ pub(crate) fn told_place(at: u64) -> u64
 }
 
 /// What stands at the front of bytes that begin at a command's start. It looks at whole lists and copies each body; `Reader`
-/// judges the lines of its pieces in the same way. Want of memory is the only error.
+/// judges the lines of its pieces in the same way. Want of memory is the only error, and comes only where a good line, a good
+/// size and so many bytes behind it are there.
 pub fn judge_front(alloc: Global, limits: Limits, bytes: &[u8]) -> Result<Found, Memory>
     ensures verdict { IfOk result (λ found. Judged limits bytes.now (verdict_of bytes.now found)) }
     ensures taken { IfOk result (λ found. TakesSome bytes.now found) }
+    ensures memory { OnErr result (HasSizedText limits bytes.now) }
 {
     match place_of(bytes, b'\n') {
         Some(end) => lined(alloc, limits, bytes, end),
@@ -67,7 +69,7 @@ pub(crate) fn lined(
     requires { EndsLine bytes.now end }
     ensures verdict { IfOk result (λ found. Judged limits bytes.now (verdict_of bytes.now found)) }
     ensures taken { IfOk result (λ found. TakesSome bytes.now found) }
-    ensures memory { OnErr result (HasSizedLine limits bytes.now) }
+    ensures memory { OnErr result (HasSizedText limits bytes.now) }
 {
     let text = text_of(&bytes[..end]);
     if text.len() > LONGEST_LINE {
@@ -107,6 +109,7 @@ pub(crate) fn open_line(bytes: &[u8]) -> Found
 fn behind(alloc: Global, limits: Limits, start: Sized, bytes: &[u8]) -> Result<Found, Memory>
     ensures verdict { IfOk result (λ found. Behind limits (sized_heading start) bytes.now (verdict_of bytes.now found)) }
     ensures taken { IfOk result (λ found. StaysWithin bytes.now found) }
+    ensures memory { OnErr result (HasText limits (sized_heading start) bytes.now) }
 {
     let (most, wrong) = start.sizing(limits);
     let size = match field_of(bytes, most) {

@@ -1,4 +1,4 @@
-ghost use Rattle.v2_frame.specs.Laws.{CanonicalIsSpelling, NoSpellingBeginsAnother, OneVerdict, SpelledIsWhole, WholeIsSpelled, ScriptsGoOn, OneScript};
+ghost use Rattle.v2_frame.specs.Laws.{CanonicalIsSpelling, NoSpellingBeginsAnother, OneVerdict, SpelledIsWhole, WholeIsSpelled, ScriptsGoOn, OneScript, EveryVerdict, EveryScript};
 
 /// No spelling of a command begins another command's spelling, and equal bytes spell one command. It does nothing: its
 /// contract is the law.
@@ -25,6 +25,12 @@ pub fn scripts_go_on()
 /// A stream has at most one script.
 pub fn one_script()
     ensures { OneScript }
+{}
+
+/// All bytes have a verdict, and so every stream has a script.
+pub fn every_stream_has_a_script()
+    ensures verdict { EveryVerdict }
+    ensures script { EveryScript }
 {}
 
 /// The canonical spelling of a command spells it: where its names are names, its numbers have at most 18 digits, its ids

@@ -1,4 +1,4 @@
-ghost use Rattle.v2_frame.specs.ReaderLaws.{CommandsTakeBytes, FedHasRead, FreshHasRead, GivenHasRead, GivenIsLeft, LimitsStay, ReadIsScript};
+ghost use Rattle.v2_frame.specs.ReaderLaws.{CommandsTakeBytes, FaultStays, FedHasRead, FreshHasRead, GivenHasRead, GivenIsLeft, LimitsStay, ReadIsScript};
 
 /// After any feeds, the commands that a reader gave so far followed by those that are left are the script of all bytes
 /// fed, whatever the pieces were. It does nothing: its contract is the law, step by step.
@@ -11,8 +11,9 @@ pub fn any_pieces_are_one_stream()
 {}
 
 /// What was left before an answer is the command given, if any, and what is left then, and a command takes one byte
-/// at least of those that are pending.
+/// at least of those that are pending. After a fault each answer is that fault.
 pub fn answers_take_what_is_left()
     ensures left { GivenIsLeft }
     ensures less { CommandsTakeBytes }
+    ensures stays { FaultStays }
 {}

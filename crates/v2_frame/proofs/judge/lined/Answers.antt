@@ -3,9 +3,9 @@ use Rattle.std.proofs.lemmas.List.{drop-drop}
 use Rattle.v2_frame.specs.declared.judge.Found.{Found}
 use Rattle.v2_frame.specs.Line.{words_of}
 use Rattle.v2_frame.specs.Judging.{Verdict, Whole, Faulty, Judged, shifted}
-use Rattle.v2_frame.specs.Parts.{seen_heading, verdict_of, HasSizedLine}
+use Rattle.v2_frame.specs.Parts.{seen_heading, verdict_of, HasSizedText}
 use Rattle.v2_frame.proofs.PlaceLemmas.{behind_place}
-use Rattle.v2_frame.proofs.FoundLemmas.{line_long, found_long, found_nothing, found_heading, found_name, found_alone, found_sized, sized_line}
+use Rattle.v2_frame.proofs.FoundLemmas.{line_long, found_long, found_nothing, found_heading, found_name, found_alone, found_sized, sized_text}
 use Rattle.v2_frame.proofs.judge.lined.Goals as goal
 use Rattle.v2_frame.proofs.judge.lined.Goals.{in-Whole, in-Faulty, in-Unfinished}
 
@@ -67,5 +67,7 @@ returns-in_err-command-in-Ok-Sized-clause-memory c =
     let heading = seen_heading c.in-Some.heading in
     let h = found_heading c.args.limits c.args.bytes.now c.text_of-text.result.now c.args.end p.within p.first p.whole c.text_of-text.ensures heading c.if-text-gt-LONGEST_LINE.false
     (c.in-Some.ensures (words_of c.text_of-text.result.now) c.words_of.ensures) in
-    let is : HasSizedLine c.args.limits c.args.bytes.now = sized_line heading c.in-Ok-Sized.start h (rw c.in-Ok-Sized.field-0-is at c.in-Ok-Sized.ensures) in
+    let line = c.args.end + 1 in
+    let rest = take (length c.args.bytes.now - line) (drop line c.args.bytes.now) in
+    let is : HasSizedText c.args.limits c.args.bytes.now = sized_text heading c.in-Ok-Sized.start rest h (rw c.in-Ok-Sized.field-0-is at c.in-Ok-Sized.ensures) (behind_place c.args.bytes.now line) c.in_err-command-in-Ok-Sized.ensures.memory in
     search rules

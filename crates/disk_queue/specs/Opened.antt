@@ -1,7 +1,7 @@
 -- What an opening of a queue makes of its files.
-use Rattle.std.specs.Prelude.{ℕ, ◌≡◌, ◌≢◌, ◌+◌, ◌^◌, ◌<◌, ◌≤◌, min, List, [], length, Some, None, Contains}
-use Rattle.nsq_outside.specs.Files.{Files, SameFiles, cut_to}
-use Rattle.queue_image.specs.FileNames.{data_file, meta_file, meta_temp, set_aside, IsFileOf}
+use Rattle.std.specs.Prelude.{ℕ, ◌≡◌, ◌^◌, ◌<◌, List, [], length, None}
+use Rattle.nsq_outside.specs.Files.{Files, SameFiles}
+use Rattle.queue_image.specs.FileNames.{meta_file, meta_temp, set_aside, IsFileOf}
 use Rattle.queue_image.specs.Places.{IsAtEnd}
 use Rattle.queue_image.specs.Between.{content}
 use Rattle.queue_image.specs.Finds.{IsFound, Records, BadMeta}

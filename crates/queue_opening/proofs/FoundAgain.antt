@@ -85,10 +85,10 @@ module _ (least limit : ℕ) (p : Positions) (old new : ℕ → List ℕ) where
         | inr first ↦ elim (cases_lt 0 end) [
           | inl past ↦ inr (write_past (omega (arith, long, past)), refl)
           | inr last ↦ inl (record {
-              starts_inside = omega (arith, first);
-              ends_inside = omega (arith, last);
-              row = record { whole = nil_from_length (segment p k (new k)) (omega (arith, last, length-take (end - start) (drop start (new k)))); sizes = tt };
-            })
+            starts_inside = omega (arith, first);
+            ends_inside = omega (arith, last);
+            row = record { whole = nil_from_length (segment p k (new k)) (omega (arith, last, length-take (end - start) (drop start (new k)))); sizes = tt };
+          })
         ]
       ]
 

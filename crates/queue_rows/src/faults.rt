@@ -101,7 +101,14 @@ fn holds(alloc: Global, trial: &Trial, failing: u64) -> Result<bool, Memory> {
         first: b'a',
         next: b'a',
     };
-    if !goes(alloc, &mut queue, &mut folder, &mut letters, trial.moves, failing)? {
+    if !goes(
+        alloc,
+        &mut queue,
+        &mut folder,
+        &mut letters,
+        trial.moves,
+        failing,
+    )? {
         return Ok(false);
     }
     if trial.deletes && !delete(queue, &mut folder, &mut letters, failing) {

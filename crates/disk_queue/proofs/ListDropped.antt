@@ -1,5 +1,5 @@
 -- The list of a queue is dropped, and its files are removed.
-use Rattle.std.proofs.Common.{◌≡◌, ◌≢◌, ◌∙◌, ℕ, ◌+◌, ◌-◌, ◌^◌, ◌<◌, ◌≤◌, ◌⊎◌, min, List, [], Some, None, Bool, IsTrue, true, false, sym, ap, subst, refl, inl, inr, arith}
+use Rattle.std.proofs.Common.{◌≡◌, ◌≢◌, ◌∙◌, ℕ, ◌+◌, ◌^◌, ◌<◌, ◌≤◌, ◌⊎◌, List, [], Some, None, Bool, IsTrue, true, false, sym, ap, subst, refl, inl, inr, arith}
 use Rattle.std.proofs.lemmas.Bool.{cases_lt}
 use Rattle.nsq_outside.specs.Causes.{Rose, DidFails, CountsFault}
 use Rattle.nsq_outside.specs.Files.{Files, OnlyChanges, Removes}
@@ -187,10 +187,10 @@ counted_failed q s a b c e one two some =
     (subst (λ (f : Bool). CountsFault a c f) (sym failed) (subst (λ (n : ℕ). CountsFault n c true) one two), λ _. some)
 
 -- the deletion's removals behind an emptying
-pub counted_twice : (q e : Seen) (a b c : ℕ) → EmptyCounts a b q e AllGone → c ≤ min (b + 1) (2 ^ 64 - 1) → c ≤ min (a + 2) (2 ^ 64 - 1)
+pub counted_twice : (q e : Seen) (a b c : ℕ) → EmptyCounts a b q e AllGone → c ≤ b + 1 → c ≤ a + 2
 counted_twice q e a b c one two = go e.saved.failed one.0
   where
-    go : (f : Bool) → CountsFault a b f → c ≤ min (a + 2) (2 ^ 64 - 1)
+    go : (f : Bool) → CountsFault a b f → c ≤ a + 2
     go true k = omega (arith, k, two)
     go false k = omega (arith, k, two)
 

@@ -1,5 +1,5 @@
 -- What emptying and deleting a queue leave.
-use Rattle.std.specs.Prelude.{ℕ, ◌≡◌, ◌≢◌, ◌+◌, ◌-◌, ◌^◌, ◌<◌, ◌≤◌, ◌⊎◌, List, [], Some, None, IsTrue, true, min}
+use Rattle.std.specs.Prelude.{ℕ, ◌≡◌, ◌≢◌, ◌+◌, ◌<◌, ◌≤◌, ◌⊎◌, List, [], Some, None, IsTrue, true}
 use Rattle.nsq_outside.specs.Causes.{Rose, CountsFault}
 use Rattle.nsq_outside.specs.Files.{Files}
 use Rattle.queue_image.specs.FileNames.{data_file, meta_file, meta_temp}
@@ -107,7 +107,7 @@ DeleteFails before now (NotDeleted r) = Rose before now
 
 -- a fault is counted. In a deletion at most two calls failed: a removal in the emptying, and one behind it
 abbrev pub DeleteCounts : ℕ → ℕ → Deleted → Type 0
-DeleteCounts before now IsDeleted = now ≤ min (before + 2) (2 ^ 64 - 1)
+DeleteCounts before now IsDeleted = now ≤ before + 2
 DeleteCounts before now (NotDeleted r) = CountsFault before now true
 
 -- what the removals in a deletion do: these data files and then the metadata are gone where none failed, and no other file changes

@@ -1,4 +1,4 @@
-ghost use Rattle.std.specs.Prelude.{◌≡◌, ◌+◌, ◌-◌, ◌^◌, ◌≤◌, ℕ, List, IsTrue, min};
+ghost use Rattle.std.specs.Prelude.{◌≡◌, ◌+◌, ◌≤◌, ℕ, List, IsTrue};
 ghost use Rattle.nsq_outside.specs.Causes.{DidFails, DidCounts};
 ghost use Rattle.queue_image.specs.FileNames.{meta_file, meta_temp};
 ghost use Rattle.queue_image.specs.Metas.{meta_text};
@@ -125,7 +125,7 @@ impl Queue {
     // failure.
     fn remove_files<F: Folder>(&mut self, folder: &mut F)
         ensures sound { IsSound self.old }
-        ensures exact { IsTrue F.counts_exactly → F.folder_faults folder.new ≤ min (F.folder_faults folder.old + 1) (2 ^ 64 - 1) }
+        ensures exact { IsTrue F.counts_exactly → F.folder_faults folder.new ≤ F.folder_faults folder.old + 1 }
         ensures deletes { IsTrue F.tells_files → Deletes self.old (F.files folder.old) (F.files folder.new) (F.folder_faults folder.old) (F.folder_faults folder.new) }
         ensures faults { F.folder_faults folder.old ≤ F.folder_faults folder.new }
     {

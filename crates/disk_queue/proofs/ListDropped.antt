@@ -1,7 +1,7 @@
 -- The list of a queue is dropped, and its files are removed.
 use Rattle.std.proofs.Common.{◌≡◌, ◌≢◌, ◌∙◌, ℕ, ◌+◌, ◌^◌, ◌<◌, ◌≤◌, ◌⊎◌, List, [], Some, None, Bool, IsTrue, true, false, sym, ap, subst, refl, inl, inr, arith}
 use Rattle.std.proofs.lemmas.Bool.{cases_lt}
-use Rattle.nsq_outside.specs.Causes.{Rose, DidFails, CountsFault}
+use Rattle.nsq_outside.specs.Causes.{Rose, DidFails, DidCounts, CountsFault}
 use Rattle.nsq_outside.specs.Files.{Files, OnlyChanges, Removes}
 use Rattle.nsq_outside.specs.declared.did.Did.{Did}
 use Rattle.nsq_outside.specs.declared.did.Did.TheVariants.{Done, Failed}
@@ -193,6 +193,11 @@ counted_twice q e a b c one two = go e.saved.failed one.0
     go : (f : Bool) → CountsFault a b f → c ≤ a + 2
     go true k = omega (arith, k, two)
     go false k = omega (arith, k, two)
+
+-- one call after another that didn't fail
+pub counted_once : (a b c : ℕ) (did : Did) → b ≡ a → DidCounts b c did → c ≤ a + 1
+counted_once a b c Done e d = omega (arith, e, d)
+counted_once a b c Failed e d = omega (arith, e, d)
 
 -- a finished save is no failed one
 pub not_failed : (q s : Seen) → s ≡ after_save (emptied q) Saved → ¬ IsTrue s.saved.failed

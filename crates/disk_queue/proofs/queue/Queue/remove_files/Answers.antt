@@ -1,6 +1,6 @@
 use Rattle.std.proofs.Common.{subst}
 use Rattle.disk_queue.specs.Emptying.{Deletes}
-use Rattle.disk_queue.proofs.ListDropped.{deletes, deletes_failed}
+use Rattle.disk_queue.proofs.ListDropped.{deletes, deletes_failed, counted_once}
 use Rattle.disk_queue.proofs.queue.Queue.remove_files.Goals as goal
 
 pub returns-in-Failed-clause-deletes : goal.returns-in-Failed-clause-deletes
@@ -22,3 +22,8 @@ returns-clause-deletes g c = λ told.
     (deletes _ old mid new c.remove_metadata.result first (g.F.Folder.folder_faults c.remove.new.folder) last c.self.invariant.staged_file (c.in-Done.ensures.gone told) (c.in-Done.ensures.others told)
     (rw c.in-Done.ensures.name at (c.remove_metadata.ensures.gone told)) (rw c.in-Done.ensures.name at (c.remove_metadata.ensures.others told)) c.remove_metadata.ensures.cause c.in-Done.ensures.faults
     c.remove_metadata.ensures.faults)
+
+pub returns-clause-exact : goal.returns-clause-exact
+returns-clause-exact g c = λ counts.
+    counted_once (g.F.Folder.folder_faults c.args.folder.now) (g.F.Folder.folder_faults c.remove.new.folder) (g.F.Folder.folder_faults c.remove_metadata.new.folder) c.remove_metadata.result (c.in-Done.ensures.exact counts)
+    (c.remove_metadata.ensures.exact counts)

@@ -51,8 +51,9 @@ impl Queue {
         Emptied::Done
     }
 
-    /// Empties the queue and removes its data files, and then its metadata. After a removal that fails no other is tried, and what is left
-    /// are files in which an opening finds nothing. Files that forgotten records began further on may stay too.
+    /// Empties the queue and removes its data files, and then its metadata. After a removal that fails no other is tried: where a data file
+    /// stays the metadata does too. What is left are files in which an opening finds nothing. Files that forgotten records began
+    /// further on may stay too.
     pub fn delete<F: Folder>(self, folder: &mut F) -> Deleted
         ensures seen { DeleteSeen self result }
         ensures list { IsTrue F.tells_files → (bodies waiting : List (List ℕ)) → Holds self (F.files folder.old) bodies waiting → DeleteHolds (F.files folder.new) bodies waiting result }

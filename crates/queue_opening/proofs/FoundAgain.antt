@@ -80,6 +80,7 @@ module _ (least limit : ℕ) (p : Positions) (old new : ℕ → List ℕ) where
       let long : length (new k) ≡ 0 = ap length none in
       let start = part_start p k in
       let end = part_end p k (length (new k)) in
+      let size : length (segment p k (new k)) ≡ min (end - start) (length (drop start (new k))) = length-take (end - start) (drop start (new k)) in
       elim (cases_lt 0 start) [
         | inl past ↦ inr (read_past (omega (arith, long, past)), refl)
         | inr first ↦ elim (cases_lt 0 end) [
@@ -87,7 +88,7 @@ module _ (least limit : ℕ) (p : Positions) (old new : ℕ → List ℕ) where
           | inr last ↦ inl (record {
             starts_inside = omega (arith, first);
             ends_inside = omega (arith, last);
-            row = record { whole = nil_from_length (segment p k (new k)) (omega (arith, last, length-take (end - start) (drop start (new k)))); sizes = tt };
+            row = record { whole = nil_from_length (segment p k (new k)) (omega (arith, last, size)); sizes = tt };
           })
         ]
       ]

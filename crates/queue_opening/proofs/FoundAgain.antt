@@ -125,7 +125,7 @@ chosen : (b : Bool) (m n : ℕ) → ¬ IsTrue b → cond b m n ≡ n
 chosen true m n h = absurd (h refl)
 chosen false m n h = refl
 
-bodies_of : Finding → List (List ℕ)
+abbrev bodies_of : Finding → List (List ℕ)
 bodies_of BadMeta = []
 bodies_of (Records bodies bad) = bodies
 

@@ -101,10 +101,10 @@ more_place q size = go (rolls q.options.max_bytes q.staged.file q.staged.at size
 -- a record that was staged stands in its file after the commit
 pub put_writes : (q p : Seen) (old mid new : Files) (body : List ℕ) → p ≡ after_stage q (length body) IsStaged → mid (data_file q.name (place_for q (length body)).file) ≡ Some (with_record q old body)
     → new (data_file p.name p.staged.file) ≡ mid (data_file p.name p.staged.file) → new (data_file q.name (place_for q (length body)).file) ≡ Some (with_record q old body)
-put_writes q p old mid new body e written stays =
+put_writes q p old mid new body e there stays =
     let here : new (data_file q.name (staged_more q (length body)).file) ≡ mid (data_file q.name (staged_more q (length body)).file)
     = subst (λ (x : Seen). new (data_file x.name x.staged.file) ≡ mid (data_file x.name x.staged.file)) e stays in
-    subst (λ (k : ℕ). new (data_file q.name k) ≡ mid (data_file q.name k)) (more_place q (length body)) here ∙ written
+    subst (λ (k : ℕ). new (data_file q.name k) ≡ mid (data_file q.name k)) (more_place q (length body)) here ∙ there
 
 -- a record is staged and committed
 pub put_changes : (q : Seen) (size : ℕ) (sync : Sync) (old mid new : Files) → OnlyTwoChange old mid (data_file q.name q.staged.file) (data_file q.name (q.staged.file + 1))

@@ -112,6 +112,8 @@ pub fn plays(
 ) -> Result<bool, Memory>
     requires options { queue.old.options ≡ script.now.options }
     requires none { queue.old.staged.count ≡ 0 }
+    ensures options { OnOk result (queue.new.options ≡ script.now.options) }
+    ensures none_now { OnOk result (queue.new.staged.count ≡ 0) }
 {
     for step in script.steps {
         if !step_holds(alloc, queue, folder, script, *step)? {

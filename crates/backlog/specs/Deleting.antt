@@ -1,6 +1,6 @@
 -- What deleting a backlog leaves.
-use Rattle.std.specs.Prelude.{ℕ, ◌≡◌, ◌⊎◌, List, Option, Some, None}
-use Rattle.nsq_outside.specs.Causes.{Rose}
+use Rattle.std.specs.Prelude.{ℕ, ◌≡◌, ◌+◌, ◌≤◌, ◌⊎◌, List, Option, Some, None, true}
+use Rattle.nsq_outside.specs.Causes.{Rose, CountsFault}
 use Rattle.nsq_outside.specs.Files.{Files}
 use Rattle.v2_frame.specs.declared.message.Message.{Message}
 use Rattle.disk_queue.specs.Seen.{Seen as Queue}
@@ -41,3 +41,8 @@ DeleteGone (Some q) files before now (NotGone back) = Unit {0}
 abbrev pub DeleteFails : ℕ → ℕ → Gone → Type 0
 DeleteFails before now IsGone = Unit {0}
 DeleteFails before now (NotGone back) = Rose before now
+
+-- a fault is counted. In a deletion at most two removals failed
+abbrev pub DeleteCounts : ℕ → ℕ → Gone → Type 0
+DeleteCounts before now IsGone = now ≤ before + 2
+DeleteCounts before now (NotGone back) = CountsFault before now true

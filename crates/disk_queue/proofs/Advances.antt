@@ -8,10 +8,12 @@ use Rattle.disk_queue.specs.Seen.{Seen, behind, advanced, marked, reading_at, af
 use Rattle.disk_queue.specs.Holding.{Holds, IsNext, SaveStands, OwnChange}
 use Rattle.disk_queue.specs.Parts.{IsSound, IsAhead, OnlySaveChanges}
 use Rattle.disk_queue.specs.Answers.{Saves}
-use Rattle.disk_queue.specs.Reading.{PeekSeen, TakeChanges}
+use Rattle.disk_queue.specs.Reading.{Turns, PeekSeen, PeekReads, TakeChanges, stood_taking}
 use Rattle.disk_queue.specs.declared.answers.Sync.{Sync}
 use Rattle.disk_queue.specs.declared.answers.Sync.TheVariants.{NotDue, Done, Failed}
 use Rattle.disk_queue.specs.declared.answers.Peek.TheVariants.{Got}
+use Rattle.disk_queue.specs.declared.answers.Take.TheVariants.{Got as Taken}
+use Rattle.queue_image.specs.declared.positions.Positions.{Positions}
 use Rattle.disk_queue.proofs.Peeked.{first_is}
 
 -- the length of the marked record
@@ -94,3 +96,19 @@ take_changes q p r n sync old mid new e d same only file meta temp below =
 
 pub take_own : (q p : Seen) (old mid new : Files) → p.name ≡ q.name → SameFiles old mid → OwnChange p.name mid new → OwnChange q.name old new
 take_own q p old mid new e same own file other = subst (λ (n : List ℕ). OwnChange n mid new) e own file other ∙ same file
+
+-- where reading stood as a record was taken
+taken_stood : (q p r : Seen) (n : ℕ) (sync : Sync) → PeekSeen q p (Got n) → r ≡ after_save (advanced p) sync → stood_taking r.positions (Taken n sync) ≡ p.positions
+taken_stood q p r n sync e d =
+    let mark : p.mark ≡ Some n = ap (λ (x : Seen). x.mark) e in
+    let place : r.positions ≡ behind p.positions n = ap (λ (x : Seen). x.positions) d ∙ ap (λ (m : Option ℕ). behind p.positions (unwrap_or m 0)) mark in
+    let back : (p.positions.read_at + (4 + n)) - (4 + n) ≡ p.positions.read_at = omega arith in
+    ap (λ (x : Positions). record x { read_at = x.read_at - (4 + n) }) place ∙ ap (λ (k : ℕ). record (p.positions) { read_at = k }) back
+
+pub take_moves : (bytes : ℕ → List ℕ) (from : Positions) (q p r : Seen) (n : ℕ) (sync : Sync) → PeekSeen q p (Got n) → r ≡ after_save (advanced p) sync → Turns bytes from p.positions
+    → Turns bytes from (stood_taking r.positions (Taken n sync))
+take_moves bytes from q p r n sync e d t = subst (λ (x : Positions). Turns bytes from x) (sym (taken_stood q p r n sync e d)) t
+
+pub take_reads : (least limit : ℕ) (bytes : ℕ → List ℕ) (into : List ℕ) (q p r : Seen) (n : ℕ) (sync : Sync) → PeekSeen q p (Got n) → r ≡ after_save (advanced p) sync
+    → PeekReads least limit bytes p.positions into (Got n) → PeekReads least limit bytes (stood_taking r.positions (Taken n sync)) into (Got n)
+take_reads least limit bytes into q p r n sync e d t = subst (λ (x : Positions). PeekReads least limit bytes x into (Got n)) (sym (taken_stood q p r n sync e d)) t

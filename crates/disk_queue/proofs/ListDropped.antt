@@ -1,7 +1,7 @@
 -- The list of a queue is dropped, and its files are removed.
-use Rattle.std.proofs.Common.{◌≡◌, ◌≢◌, ◌∙◌, ℕ, ◌+◌, ◌^◌, ◌≤◌, ◌⊎◌, List, [], Some, None, IsTrue, true, false, sym, ap, subst, refl, inl, inr, arith}
+use Rattle.std.proofs.Common.{◌≡◌, ◌≢◌, ◌∙◌, ℕ, ◌+◌, ◌^◌, ◌<◌, ◌≤◌, ◌⊎◌, List, [], Some, None, Bool, IsTrue, true, false, sym, ap, subst, refl, inl, inr, arith}
 use Rattle.std.proofs.lemmas.Bool.{cases_lt}
-use Rattle.nsq_outside.specs.Causes.{Rose, DidFails}
+use Rattle.nsq_outside.specs.Causes.{Rose, DidFails, DidCounts, CountsFault}
 use Rattle.nsq_outside.specs.Files.{Files, OnlyChanges, Removes}
 use Rattle.nsq_outside.specs.declared.did.Did.{Did}
 use Rattle.nsq_outside.specs.declared.did.Did.TheVariants.{Done, Failed}
@@ -21,7 +21,7 @@ use Rattle.disk_queue.specs.Answers.{IsKept}
 use Rattle.queue_files.specs.Replaced.{Replaces, OnlyTwoChange}
 use Rattle.disk_queue.specs.Parts.{IsSound, OnlySaveChanges, Rewrites}
 use Rattle.queue_files.specs.FileCalls.{Gone, OnlyNumbersChange}
-use Rattle.disk_queue.specs.Emptying.{EmptySeen, Deletes, IsForgotten, IsGone}
+use Rattle.disk_queue.specs.Emptying.{EmptySeen, EmptyCounts, Deletes, IsForgotten, IsGone}
 use Rattle.disk_queue.specs.declared.answers.Sync.{Sync}
 use Rattle.disk_queue.specs.declared.answers.Sync.TheVariants.{Done as Saved, Failed as Unsaved}
 use Rattle.disk_queue.specs.declared.answers.Emptied.TheVariants.{Done as AllGone}
@@ -88,6 +88,10 @@ module _ (q u w d : Seen) (old mid new : Files) (e : u ≡ unmarked q) (f : w �
       let numbers' : OnlyNumbersChange q.name mid new q.saved.positions.read_file q.positions.write_file
       = subst (λ (x : Seen). OnlyNumbersChange x.name mid new x.saved.positions.read_file x.positions.read_file) is_emptied numbers in
       numbers' file below ∙ two' file meta temp
+
+  -- there was a file to remove
+  pub tried_some : d.saved.positions.read_file < d.positions.read_file → q.saved.positions.read_file < q.positions.write_file
+  tried_some some = subst (λ (x : Seen). x.saved.positions.read_file < x.positions.read_file) is_emptied some
 
   -- the metadata is that of the empty list
   pub empty_writes : Replaces old mid (meta_file u.name) (meta_temp u.name) (meta_text 0 (ended u.positions)) Done
@@ -167,6 +171,34 @@ pub fault_writes : (q u : Seen) (old new : Files) → u ≡ unmarked q → Repla
     → (new (meta_file q.name) ≡ old (meta_file q.name)) ⊎ (new (meta_file q.name) ≡ Some (meta_text 0 (ended q.positions)))
 fault_writes q u old new e r = subst (λ (x : Seen). Replaces old new (meta_file x.name) (meta_temp x.name) (meta_text 0 (ended x.positions)) Failed) e r
 
+-- what is counted where the removal was made
+pub counted_done : (q s : Seen) (a b c : ℕ) → s ≡ after_save (emptied q) Saved → CountsFault a b false → CountsFault b c false → EmptyCounts a c q s AllGone
+counted_done q s a b c e one two =
+    let failed : s.saved.failed ≡ false = ap (λ (x : Seen). x.saved.failed) e in (
+      subst (λ (f : Bool). CountsFault a c f) (sym failed) (two ∙ one),
+      λ t. (let contra : false ≡ true = sym failed ∙ t in cc),
+    )
+
+-- and where it failed
+pub counted_failed : (q s : Seen) (a b c : ℕ) → s ≡ after_save (emptied q) Unsaved → CountsFault a b false → CountsFault b c true → q.saved.positions.read_file < q.positions.write_file
+    → EmptyCounts a c q s AllGone
+counted_failed q s a b c e one two some =
+    let failed : s.saved.failed ≡ true = ap (λ (x : Seen). x.saved.failed) e in
+    (subst (λ (f : Bool). CountsFault a c f) (sym failed) (subst (λ (n : ℕ). CountsFault n c true) one two), λ _. some)
+
+-- the deletion's removals behind an emptying
+pub counted_twice : (q e : Seen) (a b c : ℕ) → EmptyCounts a b q e AllGone → c ≤ b + 1 → c ≤ a + 2
+counted_twice q e a b c one two = go e.saved.failed one.0
+  where
+    go : (f : Bool) → CountsFault a b f → c ≤ a + 2
+    go true k = omega (arith, k, two)
+    go false k = omega (arith, k, two)
+
+-- one call after another that didn't fail
+pub counted_once : (a b c : ℕ) (did : Did) → b ≡ a → DidCounts b c did → c ≤ a + 1
+counted_once a b c Done e d = omega (arith, e, d)
+counted_once a b c Failed e d = omega (arith, e, d)
+
 -- a finished save is no failed one
 pub not_failed : (q s : Seen) → s ≡ after_save (emptied q) Saved → ¬ IsTrue s.saved.failed
 not_failed q s e t = (let f : false ≡ true = sym (ap (λ (x : Seen). x.saved.failed) e) ∙ t in cc)
@@ -175,13 +207,26 @@ not_failed q s e t = (let f : false ≡ true = sym (ap (λ (x : Seen). x.saved.f
 pub rose_within : (a b c d : ℕ) → a ≤ b → c ≤ d → Rose b c → Rose a d
 rose_within a b c d low high rise = omega (arith, low, high, rise)
 
--- the removals in a deletion
-pub deletes : (q : Seen) (old mid new : Files) (one two : Did) (a b c : ℕ) → q.staged.file ≤ 2 ^ 40 → Gone q.name mid q.saved.positions.read_file (q.staged.file + 2) one
-    → OnlyNumbersChange q.name old mid q.saved.positions.read_file (q.staged.file + 2) → DidFails a b one → Removes (mid (meta_file q.name)) (new (meta_file q.name)) two → OnlyChanges mid new (meta_file q.name)
+-- the removals in a deletion of which one of a data file failed
+pub deletes_failed : (q : Seen) (old new : Files) (a b : ℕ) → q.staged.file ≤ 2 ^ 40 → OnlyNumbersChange q.name old new q.saved.positions.read_file (q.staged.file + 2) → Rose a b → Deletes q old new a b
+deletes_failed q old new a b small numbers rose = record {
+  meta = inr (rose, meta_stays);
+  data_files = inl rose;
+  order = inl meta_stays;
+  others = λ file apart below. numbers file (λ k from to. below k from (omega (arith, to)));
+}
+  where
+    meta_stays : new (meta_file q.name) ≡ old (meta_file q.name)
+    meta_stays = numbers (meta_file q.name) (λ k _ to. (metadata_apart q.name k (omega (arith, to, small))).0)
+
+-- the removals in a deletion of which those of the data files were made
+pub deletes : (q : Seen) (old mid new : Files) (two : Did) (a b c : ℕ) → q.staged.file ≤ 2 ^ 40 → Gone q.name mid q.saved.positions.read_file (q.staged.file + 2) Done
+    → OnlyNumbersChange q.name old mid q.saved.positions.read_file (q.staged.file + 2) → Removes (mid (meta_file q.name)) (new (meta_file q.name)) two → OnlyChanges mid new (meta_file q.name)
     → DidFails b c two → a ≤ b → b ≤ c → Deletes q old new a c
-deletes q old mid new one two a b c small gone numbers fails removes only fails_too low high = record {
-  meta = meta two removes fails_too;
-  data_files = numbered_files one gone fails;
+deletes q old mid new two a b c small gone numbers removes only fails low high = record {
+  meta = meta two removes fails;
+  data_files = inr numbered_files;
+  order = inr numbered_files;
   others = λ file apart below. only file apart ∙ numbers file (λ k from to. below k from (omega (arith, to)));
 }
   where
@@ -194,11 +239,8 @@ deletes q old mid new one two a b c small gone numbers fails removes only fails_
     meta Failed (inl same) fails = inr (rose_within a b c c low (omega arith) fails, same ∙ meta_stays)
     meta Failed (inr none) fails = inl none
 
-    numbered_files : (one : Did) → Gone q.name mid q.saved.positions.read_file (q.staged.file + 2) one → DidFails a b one
-        → Rose a c ⊎ ((k : ℕ) → q.saved.positions.read_file ≤ k → k ≤ q.staged.file + 1 → new (data_file q.name k) ≡ None)
-    numbered_files Done gone fails = inr (λ k from to.
-        only (data_file q.name k) (λ same. (metadata_apart q.name k (omega (arith, to, small))).0 (sym same)) ∙ gone k from (omega (arith, to)))
-    numbered_files Failed gone fails = inl (rose_within a a b c (omega arith) high fails)
+    numbered_files : (k : ℕ) → q.saved.positions.read_file ≤ k → k ≤ q.staged.file + 1 → new (data_file q.name k) ≡ None
+    numbered_files k from to = only (data_file q.name k) (λ same. (metadata_apart q.name k (omega (arith, to, small))).0 (sym same)) ∙ gone k from (omega (arith, to))
 
 -- what an emptied queue is
 pub record IsEmptied (q e : Seen) : Type 0 where
@@ -227,6 +269,28 @@ deletes_own q e old mid new b c i seen own d file other =
     let not_own : ¬ IsOwnFile e.name file = subst (λ (n : List ℕ). ¬ IsOwnFile n file) (sym is.name) other in
     d.others file (λ same. not_own (metadata same)) (λ k _ to same. not_own (numbered k (omega (arith, to, small)) same)) ∙ own file other
 
+-- no data file up to the one behind the staged end is left, where those from the read file of the last save on are gone
+no_data : (e : Seen) (mid new : Files) (b c : ℕ) → e.staged.file ≤ 2 ^ 40 → SaveStands e mid → Deletes e mid new b c
+    → ((k : ℕ) → e.saved.positions.read_file ≤ k → k ≤ e.staged.file + 1 → new (data_file e.name k) ≡ None) → (k : ℕ) → k ≤ e.staged.file + 1 → new (data_file e.name k) ≡ None
+no_data e mid new b c small stands d numbers k inside =
+    elim (cases_lt k e.saved.positions.read_file) [
+      | inl below ↦ d.others (data_file e.name k) (λ same. (metadata_apart e.name k (omega (arith, inside, small))).0 (sym same))
+          (λ j from to same. omega (arith, from, below, to, small, one_number e.name k j (omega (arith, inside, small)) (omega (arith, to, small)) same)) ∙ stands.removed k below
+      | inr from ↦ numbers k from inside
+    ]
+
+-- the data files go before the metadata
+pub in_order : (q e : Seen) (mid new : Files) (b c : ℕ) → IsSound e → EmptySeen q e AllGone → SaveStands e mid → mid (meta_file q.name) ≡ Some (meta_text 0 (ended q.positions)) → Deletes e mid new b c
+    → (new (meta_file q.name) ≡ Some (meta_text 0 (ended q.positions))) ⊎ ((k : ℕ) → k ≤ q.staged.file + 1 → new (data_file q.name k) ≡ None)
+in_order q e mid new b c i seen stands text d =
+    let is = is_emptied_by q e seen in
+    let small = i.staged_file in
+    elim d.order [
+      | inl same ↦ inl (subst (λ (n : List ℕ). new (meta_file n) ≡ mid (meta_file n)) is.name same ∙ text)
+      | inr numbers ↦ inr (λ k within.
+          subst (λ (n : List ℕ). new (data_file n k) ≡ None) is.name (no_data e mid new b c small stands d numbers k (omega (arith, ap (λ s. s.file) is.staged, within))))
+    ]
+
 pub all_gone : (q e : Seen) (mid new : Files) (a b c : ℕ) → a ≤ b → IsSound e → EmptySeen q e AllGone → SaveStands e mid → mid (meta_temp q.name) ≡ None → Deletes e mid new b c → Rose a c ⊎ IsGone q new
 all_gone q e mid new a b c low i seen stands temp d =
     let is = is_emptied_by q e seen in
@@ -242,13 +306,7 @@ all_gone q e mid new a b c low i seen stands temp d =
         | inr numbers ↦ inr (subst (λ (n : List ℕ). IsGone (record q { name = n }) new) is.name (record {
           meta = gone;
           temp = none;
-          data_files = λ k within.
-              let inside : k ≤ e.staged.file + 1 = omega (arith, ap (λ s. s.file) is.staged, within) in
-              elim (cases_lt k e.saved.positions.read_file) [
-                | inl below ↦ d.others (data_file e.name k) (λ same. (apart k inside).0 (sym same))
-                    (λ j from to same. omega (arith, from, below, to, small, one_number e.name k j (omega (arith, inside, small)) (omega (arith, to, small)) same)) ∙ stands.removed k below
-                | inr from ↦ numbers k from inside
-              ];
+          data_files = λ k within. no_data e mid new b c small stands d numbers k (omega (arith, ap (λ s. s.file) is.staged, within));
         }))
       ]
     ]

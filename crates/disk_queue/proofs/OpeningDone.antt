@@ -7,7 +7,7 @@ use Rattle.queue_image.specs.FileNames.IsFileOf.{own, aside}
 use Rattle.queue_image.specs.Metas.{meta_text}
 use Rattle.queue_image.specs.Between.{content, IsSaved}
 use Rattle.queue_image.specs.Between.Reads.{arrives}
-use Rattle.queue_image.specs.Finds.{Finding, BadMeta, Records}
+use Rattle.queue_image.specs.Finds.{Finding, BadMeta, Records, IsFound}
 use Rattle.queue_image.proofs.Keeping.{saved_is_found}
 use Rattle.queue_image.proofs.Walking.{one_finding}
 use Rattle.queue_image.proofs.MetaLemmas.{reads_back}
@@ -22,6 +22,7 @@ use Rattle.queue_files.specs.declared.options.QueueOptions.{QueueOptions}
 use Rattle.queue_opening.specs.declared.refusal.Open.{Open}
 use Rattle.queue_opening.specs.declared.refusal.Open.TheVariants.{Fault, BadMeta as IsBadMeta, Memory}
 use Rattle.queue_opening.specs.declared.plan.Plan.{Plan}
+use Rattle.queue_opening.proofs.Finds.{same_files}
 use Rattle.queue_opening.proofs.Walks.{file_order}
 use Rattle.queue_opening.proofs.Lists.{Listed, listed, ends_all, gone_below, aside_own, aside_from, tidied_at}
 
@@ -34,8 +35,8 @@ module _ (options : QueueOptions) (name : List ℕ) (plan : Plan) (f0 f4 f5 : Fi
   few : plan.depth < 2 ^ 128
   few = let range = i.range in let depth = i.depth in omega (arith, range.write_file, range.write_at, depth)
 
-  found_list : Listed options name plan f0 f4 f5 small i pl t ot w ow
-  found_list = listed options name plan f0 f4 f5 small i pl t ot w ow
+  found_list : Listed options name plan f0 f4 f5 small i pl t ot ow
+  found_list = listed options name plan f0 f4 f5 small i pl t ot ow
 
   pub opened_list : IsOpened (opened_queue name options plan.depth plan.positions) f0 f5
   opened_list =
@@ -50,11 +51,11 @@ module _ (options : QueueOptions) (name : List ℕ) (plan : Plan) (f0 f4 f5 : Fi
         found = l.found;
         holds = record { list = l.list; depth = count; staged = record { reads = arrives refl refl; inside = inside l }; count = refl; within = range.write_file; mark = tt };
         kept = record { saved = saved; found = saved_is_found options.least options.limit f5 name plan.positions l.bodies (omega (arith, few, count)) range saved };
-        ends = ends_all options name plan f0 f4 f5 small i pl t ot w ow;
+        ends = ends_all options name plan f0 f4 f5 small i pl t ot ow;
         nothing = l.nothing;
       }
     where
-      inside : (l : Listed options name plan f0 f4 f5 small i pl t ot w ow) → plan.positions.write_at ≤ length (content f5 name plan.positions.write_file)
+      inside : (l : Listed options name plan f0 f4 f5 small i pl t ot ow) → plan.positions.write_at ≤ length (content f5 name plan.positions.write_file)
       inside l = let b = l.list in b.inside
 
   pub opened_stands : SaveStands (opened_queue name options plan.depth plan.positions) f5
@@ -62,7 +63,7 @@ module _ (options : QueueOptions) (name : List ℕ) (plan : Plan) (f0 f4 f5 : Fi
     saved = λ _ _. record { text = meta_text plan.depth plan.positions; depth = plan.depth; there = w.meta; is = reads_back plan.depth plan.positions few i.range i.ordered };
     unsaved = λ none _. absurd (none refl);
     within = low;
-    removed = λ k below. gone_below options name plan f0 f4 f5 small i pl t ot w ow k below;
+    removed = λ k below. gone_below options name plan f0 f4 f5 small i pl t ot ow w k below;
   }
     where
       low : plan.positions.read_file ≤ 2 ^ 40
@@ -73,16 +74,16 @@ module _ (options : QueueOptions) (name : List ℕ) (plan : Plan) (f0 f4 f5 : Fi
     without = λ none. let pw = pl.without none in
         let zero : plan.positions.write_file ≡ 0 = ap (λ (x : Positions). x.write_file) pw.positions in (
           zero,
-          λ k fits. subst (λ (n : ℕ). IsSetAside name f0 f5 n k) zero (aside_from options name plan f0 f4 f5 small i pl t ot w ow k fits (omega (arith, pw.above))),
+          λ k fits. subst (λ (n : ℕ). IsSetAside name f0 f5 n k) zero (aside_from options name plan f0 f4 f5 small i pl t ot ow w k fits (omega (arith, pw.above))),
         );
     with_meta = λ p says bodies bad_files found.
         let l = found_list in
         let same : plan.bad.items ≡ bad_files
         = ap bad_of (one_finding options.least options.limit f0 name (Records l.bodies plan.bad.items) (Records bodies bad_files) small l.found found) in
-        subst (λ (bad : List ℕ). IsTidiedAt name f0 f5 p bad plan.positions) same (tidied_at options name plan f0 f4 f5 small i pl t ot w ow p says);
+        subst (λ (bad : List ℕ). IsTidiedAt name f0 f5 p bad plan.positions) same (tidied_at options name plan f0 f4 f5 small i pl t ot ow w p says);
     temp = w.temp;
-    aside_meta = aside_own options name plan f0 f4 f5 small i pl t ot w ow (meta_file name) (metadata refl) (λ j fits. (metadata_apart name j fits).0);
-    aside_temp = aside_own options name plan f0 f4 f5 small i pl t ot w ow (meta_temp name) (written refl) (λ j fits. (metadata_apart name j fits).1);
+    aside_meta = aside_own options name plan f0 f4 f5 small i pl t ot ow (meta_file name) (metadata refl) (λ j fits. (metadata_apart name j fits).0);
+    aside_temp = aside_own options name plan f0 f4 f5 small i pl t ot ow (meta_temp name) (written refl) (λ j fits. (metadata_apart name j fits).1);
   }
 
 -- only files of the queue change
@@ -102,7 +103,8 @@ written_own name plan f4 f5 i ow file other =
     ow file (λ e. other (own (metadata e))) (λ e. other (own (written e))) (λ k _ below e. other (own (numbered k (omega (arith, below, high)) e)))
 
 pub refused : (least limit : ℕ) (name : List ℕ) (f0 f1 : Files) (e : Open) → SameFiles f0 f1 → FindsBadMeta least limit f0 name e → RefusedWhere least limit name f0 f1 e
-refused least limit name f0 f1 Fault same f = tt
+refused least limit name f0 f1 Fault same f = λ bodies bad found.
+    record { bad = bad; found = subst (λ (files : Files). IsFound least limit files name (Records bodies bad)) (sym (same_files f0 f1 same)) found }
 refused least limit name f0 f1 IsBadMeta same f = record { found = f; same = same }
 refused least limit name f0 f1 Memory same f = same
 

@@ -1,12 +1,12 @@
 -- What a save does to the lists of a queue, and what an opening finds after it.
-use Rattle.std.proofs.Common.{◌≡◌, ℕ, ◌+◌, ◌^◌, ◌<◌, ◌≤◌, Bool, true, false, IsTrue, List, [], ◌++◌, take, Option, Some, unwrap_or, refl, sym, ◌∙◌, ap, subst, inl, inr, arith, length-append}
+use Rattle.std.proofs.Common.{◌≡◌, ℕ, ◌+◌, ◌^◌, ◌<◌, ◌≤◌, Bool, true, false, if◌then◌else◌, IsTrue, List, [], ◌++◌, length, take, Option, Some, unwrap_or, refl, sym, ◌∙◌, ap, subst, inl, inr, arith, length-append}
 use Rattle.std.proofs.lemmas.Bool.{cases_lt}
 use Rattle.nsq_outside.specs.Files.{Files}
 use Rattle.nsq_outside.specs.declared.did.Did.{Did}
 use Rattle.nsq_outside.specs.declared.did.Did.TheVariants.{Done, Failed}
 use Rattle.queue_image.specs.FileNames.{data_file, meta_file, meta_temp}
 use Rattle.queue_image.specs.FileNames.IsOwnFile.{numbered, metadata, written}
-use Rattle.queue_image.specs.Places.{IsOrdered, IsAtEnd}
+use Rattle.queue_image.specs.Places.{IsOrdered, IsAtEnd, rolls}
 use Rattle.queue_image.specs.Metas.{meta_text, IsIdle}
 use Rattle.queue_image.specs.Between.{Between, IsSaved}
 use Rattle.queue_image.specs.Finds.{IsFound, Records}
@@ -19,13 +19,14 @@ use Rattle.queue_image.proofs.Walking.{list_is_found}
 use Rattle.queue_image.proofs.Keeping.{saved_is_found}
 use Rattle.queue_image.proofs.MetaLemmas.{reads_back}
 use Rattle.queue_image.proofs.Naming.{one_number, metadata_apart}
-use Rattle.disk_queue.specs.Seen.{Seen, unmarked, committed, after_stage, after_save, IsUnchanged}
+use Rattle.disk_queue.specs.Seen.{Seen, unmarked, committed, staged_more, after_stage, after_save, IsUnchanged}
 use Rattle.disk_queue.specs.Holding.{Holds, staged_part, SaveStands, OwnChange}
 use Rattle.disk_queue.specs.Answers.{IsKept, KeptWhereDone, FoundUnlessFailed, NotDueWhere, Saves, PutSaves}
 use Rattle.queue_files.specs.Replaced.{OnlyTwoChange, Replaces}
-use Rattle.disk_queue.specs.Parts.{IsSound, OnlySaveChanges, Rewrites, PutChanges}
+use Rattle.disk_queue.specs.Parts.{IsSound, OnlySaveChanges, Rewrites, PutChanges, place_for, with_record}
 use Rattle.queue_files.specs.FileCalls.{OnlyNumbersChange, Gone}
-use Rattle.disk_queue.specs.declared.answers.Stage.TheVariants.{Staged}
+use Rattle.disk_queue.specs.declared.answers.Stage.TheVariants.{Staged as IsStaged}
+use Rattle.disk_queue.specs.declared.standing.Staged.{Staged}
 use Rattle.disk_queue.specs.declared.answers.Put.TheVariants.{Stored}
 use Rattle.disk_queue.specs.declared.answers.Sync.{Sync}
 use Rattle.disk_queue.specs.declared.answers.Sync.TheVariants.{NotDue, Done as Saved, Failed as Unsaved}
@@ -64,7 +65,7 @@ not_rewritten q r old new e small w only = subst (λ (x : Seen). Rewrites x old 
     go (inr text) = inr text
 
 -- the save in a put tells of the metadata before it
-pub put_saves : (q p r : Seen) (old mid new : Files) (size : ℕ) (sync : Sync) → p ≡ after_stage q size Staged → r ≡ after_save (committed p) sync → mid (meta_file q.name) ≡ old (meta_file q.name)
+pub put_saves : (q p r : Seen) (old mid new : Files) (size : ℕ) (sync : Sync) → p ≡ after_stage q size IsStaged → r ≡ after_save (committed p) sync → mid (meta_file q.name) ≡ old (meta_file q.name)
     → Saves r mid new sync → PutSaves r old new (Stored sync)
 put_saves q p r old mid new size sync e d stays s = go sync s
   where
@@ -80,9 +81,34 @@ put_saves q p r old mid new size sync e d stays s = go sync s
     go Unsaved (inl kept) = inl (kept.0 ∙ meta)
     go Unsaved (inr text) = inr text
 
+-- the file where writing stands once a record was staged
+more_place : (q : Seen) (size : ℕ) → (staged_more q size).file ≡ (place_for q size).file
+more_place q size = go (rolls q.options.max_bytes q.staged.file q.staged.at size)
+  where
+    more : Bool → Staged
+    more b =
+        if b
+        then record { file = q.staged.file + 1; at = 4 + size; count = q.staged.count + 1 }
+        else record { file = q.staged.file; at = q.staged.at + (4 + size); count = q.staged.count + 1 }
+
+    place : Bool → Staged
+    place b = if b then record { file = q.staged.file + 1; at = 0; count = q.staged.count } else q.staged
+
+    go : (b : Bool) → (more b).file ≡ (place b).file
+    go true = refl
+    go false = refl
+
+-- a record that was staged stands in its file after the commit
+pub put_writes : (q p : Seen) (old mid new : Files) (body : List ℕ) → p ≡ after_stage q (length body) IsStaged → mid (data_file q.name (place_for q (length body)).file) ≡ Some (with_record q old body)
+    → new (data_file p.name p.staged.file) ≡ mid (data_file p.name p.staged.file) → new (data_file q.name (place_for q (length body)).file) ≡ Some (with_record q old body)
+put_writes q p old mid new body e there stays =
+    let here : new (data_file q.name (staged_more q (length body)).file) ≡ mid (data_file q.name (staged_more q (length body)).file)
+    = subst (λ (x : Seen). new (data_file x.name x.staged.file) ≡ mid (data_file x.name x.staged.file)) e stays in
+    subst (λ (k : ℕ). new (data_file q.name k) ≡ mid (data_file q.name k)) (more_place q (length body)) here ∙ there
+
 -- a record is staged and committed
 pub put_changes : (q : Seen) (size : ℕ) (sync : Sync) (old mid new : Files) → OnlyTwoChange old mid (data_file q.name q.staged.file) (data_file q.name (q.staged.file + 1))
-    → OnlySaveChanges (after_stage q size Staged) mid new → PutChanges q old new (Stored sync)
+    → OnlySaveChanges (after_stage q size IsStaged) mid new → PutChanges q old new (Stored sync)
 put_changes q size sync old mid new two save file a b meta temp below = save file meta temp below ∙ two file a b
 
 module _ (q : Seen) (i : IsSound q) (old new : Files) (only : OnlySaveChanges q old new) where
@@ -121,6 +147,14 @@ module _ (q : Seen) (i : IsSound q) (old new : Files) (only : OnlySaveChanges q 
       file_order : (p : Positions) → IsOrdered p → p.read_file ≤ p.write_file
       file_order p (inl lt) = omega arith
       file_order p (inr same) = omega (arith, same.0)
+
+  -- the file where writing stands stays
+  pub write_saved : new (data_file q.name q.positions.write_file) ≡ old (data_file q.name q.positions.write_file)
+  write_saved = let range = i.range in let high = range.write_file in from_read q.positions.write_file (low q.positions i.ordered) (omega (arith, high))
+    where
+      low : (p : Positions) → IsOrdered p → p.read_file ≤ p.write_file
+      low p (inl lt) = omega arith
+      low p (inr same) = omega (arith, same.0)
 
   -- no file of another name changes
   pub own_saved : OwnChange q.name old new

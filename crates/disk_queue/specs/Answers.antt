@@ -1,6 +1,6 @@
 -- What the calls of a queue answer, by the cases of their results.
-use Rattle.std.specs.Prelude.{ℕ, ◌≡◌, ◌<◌, ◌≤◌, ◌⊎◌, List, [], ◌∷◌, ◌++◌, Some, None}
-use Rattle.nsq_outside.specs.Causes.{Rose}
+use Rattle.std.specs.Prelude.{ℕ, ◌≡◌, ◌<◌, ◌≤◌, ◌⊎◌, List, [], ◌∷◌, ◌++◌, Some, None, true, false}
+use Rattle.nsq_outside.specs.Causes.{Rose, CountsFault}
 use Rattle.nsq_outside.specs.Files.{Files, SameFiles}
 use Rattle.queue_image.specs.FileNames.{data_file, meta_file, meta_temp}
 use Rattle.queue_image.specs.Metas.{meta_text}
@@ -58,6 +58,23 @@ abbrev pub PutFails : ℕ → ℕ → Put → Type 0
 PutFails before now (Stored sync) = SyncFails before now sync
 PutFails before now Fault = Rose before now
 PutFails before now (TooLong _) = Unit {0}
+
+-- a fault is counted, and nothing else
+abbrev pub StageCounts : ℕ → ℕ → Stage → Type 0
+StageCounts before now stage.Staged = CountsFault before now false
+StageCounts before now stage.Fault = CountsFault before now true
+StageCounts before now (stage.TooLong _) = CountsFault before now false
+
+-- the save failed exactly where the count rose in it
+abbrev pub SyncCounts : ℕ → ℕ → Sync → Type 0
+SyncCounts before now NotDue = CountsFault before now false
+SyncCounts before now Done = CountsFault before now false
+SyncCounts before now Failed = CountsFault before now true
+
+abbrev pub PutCounts : ℕ → ℕ → Put → Type 0
+PutCounts before now (Stored sync) = SyncCounts before now sync
+PutCounts before now Fault = CountsFault before now true
+PutCounts before now (TooLong _) = CountsFault before now false
 
 -- NotDue comes exactly where this holds
 abbrev pub NotDueWhere : Type 0 → Sync → Type 0

@@ -1,6 +1,6 @@
 -- What emptying and deleting a queue leave.
-use Rattle.std.specs.Prelude.{ℕ, ◌≡◌, ◌≢◌, ◌+◌, ◌≤◌, ◌⊎◌, List, [], Some, None, IsTrue}
-use Rattle.nsq_outside.specs.Causes.{Rose}
+use Rattle.std.specs.Prelude.{ℕ, ◌≡◌, ◌≢◌, ◌+◌, ◌<◌, ◌≤◌, ◌⊎◌, List, [], Some, None, IsTrue, true}
+use Rattle.nsq_outside.specs.Causes.{Rose, CountsFault}
 use Rattle.nsq_outside.specs.Files.{Files}
 use Rattle.queue_image.specs.FileNames.{data_file, meta_file, meta_temp}
 use Rattle.queue_image.specs.Metas.{meta_text, IsIdle}
@@ -48,6 +48,11 @@ abbrev pub EmptyFails : ℕ → ℕ → Seen → Emptied → Type 0
 EmptyFails before now q Done = IsTrue q.saved.failed → Rose before now
 EmptyFails before now q Fault = Rose before now
 
+-- a fault is counted. Done is counted exactly where the save counts as failed, and that comes only where there was a file to remove
+abbrev pub EmptyCounts : ℕ → ℕ → Seen → Seen → Emptied → Type 0
+EmptyCounts before now q r Done = CountsFault before now r.saved.failed × (IsTrue r.saved.failed → q.saved.positions.read_file < q.positions.write_file)
+EmptyCounts before now q r Fault = CountsFault before now true
+
 -- a queue that could not be deleted is as before, and a save failed
 abbrev pub DeleteSeen : Seen → Deleted → Type 0
 DeleteSeen q IsDeleted = Unit {0}
@@ -89,13 +94,25 @@ abbrev pub DeleteGone : Seen → Files → ℕ → ℕ → Deleted → Type 0
 DeleteGone q files before now IsDeleted = Rose before now ⊎ IsGone q files
 DeleteGone q files before now (NotDeleted r) = Unit {0}
 
+-- the data files go before the metadata: that still says the empty list, or no data file up to the one behind the staged end is left
+abbrev pub DeleteOrder : Seen → Files → Deleted → Type 0
+DeleteOrder q files IsDeleted =
+    (files (meta_file q.name) ≡ Some (meta_text 0 (emptied q).positions)) ⊎ ((k : ℕ) → k ≤ q.staged.file + 1 → files (data_file q.name k) ≡ None)
+DeleteOrder q files (NotDeleted r) = Unit {0}
+
 -- a fault comes only with a rise
 abbrev pub DeleteFails : ℕ → ℕ → Deleted → Type 0
 DeleteFails before now IsDeleted = Unit {0}
 DeleteFails before now (NotDeleted r) = Rose before now
 
--- what the removals in a deletion do: the metadata and these data files are gone where none failed, and no other file changes
+-- a fault is counted. In a deletion at most two calls failed: a removal in the emptying, and one behind it
+abbrev pub DeleteCounts : ℕ → ℕ → Deleted → Type 0
+DeleteCounts before now IsDeleted = now ≤ before + 2
+DeleteCounts before now (NotDeleted r) = CountsFault before now true
+
+-- what the removals in a deletion do: these data files and then the metadata are gone where none failed, and no other file changes
 pub record Deletes (q : Seen) (old new : Files) (before now : ℕ) : Type 0 where
   pub meta : (new (meta_file q.name) ≡ None) ⊎ (Rose before now × (new (meta_file q.name) ≡ old (meta_file q.name)))
   pub data_files : Rose before now ⊎ ((k : ℕ) → q.saved.positions.read_file ≤ k → k ≤ q.staged.file + 1 → new (data_file q.name k) ≡ None)
+  pub order : (new (meta_file q.name) ≡ old (meta_file q.name)) ⊎ ((k : ℕ) → q.saved.positions.read_file ≤ k → k ≤ q.staged.file + 1 → new (data_file q.name k) ≡ None)
   pub others : (file : List ℕ) → file ≢ meta_file q.name → ((k : ℕ) → q.saved.positions.read_file ≤ k → k ≤ q.staged.file + 1 → file ≢ data_file q.name k) → new file ≡ old file

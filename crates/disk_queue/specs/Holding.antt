@@ -1,5 +1,5 @@
 -- What the files of a queue hold.
-use Rattle.std.specs.Prelude.{ℕ, ◌≡◌, ◌^◌, ◌<◌, ◌≤◌, List, Option, None, length, IfSome, IsTrue}
+use Rattle.std.specs.Prelude.{ℕ, ◌≡◌, ◌^◌, ◌<◌, ◌≤◌, List, None, length, IfSome, IsTrue}
 use Rattle.nsq_outside.specs.Files.{Files}
 use Rattle.queue_image.specs.Places.{IsOrdered}
 pub use Rattle.queue_image.specs.Metas.{Says, IsIdle}

@@ -1,7 +1,7 @@
 -- What an opening of a queue makes of its files.
-use Rattle.std.specs.Prelude.{ℕ, ◌≡◌, ◌≢◌, ◌+◌, ◌^◌, ◌<◌, ◌≤◌, min, List, [], length, Some, None, Contains}
-use Rattle.nsq_outside.specs.Files.{Files, SameFiles, cut_to}
-use Rattle.queue_image.specs.FileNames.{data_file, meta_file, meta_temp, set_aside, IsFileOf}
+use Rattle.std.specs.Prelude.{ℕ, ◌≡◌, ◌^◌, ◌<◌, List, [], length, None}
+use Rattle.nsq_outside.specs.Files.{Files, SameFiles}
+use Rattle.queue_image.specs.FileNames.{meta_file, meta_temp, set_aside, IsFileOf}
 use Rattle.queue_image.specs.Places.{IsAtEnd}
 use Rattle.queue_image.specs.Between.{content}
 use Rattle.queue_image.specs.Finds.{IsFound, Records, BadMeta}
@@ -12,6 +12,7 @@ use Rattle.queue_image.specs.Metas.{Says}
 use Rattle.disk_queue.specs.Answers.{IsKept}
 pub use Rattle.queue_opening.specs.Tidied.{IsSetAside, IsTidiedAt}
 pub use Rattle.queue_opening.specs.Refusals.{OpenFails}
+pub use Rattle.queue_opening.specs.Again.{FindsList, FindsSameList}
 use Rattle.queue_opening.specs.declared.refusal.Open.{Open}
 use Rattle.queue_opening.specs.declared.refusal.Open.TheVariants.{Fault, BadMeta as IsBadMeta, Memory}
 
@@ -35,13 +36,14 @@ pub record IsTidied (q : Seen) (old new : Files) : Type 0 where
   pub aside_meta : new (set_aside (meta_file q.name)) ≡ old (set_aside (meta_file q.name))
   pub aside_temp : new (set_aside (meta_temp q.name)) ≡ old (set_aside (meta_temp q.name))
 
--- BadMeta comes only where the metadata is not in its grammar, and then no file changed; nor did one where memory was wanting
+-- BadMeta comes only where the metadata is not in its grammar, and then no file changed; nor did one where memory was wanting. After a
+-- fault an opening of the files finds the same list
 pub record IsBadlyFound (least limit : ℕ) (name : List ℕ) (old new : Files) : Type 0 where
   pub found : IsFound least limit old name BadMeta
   pub same : SameFiles old new
 
 abbrev pub RefusedWhere : ℕ → ℕ → List ℕ → Files → Files → Open → Type 0
-RefusedWhere least limit name old new Fault = Unit {0}
+RefusedWhere least limit name old new Fault = FindsSameList least limit name old new
 RefusedWhere least limit name old new IsBadMeta = IsBadlyFound least limit name old new
 RefusedWhere least limit name old new Memory = SameFiles old new
 

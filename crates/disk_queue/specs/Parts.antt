@@ -1,5 +1,5 @@
 -- What a queue keeps, and what the parts of its calls do.
-use Rattle.std.specs.Prelude.{ℕ, ◌≡◌, ◌≢◌, ◌+◌, ◌*◌, ◌^◌, ◌<◌, ◌≤◌, ◌⊎◌, List, [], ◌++◌, length, take, Option, Some, None, unwrap_or, if◌then◌else◌, IfSome, IsTrue}
+use Rattle.std.specs.Prelude.{ℕ, ◌≡◌, ◌≢◌, ◌+◌, ◌^◌, ◌<◌, ◌≤◌, ◌⊎◌, List, [], ◌++◌, length, Some, None, unwrap_or, if◌then◌else◌, IfSome, IsTrue}
 use Rattle.nsq_outside.specs.Files.{Files, cut_to, written_at}
 use Rattle.nsq_outside.specs.declared.did.Did.{Did}
 use Rattle.nsq_outside.specs.declared.did.Did.TheVariants.{Done, Failed}
@@ -76,6 +76,12 @@ abbrev pub StageWrites : Seen → Files → Files → List ℕ → Stage → Typ
 StageWrites q old new body IsStaged = new (data_file q.name (place_for q (length body)).file) ≡ Some (with_record q old body)
 StageWrites q old new body StageFault = Unit {0}
 StageWrites q old new body (StageTooLong _) = Unit {0}
+
+-- the same of a record that was put: the save in the put leaves that file
+abbrev pub PutWrites : Seen → Files → Files → List ℕ → Put → Type 0
+PutWrites q old new body (Stored _) = new (data_file q.name (place_for q (length body)).file) ≡ Some (with_record q old body)
+PutWrites q old new body Fault = Unit {0}
+PutWrites q old new body (TooLong _) = Unit {0}
 
 -- no file changes but the metadata, its temporary, and data files below the one that is read, from the one on that was read at the
 -- last save

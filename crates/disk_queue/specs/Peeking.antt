@@ -1,7 +1,7 @@
 -- What the parts of a peek do.
-use Rattle.std.specs.Prelude.{ℕ, ◌≡◌, ◌+◌, ◌^◌, ◌<◌, ◌≤◌, List, length, take, Option, Some, None}
+use Rattle.std.specs.Prelude.{ℕ, ◌≡◌, ◌+◌, ◌^◌, ◌<◌, ◌≤◌, List, length, take, Option, Some, None, true, false}
 use Rattle.std.specs.Int.{w32, to_be_bytes}
-use Rattle.nsq_outside.specs.Causes.{Rose}
+use Rattle.nsq_outside.specs.Causes.{Rose, CountsFault}
 use Rattle.queue_image.specs.Places.{IsAtEnd}
 use Rattle.queue_image.specs.declared.positions.Positions.{Positions}
 use Rattle.disk_queue.specs.Seen.{Seen, marked, passed_over, next_file}
@@ -34,6 +34,16 @@ abbrev pub HeadFails : ℕ → ℕ → Head → Type 0
 HeadFails before now (Size size) = Unit {0}
 HeadFails before now Short = Unit {0}
 HeadFails before now HeadFault = Rose before now
+
+-- a fault is counted, and nothing else
+abbrev pub HeadCounts : ℕ → ℕ → Head → Type 0
+HeadCounts before now (Size size) = CountsFault before now false
+HeadCounts before now Short = CountsFault before now false
+HeadCounts before now HeadFault = CountsFault before now true
+
+abbrev pub FindCounts : ℕ → ℕ → Option Head → Type 0
+FindCounts before now None = CountsFault before now false
+FindCounts before now (Some head) = HeadCounts before now head
 
 -- fewer than four bytes are left at a place that is neither a read-out file's end nor the end of the list
 pub record IsShort (bytes : ℕ → List ℕ) (p : Positions) : Type 0 where

@@ -1,12 +1,12 @@
 -- What is read of a queue, and what the calls that read it answer.
-use Rattle.std.specs.Prelude.{ℕ, ◌≡◌, ◌+◌, ◌<◌, ◌≤◌, ◌⊎◌, List, [], ◌∷◌, length, take, drop, slice_range}
-use Rattle.nsq_outside.specs.Causes.{Rose}
+use Rattle.std.specs.Prelude.{ℕ, ◌≡◌, ◌+◌, ◌-◌, ◌<◌, ◌≤◌, ◌⊎◌, List, [], ◌∷◌, length, take, drop, slice_range, true, false}
+use Rattle.nsq_outside.specs.Causes.{Rose, CountsFault}
 use Rattle.nsq_outside.specs.Files.{Files, SameFiles}
 use Rattle.queue_image.specs.Places.{IsAtEnd, part_end}
 use Rattle.queue_image.specs.Records.{HasRecord, IsSize, size_read}
 use Rattle.queue_image.specs.declared.positions.Positions.{Positions}
 use Rattle.disk_queue.specs.Seen.{Seen, IsEarly, unmarked, next_file, reading_at, marked, advanced, passed_over, after_save}
-use Rattle.disk_queue.specs.Answers.{NotDueWhere, SyncFails, Saves, KeptWhereDone}
+use Rattle.disk_queue.specs.Answers.{NotDueWhere, SyncFails, SyncCounts, Saves, KeptWhereDone}
 use Rattle.disk_queue.specs.Parts.{OnlySaveChanges}
 use Rattle.disk_queue.specs.declared.answers.Sync.{Sync}
 use Rattle.disk_queue.specs.declared.answers.Peek.{Peek}
@@ -88,12 +88,26 @@ PeekFails before now Empty = Unit {0}
 PeekFails before now Fault = Rose before now
 PeekFails before now (Damaged file at size) = Unit {0}
 
+-- a fault is counted, and nothing else
+abbrev pub PeekCounts : ℕ → ℕ → Peek → Type 0
+PeekCounts before now (Got n) = CountsFault before now false
+PeekCounts before now Empty = CountsFault before now false
+PeekCounts before now Fault = CountsFault before now true
+PeekCounts before now (Damaged file at size) = CountsFault before now false
+
 -- the answer of the peek in a taking
 abbrev pub peek_of : Take → Peek
 peek_of (taking.Got n sync) = Got n
 peek_of taking.Empty = Empty
 peek_of taking.Fault = Fault
 peek_of (taking.Damaged file at size) = Damaged file at size
+
+-- where reading stood in a taking that left the read position there: a record that was taken stands before it
+abbrev pub stood_taking : Positions → Take → Positions
+stood_taking p (taking.Got n sync) = record p { read_at = p.read_at - (4 + n) }
+stood_taking p taking.Empty = p
+stood_taking p taking.Fault = p
+stood_taking p (taking.Damaged file at size) = record p { read_file = file; read_at = at }
 
 -- the record of n bytes that stands at a place was taken, and a save was made where that was due
 pub record IsTaken (q r : Seen) (n : ℕ) (sync : Sync) : Type 0 where
@@ -140,3 +154,10 @@ TakeFails before now (taking.Got n sync) = SyncFails before now sync
 TakeFails before now taking.Empty = Unit {0}
 TakeFails before now taking.Fault = Rose before now
 TakeFails before now (taking.Damaged file at size) = Unit {0}
+
+-- a fault, or a save that failed, is counted, and nothing else
+abbrev pub TakeCounts : ℕ → ℕ → Take → Type 0
+TakeCounts before now (taking.Got n sync) = SyncCounts before now sync
+TakeCounts before now taking.Empty = CountsFault before now false
+TakeCounts before now taking.Fault = CountsFault before now true
+TakeCounts before now (taking.Damaged file at size) = CountsFault before now false

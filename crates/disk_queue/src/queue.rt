@@ -1,15 +1,15 @@
 ghost use Rattle.std.specs.Prelude.{◌≡◌, ◌+◌, ◌^◌, ◌<◌, ◌≤◌, ◌↔◌, ℕ, List, [], ◌++◌, length, unwrap_or, IsTrue, IfOk, IfSome, IfNone};
-ghost use Rattle.nsq_outside.specs.Causes.{Rose, DidFails};
+ghost use Rattle.nsq_outside.specs.Causes.{Rose, DidFails, DidCounts};
 ghost use Rattle.nsq_outside.specs.Files.{Files};
 ghost use Rattle.queue_image.specs.Places.{rolls};
 ghost use Rattle.queue_image.specs.FileNames.{data_file, meta_file};
 ghost use Rattle.disk_queue.specs.Seen.{fresh_queue, unmarked, forgotten, committed, after_stage, after_save, after_put, IsEarly, IsUnchanged};
 ghost use Rattle.disk_queue.specs.Holding.{Holds, SaveStands, OwnChange};
 ghost use Rattle.queue_image.specs.Metas.{IsIdle};
-ghost use Rattle.disk_queue.specs.Answers.{waiting_after, bodies_after, StaysWhereTooLong, StageTooLong, PutTooLong, StageFails, SyncFails, PutFails, NotDueWhere, PutDue, Saves, PutSaves, KeptWhereDone, FoundUnlessFailed, PutKept};
+ghost use Rattle.disk_queue.specs.Answers.{waiting_after, bodies_after, StaysWhereTooLong, StageTooLong, PutTooLong, StageFails, StageCounts, SyncFails, SyncCounts, PutFails, PutCounts, NotDueWhere, PutDue, Saves, PutSaves, KeptWhereDone, FoundUnlessFailed, PutKept};
 ghost use Rattle.queue_files.specs.Replaced.{OnlyTwoChange};
-ghost use Rattle.disk_queue.specs.Parts.{IsSound, OnlySaveChanges, Rewrites, PutChanges, StageWrites, WritesPlace, base_for, first_base, place_for};
-ghost use Rattle.queue_files.specs.FileCalls.{Gone};
+ghost use Rattle.disk_queue.specs.Parts.{IsSound, OnlySaveChanges, Rewrites, PutChanges, PutWrites, StageWrites, WritesPlace, base_for, first_base, place_for};
+ghost use Rattle.queue_files.specs.FileCalls.{Gone, CountsNone};
 
 mod emptying;
 mod opening;
@@ -109,6 +109,7 @@ impl Queue {
         ensures others { IsTrue F.tells_files → OwnChange self.old.name (F.files folder.old) (F.files folder.new) }
         ensures faults { F.folder_faults folder.old ≤ F.folder_faults folder.new }
         ensures cause { StageFails (F.folder_faults folder.old) (F.folder_faults folder.new) result }
+        ensures exact { IsTrue F.counts_exactly → StageCounts (F.folder_faults folder.old) (F.folder_faults folder.new) result }
     {
         let limit = self.limit();
         if bytes.len() > limit as usize {
@@ -131,10 +132,12 @@ impl Queue {
         ensures kept { IsTrue F.tells_files → (bodies waiting : List (List ℕ)) → Holds self.old (F.files folder.old) bodies waiting → KeptWhereDone self.new (F.files folder.new) (bodies ++ waiting) result }
         ensures stands { IsTrue F.tells_files → SaveStands self.old (F.files folder.old) → SaveStands self.new (F.files folder.new) }
         ensures metadata { IsTrue F.tells_files → Saves self.new (F.files folder.old) (F.files folder.new) result }
+        ensures written { IsTrue F.tells_files → F.files folder.new (data_file self.old.name self.old.staged.file) ≡ F.files folder.old (data_file self.old.name self.old.staged.file) }
         ensures files { IsTrue F.tells_files → OnlySaveChanges self.old (F.files folder.old) (F.files folder.new) }
         ensures others { IsTrue F.tells_files → OwnChange self.old.name (F.files folder.old) (F.files folder.new) }
         ensures faults { F.folder_faults folder.old ≤ F.folder_faults folder.new }
         ensures cause { SyncFails (F.folder_faults folder.old) (F.folder_faults folder.new) result }
+        ensures exact { IsTrue F.counts_exactly → SyncCounts (F.folder_faults folder.old) (F.folder_faults folder.new) result }
     {
         self.join();
         if self.is_early() {
@@ -170,11 +173,13 @@ impl Queue {
         ensures list { IsTrue F.tells_files → (bodies : List (List ℕ)) → Holds self.old (F.files folder.old) bodies [] → Holds self.new (F.files folder.new) (bodies_after bodies bytes.now result) [] }
         ensures kept { IsTrue F.tells_files → (bodies : List (List ℕ)) → Holds self.old (F.files folder.old) bodies [] → PutKept self.new (F.files folder.new) (bodies_after bodies bytes.now result) result }
         ensures stands { IsTrue F.tells_files → SaveStands self.old (F.files folder.old) → SaveStands self.new (F.files folder.new) }
+        ensures written { IsTrue F.tells_files → PutWrites self.old (F.files folder.old) (F.files folder.new) bytes.now result }
         ensures metadata { IsTrue F.tells_files → PutSaves self.new (F.files folder.old) (F.files folder.new) result }
         ensures files { IsTrue F.tells_files → PutChanges self.old (F.files folder.old) (F.files folder.new) result }
         ensures others { IsTrue F.tells_files → OwnChange self.old.name (F.files folder.old) (F.files folder.new) }
         ensures faults { F.folder_faults folder.old ≤ F.folder_faults folder.new }
         ensures cause { PutFails (F.folder_faults folder.old) (F.folder_faults folder.new) result }
+        ensures exact { IsTrue F.counts_exactly → PutCounts (F.folder_faults folder.old) (F.folder_faults folder.new) result }
     {
         match self.stage(folder, bytes) {
             Stage::Staged => {}
@@ -198,6 +203,7 @@ impl Queue {
         ensures others { IsTrue F.tells_files → OwnChange self.old.name (F.files folder.old) (F.files folder.new) }
         ensures faults { F.folder_faults folder.old ≤ F.folder_faults folder.new }
         ensures cause { SyncFails (F.folder_faults folder.old) (F.folder_faults folder.new) result }
+        ensures exact { IsTrue F.counts_exactly → SyncCounts (F.folder_faults folder.old) (F.folder_faults folder.new) result }
     {
         self.unmark();
         if self.is_unchanged() {
@@ -234,6 +240,7 @@ impl Queue {
         ensures files { IsTrue F.tells_files → OnlyTwoChange (F.files folder.old) (F.files folder.new) (data_file self.old.name self.old.staged.file) (data_file self.old.name (self.old.staged.file + 1)) }
         ensures faults { F.folder_faults folder.old ≤ F.folder_faults folder.new }
         ensures cause { IfNone result (Rose (F.folder_faults folder.old) (F.folder_faults folder.new)) }
+        ensures exact { IsTrue F.counts_exactly → CountsNone (F.folder_faults folder.old) (F.folder_faults folder.new) result }
     {
         if self.rolls(size) {
             return self.roll(folder);
@@ -261,6 +268,7 @@ impl Queue {
         ensures files { IsTrue F.tells_files → OnlyTwoChange (F.files folder.old) (F.files folder.new) (data_file self.old.name self.old.staged.file) (data_file self.old.name (self.old.staged.file + 1)) }
         ensures faults { F.folder_faults folder.old ≤ F.folder_faults folder.new }
         ensures cause { IfNone result (Rose (F.folder_faults folder.old) (F.folder_faults folder.new)) }
+        ensures exact { IsTrue F.counts_exactly → CountsNone (F.folder_faults folder.old) (F.folder_faults folder.new) result }
     {
         match self.files.roll(folder, self.staged.file, self.staged.at) {
             Did::Done => {}
@@ -283,6 +291,7 @@ impl Queue {
         ensures files { IsTrue F.tells_files → OnlyTwoChange (F.files folder.old) (F.files folder.new) (data_file self.old.name self.old.staged.file) (data_file self.old.name (self.old.staged.file + 1)) }
         ensures faults { F.folder_faults folder.old ≤ F.folder_faults folder.new }
         ensures cause { IfNone result (Rose (F.folder_faults folder.old) (F.folder_faults folder.new)) }
+        ensures exact { IsTrue F.counts_exactly → CountsNone (F.folder_faults folder.old) (F.folder_faults folder.new) result }
     {
         if self.begun {
             return Some(self.staged);
@@ -306,6 +315,7 @@ impl Queue {
         ensures files { IsTrue F.tells_files → OnlyTwoChange (F.files folder.old) (F.files folder.new) (data_file self.old.name self.old.staged.file) (data_file self.old.name (self.old.staged.file + 1)) }
         ensures faults { F.folder_faults folder.old ≤ F.folder_faults folder.new }
         ensures cause { StageFails (F.folder_faults folder.old) (F.folder_faults folder.new) result }
+        ensures exact { IsTrue F.counts_exactly → StageCounts (F.folder_faults folder.old) (F.folder_faults folder.new) result }
     {
         self.mark = None;
         match self.files.write(folder, place.file, place.at, bytes) {
@@ -362,10 +372,12 @@ impl Queue {
         ensures stands { IsTrue F.tells_files → SaveStands self.old (F.files folder.old) → SaveStands self.new (F.files folder.new) }
         ensures kept { IsTrue F.tells_files → (bodies waiting : List (List ℕ)) → Holds self.old (F.files folder.old) bodies waiting → KeptWhereDone self.new (F.files folder.new) bodies result }
         ensures metadata { IsTrue F.tells_files → Saves self.new (F.files folder.old) (F.files folder.new) result }
+        ensures written { IsTrue F.tells_files → F.files folder.new (data_file self.old.name self.old.positions.write_file) ≡ F.files folder.old (data_file self.old.name self.old.positions.write_file) }
         ensures files { IsTrue F.tells_files → OnlySaveChanges self.old (F.files folder.old) (F.files folder.new) }
         ensures others { IsTrue F.tells_files → OwnChange self.old.name (F.files folder.old) (F.files folder.new) }
         ensures faults { F.folder_faults folder.old ≤ F.folder_faults folder.new }
         ensures cause { SyncFails (F.folder_faults folder.old) (F.folder_faults folder.new) result }
+        ensures exact { IsTrue F.counts_exactly → SyncCounts (F.folder_faults folder.old) (F.folder_faults folder.new) result }
     {
         match self.save_files(folder) {
             Did::Done => {}
@@ -406,6 +418,7 @@ impl Queue {
         ensures files { IsTrue F.tells_files → OnlySaveChanges self.old (F.files folder.old) (F.files folder.new) }
         ensures faults { F.folder_faults folder.old ≤ F.folder_faults folder.new }
         ensures cause { DidFails (F.folder_faults folder.old) (F.folder_faults folder.new) result }
+        ensures exact { IsTrue F.counts_exactly → DidCounts (F.folder_faults folder.old) (F.folder_faults folder.new) result }
     {
         match self.files.save(folder, self.depth, self.positions) {
             Did::Done => {}

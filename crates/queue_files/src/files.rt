@@ -1,11 +1,11 @@
 ghost use Rattle.std.specs.Prelude.{◌≡◌, ◌+◌, ◌^◌, ◌<◌, ◌≤◌, IsTrue, IfOk, IfSome, IfNone, length};
-ghost use Rattle.nsq_outside.specs.Causes.{Rose, DidFails};
-ghost use Rattle.nsq_outside.specs.Files.{SameFiles, OnlyChanges, IsWithin, IsAmountAt, ReadsAt, IsReadWithin, ReadAtFails, Cuts, Removes};
+ghost use Rattle.nsq_outside.specs.Causes.{Rose, DidFails, DidCounts};
+ghost use Rattle.nsq_outside.specs.Files.{SameFiles, OnlyChanges, IsWithin, IsAmountAt, ReadsAt, IsReadWithin, ReadAtFails, ReadAtCounts, Cuts, Removes};
 ghost use Rattle.queue_image.specs.Between.{content};
 ghost use Rattle.queue_image.specs.FileNames.{data_file, meta_file, meta_temp};
 ghost use Rattle.queue_image.specs.Metas.{meta_text};
 ghost use Rattle.queue_files.specs.Replaced.{Replaces, OnlyTwoChange};
-ghost use Rattle.queue_files.specs.FileCalls.{WritesRecord, WritesBoth, Gone, OnlyNumbersChange};
+ghost use Rattle.queue_files.specs.FileCalls.{WritesRecord, WritesBoth, Gone, OnlyNumbersChange, RemovalFails, CountsNone};
 
 use crate::data_name::DataName;
 use crate::metadata;
@@ -67,6 +67,7 @@ impl QueueFiles {
         ensures others { IsTrue F.tells_files → OnlyChanges (F.files folder.old) (F.files folder.new) (data_file self.old number) }
         ensures faults { F.folder_faults folder.old ≤ F.folder_faults folder.new }
         ensures cause { DidFails (F.folder_faults folder.old) (F.folder_faults folder.new) result }
+        ensures exact { IsTrue F.counts_exactly → DidCounts (F.folder_faults folder.old) (F.folder_faults folder.new) result }
     {
         self.data.turn_to(number);
         folder.cut(self.data.as_str(), at)
@@ -81,6 +82,7 @@ impl QueueFiles {
         ensures others { IsTrue F.tells_files → OnlyTwoChange (F.files folder.old) (F.files folder.new) (data_file self.old number) (data_file self.old (number + 1)) }
         ensures faults { F.folder_faults folder.old ≤ F.folder_faults folder.new }
         ensures cause { DidFails (F.folder_faults folder.old) (F.folder_faults folder.new) result }
+        ensures exact { IsTrue F.counts_exactly → DidCounts (F.folder_faults folder.old) (F.folder_faults folder.new) result }
     {
         match self.cut(folder, number, at) {
             Did::Done => {}
@@ -103,6 +105,7 @@ impl QueueFiles {
         ensures others { IsTrue F.tells_files → OnlyChanges (F.files folder.old) (F.files folder.new) (data_file self.old number) }
         ensures faults { F.folder_faults folder.old ≤ F.folder_faults folder.new }
         ensures cause { DidFails (F.folder_faults folder.old) (F.folder_faults folder.new) result }
+        ensures exact { IsTrue F.counts_exactly → DidCounts (F.folder_faults folder.old) (F.folder_faults folder.new) result }
     {
         self.data.turn_to(number);
         let size = (bytes.len() as u32).to_be_bytes();
@@ -130,6 +133,7 @@ impl QueueFiles {
         ensures same { IsTrue F.tells_files → SameFiles (F.files folder.old) (F.files folder.new) }
         ensures faults { F.folder_faults folder.old ≤ F.folder_faults folder.new }
         ensures cause { ReadAtFails (F.folder_faults folder.old) (F.folder_faults folder.new) result }
+        ensures exact { IsTrue F.counts_exactly → ReadAtCounts (F.folder_faults folder.old) (F.folder_faults folder.new) result }
     {
         self.read.turn_to(number);
         folder.read_at(self.read.as_str(), at, into)
@@ -143,6 +147,7 @@ impl QueueFiles {
         ensures same { IsTrue F.tells_files → SameFiles (F.files folder.old) (F.files folder.new) }
         ensures faults { F.folder_faults folder.old ≤ F.folder_faults folder.new }
         ensures cause { IfNone result (Rose (F.folder_faults folder.old) (F.folder_faults folder.new)) }
+        ensures exact { IsTrue F.counts_exactly → CountsNone (F.folder_faults folder.old) (F.folder_faults folder.new) result }
     {
         self.read.turn_to(number);
         match folder.len(self.read.as_str()) {
@@ -159,6 +164,7 @@ impl QueueFiles {
         ensures others { IsTrue F.tells_files → OnlyTwoChange (F.files folder.old) (F.files folder.new) (meta_file self.old) (meta_temp self.old) }
         ensures faults { F.folder_faults folder.old ≤ F.folder_faults folder.new }
         ensures cause { DidFails (F.folder_faults folder.old) (F.folder_faults folder.new) result }
+        ensures exact { IsTrue F.counts_exactly → DidCounts (F.folder_faults folder.old) (F.folder_faults folder.new) result }
     {
         self.data.turn_to(positions.write_file);
         match folder.sync(self.data.as_str()) {
@@ -179,9 +185,11 @@ impl QueueFiles {
         requires { to ≤ 2 ^ 40 + 2 }
         ensures name { self.new ≡ self.old }
         ensures gone { IsTrue F.tells_files → Gone self.old (F.files folder.new) from to result }
+        ensures tried { RemovalFails from to result }
         ensures others { IsTrue F.tells_files → OnlyNumbersChange self.old (F.files folder.old) (F.files folder.new) from to }
         ensures faults { F.folder_faults folder.old ≤ F.folder_faults folder.new }
         ensures cause { DidFails (F.folder_faults folder.old) (F.folder_faults folder.new) result }
+        ensures exact { IsTrue F.counts_exactly → DidCounts (F.folder_faults folder.old) (F.folder_faults folder.new) result }
     {
         remove_each(folder, &mut self.data, from, to)
     }
@@ -193,6 +201,7 @@ impl QueueFiles {
         ensures others { IsTrue F.tells_files → OnlyChanges (F.files folder.old) (F.files folder.new) (meta_file self.old) }
         ensures faults { F.folder_faults folder.old ≤ F.folder_faults folder.new }
         ensures cause { DidFails (F.folder_faults folder.old) (F.folder_faults folder.new) result }
+        ensures exact { IsTrue F.counts_exactly → DidCounts (F.folder_faults folder.old) (F.folder_faults folder.new) result }
     {
         folder.remove(self.meta.as_str())
     }
@@ -203,9 +212,11 @@ fn remove_each<F: Folder>(folder: &mut F, file: &mut DataName, from: u64, to: u6
     requires { to ≤ 2 ^ 40 + 2 }
     ensures name { file.new.name ≡ file.old.name }
     ensures gone { IsTrue F.tells_files → Gone file.old.name (F.files folder.new) from to result }
+    ensures tried { RemovalFails from to result }
     ensures others { IsTrue F.tells_files → OnlyNumbersChange file.old.name (F.files folder.old) (F.files folder.new) from to }
     ensures faults { F.folder_faults folder.old ≤ F.folder_faults folder.new }
     ensures cause { DidFails (F.folder_faults folder.old) (F.folder_faults folder.new) result }
+    ensures exact { IsTrue F.counts_exactly → DidCounts (F.folder_faults folder.old) (F.folder_faults folder.new) result }
 {
     for number in from..to {
         file.turn_to(number);
@@ -225,6 +236,7 @@ fn write_long<F: Folder>(folder: &mut F, file: &str, at: u64, size: &[u8; 4], by
     ensures others { IsTrue F.tells_files → OnlyChanges (F.files folder.old) (F.files folder.new) file.now }
     ensures faults { F.folder_faults folder.old ≤ F.folder_faults folder.new }
     ensures cause { DidFails (F.folder_faults folder.old) (F.folder_faults folder.new) result }
+    ensures exact { IsTrue F.counts_exactly → DidCounts (F.folder_faults folder.old) (F.folder_faults folder.new) result }
 {
     match folder.write_at(file, at, size) {
         Did::Done => {}

@@ -1,5 +1,5 @@
 ghost use Rattle.std.specs.Prelude.{◌≢◌, ◌≤◌, IsTrue};
-ghost use Rattle.nsq_outside.specs.Causes.{DidFails};
+ghost use Rattle.nsq_outside.specs.Causes.{DidFails, DidCounts};
 ghost use Rattle.nsq_outside.specs.Files.{OnlyChanges, Renames};
 ghost use Rattle.queue_files.specs.Replaced.{Writes, Replaces, OnlyTwoChange};
 
@@ -12,6 +12,7 @@ pub fn write_temp<F: Folder>(folder: &mut F, temp: &str, bytes: &[u8]) -> Did
     ensures others { IsTrue F.tells_files → OnlyChanges (F.files folder.old) (F.files folder.new) temp.now }
     ensures faults { F.folder_faults folder.old ≤ F.folder_faults folder.new }
     ensures cause { DidFails (F.folder_faults folder.old) (F.folder_faults folder.new) result }
+    ensures exact { IsTrue F.counts_exactly → DidCounts (F.folder_faults folder.old) (F.folder_faults folder.new) result }
 {
     match folder.sync_names() {
         Did::Done => {}
@@ -34,6 +35,7 @@ pub fn switch<F: Folder>(folder: &mut F, temp: &str, name: &str) -> Did
     ensures files { IsTrue F.tells_files → Renames (F.files folder.old) (F.files folder.new) temp.now name.now result }
     ensures faults { F.folder_faults folder.old ≤ F.folder_faults folder.new }
     ensures cause { DidFails (F.folder_faults folder.old) (F.folder_faults folder.new) result }
+    ensures exact { IsTrue F.counts_exactly → DidCounts (F.folder_faults folder.old) (F.folder_faults folder.new) result }
 {
     match folder.rename(temp, name) {
         Did::Done => {}
@@ -49,6 +51,7 @@ pub fn replace_file<F: Folder>(folder: &mut F, name: &str, temp: &str, bytes: &[
     ensures others { IsTrue F.tells_files → OnlyTwoChange (F.files folder.old) (F.files folder.new) name.now temp.now }
     ensures faults { F.folder_faults folder.old ≤ F.folder_faults folder.new }
     ensures cause { DidFails (F.folder_faults folder.old) (F.folder_faults folder.new) result }
+    ensures exact { IsTrue F.counts_exactly → DidCounts (F.folder_faults folder.old) (F.folder_faults folder.new) result }
 {
     match write_temp(folder, temp, bytes) {
         Did::Done => {}

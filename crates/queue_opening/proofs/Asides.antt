@@ -13,7 +13,7 @@ use Rattle.queue_image.specs.FileNames.{data_file, set_aside, file_digits}
 use Rattle.queue_image.specs.FileNames.IsOwnFile.{numbered}
 use Rattle.queue_image.proofs.Naming.{one_number, aside_apart}
 use Rattle.queue_files.specs.FileCalls.{Gone, OnlyNumbersChange}
-use Rattle.queue_opening.specs.Tidied.{AsideStep, IsMoved, IsAside, OnlyAsideChanges, GoneWhere, RemoveStep, RemovedWhere, OnlyRemovedChange}
+use Rattle.queue_opening.specs.Tidied.{AsideStep, IsMoved, IsAside, StaysOrGoes, OnlyAsideChanges, GoneWhere, RemoveStep, RemovedWhere, OnlyRemovedChange}
 
 pub none_some : (o : Option (List ℕ)) → o ≡ None → IsSome o → ⊥
 none_some None e h = let contra : false ≡ true = h in cc
@@ -95,6 +95,26 @@ module _ (name : List ℕ) (old mid new : Files) (n : ℕ) (small : n < 2 ^ 64) 
     where
       same_moved : SameFiles mid new → (k : ℕ) → IsMoved name old mid k → IsMoved name old new k
       same_moved same k m = record { gone = same (data_file name k) ∙ m.gone; moved = λ some. same (set_aside (data_file name k)) ∙ m.moved some }
+
+  -- one that fails, or is made
+  pub aside_stops : (xs : List ℕ) (from : ℕ) → IsAside name xs from old mid → AsideStep name from n mid new Failed → StaysOrGoes name old new
+  aside_stops xs from a s =
+      elim (cases_lt n from) [
+        | inl below ↦ unmoved (s.same below)
+        | inr past ↦ elim (s.done past) [
+          | inl same ↦ unmoved same
+          | inr r ↦ λ k fits. elim (cases_eq k n) [
+            | inl here ↦ inr (subst (λ (j : ℕ). new (data_file name j) ≡ None) (sym here) (gone_now (moved_now r (a.either n small))))
+            | inr apart ↦ elim (a.either k fits) [ inl e ↦ inl ((keeps r k fits apart).0 ∙ e) | inr m ↦ inr ((keeps r k fits apart).0 ∙ m.gone) ]
+          ]
+        ]
+      ]
+    where
+      gone_now : IsMoved name old new n → new (data_file name n) ≡ None
+      gone_now m = m.gone
+
+      unmoved : SameFiles mid new → StaysOrGoes name old new
+      unmoved same k fits = elim (a.either k fits) [ inl e ↦ inl (same (data_file name k) ∙ e) | inr m ↦ inr (same (data_file name k) ∙ m.gone) ]
 
   pub aside_others_more : (xs : List ℕ) (from : ℕ) (did : Did) → IsAside name xs from old mid → OnlyAsideChanges name xs from old mid → AsideStep name from n mid new did
       → OnlyAsideChanges name (xs ++ n ∷ []) from old new

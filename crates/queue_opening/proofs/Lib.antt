@@ -6,3 +6,4 @@ pub mod Asides
 pub mod Tidies
 pub mod FoundReads
 pub mod Lists
+pub mod FoundAgain

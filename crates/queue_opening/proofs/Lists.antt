@@ -45,7 +45,7 @@ settled_nothing p q true read_bad write_bad h e = subst (λ (x : Positions). IsA
 settled_nothing p q false read_bad write_bad h e = let contra : false ≡ true = h in cc
 
 module _ (options : QueueOptions) (name : List ℕ) (plan : Plan) (f0 f4 f5 : Files) (small : options.limit < 2 ^ 32) (i : IsPlan plan) (pl : IsPlanned options.least options.limit f0 name plan)
-    (t : IsTidy name plan f0 f4) (ot : OnlyTidied name plan f0 f4) (w : IsWritten name plan f5) (ow : OnlyWritten name plan f4 f5) where
+    (t : IsTidy name plan f0 f4) (ot : OnlyTidied name plan f0 f4) (ow : OnlyWritten name plan f4 f5) where
   abbrev pub q : Positions
   q = plan.positions
 
@@ -65,50 +65,6 @@ module _ (options : QueueOptions) (name : List ℕ) (plan : Plan) (f0 f4 f5 : Fi
   aside_later k =
       ow (set_aside (data_file name k)) (λ e. aside_apart name (data_file name k) (meta_file name) (metadata refl) (sym e)) (λ e. aside_apart name (data_file name k) (meta_temp name) (written refl) (sym e))
       (λ j _ before. aside_not_data name k j (omega (arith, before, order, high)))
-
-  -- no file is left below the read file
-  pub gone_below : (k : ℕ) → k < q.read_file → f5 (data_file name k) ≡ None
-  gone_below k low = go (f5 (data_file name k)) refl
-    where
-      fits : k < 2 ^ 64
-      fits = omega (arith, low, order, high)
-
-      go : (o : Option (List ℕ)) → f5 (data_file name k) ≡ o → f5 (data_file name k) ≡ None
-      go None e = e
-      go (Some x) e =
-          let not : ¬ Contains plan.numbers.items k = λ its. none_some (f5 (data_file name k)) (w.removed k its low) (some_is (f5 (data_file name k)) x e) in
-          let apart = metadata_apart name k fits in
-          let later : f5 (data_file name k) ≡ f4 (data_file name k)
-          = ow (data_file name k) (λ a. apart.0 (sym a)) (λ a. apart.1 (sym a))
-          (λ j its before. data_apart name k j fits (omega (arith, before, order, high)) (λ a. not (subst (λ (n : ℕ). Contains plan.numbers.items n) (sym a) its))) in
-          let before : f4 (data_file name k) ≡ f0 (data_file name k)
-          = ot (data_file name k) (λ j few _ some. (data_apart name k j fits few (λ a. not (subst (λ (n : ℕ). Contains plan.numbers.items n) (sym a) (pl.numbers j few some))), data_not_aside name k j fits))
-          (λ j its below. let low' = i.below in data_apart name k j fits (omega (arith, below, low', order, high)) (λ a. not (subst (λ (n : ℕ). Contains plan.numbers.items n) (sym a) its)))
-          (data_apart name k q.write_file fits (omega (arith, high)) (λ a. omega (arith, a, low, order))) in
-          absurd (not (pl.numbers k fits (some_is (f0 (data_file name k)) x (sym before ∙ sym later ∙ e))))
-
-  none_later : (k : ℕ) → k < 2 ^ 64 → f4 (data_file name k) ≡ None → f5 (data_file name k) ≡ None
-  none_later k fits none = elim (cases_lt k q.read_file) [ inl below ↦ gone_below k below | inr from ↦ data_later k fits from ∙ none ]
-
-  -- what is set aside is so at the end
-  pub aside_all : (k : ℕ) → k < 2 ^ 64 → SetsAside plan k → IsSetAside name f0 f5 q.write_file k
-  aside_all k fits its =
-      let m = t.aside k fits its in record { moved = λ some. aside_later k ∙ m.moved some; gone = λ apart. none_later k fits (m.gone apart); stays = λ none. aside_later k ∙ m.stays none }
-
-  -- and so is a number without a file
-  pub aside_none : (k : ℕ) → k < 2 ^ 64 → plan.below ≤ k → f0 (data_file name k) ≡ None → IsSetAside name f0 f5 q.write_file k
-  aside_none k fits from none = record {
-    moved = λ some. absurd (none_some (f0 (data_file name k)) none some);
-    gone = λ apart. none_later k fits (ot (data_file name k) (λ j few _ some. (data_apart name k j fits few (λ e. other j e some), data_not_aside name k j fits)) removed (data_apart name k q.write_file fits (omega (arith, high)) apart) ∙ none);
-    stays = λ _. aside_later k ∙ ot (set_aside (data_file name k)) (λ j few _ some. (aside_not_data name k j few, asides_apart name k j fits few (λ e. other j e some)))
-        (λ j _ below. let low = i.below in aside_not_data name k j (omega (arith, below, low, order, high))) (aside_not_data name k q.write_file (omega (arith, high)));
-  }
-    where
-      other : (j : ℕ) → k ≡ j → IsSome (f0 (data_file name j)) → ⊥
-      other j e some = none_some (f0 (data_file name j)) (subst (λ (n : ℕ). f0 (data_file name n) ≡ None) e none) some
-
-      removed : (j : ℕ) → Contains plan.numbers.items j → j < plan.below → data_file name k ≢ data_file name j
-      removed j its below = data_apart name k j fits (omega (arith, below, from, fits)) (λ e. omega (arith, e, below, from))
 
   pub record Listed : Type 0 where
     pub bodies : List (List ℕ)
@@ -164,9 +120,10 @@ module _ (options : QueueOptions) (name : List ℕ) (plan : Plan) (f0 f4 f5 : Fi
         (data_apart name k q.write_file fits (omega (arith, high)) (λ e. omega (arith, e, before, write_above)))
 
     -- a bad file is gone
-    bad_gone : (k : ℕ) → k ≤ p.write_file → Contains plan.bad.items k → k ≢ q.write_file → new k ≡ []
-    bad_gone k low its apart =
-        let m = aside_all k (omega (arith, low, p_high)) (inr its) in ap (λ (o : Option (List ℕ)). unwrap_or o []) (m.gone apart)
+    bad_gone : (k : ℕ) → q.read_file ≤ k → k ≤ p.write_file → Contains plan.bad.items k → k ≢ q.write_file → new k ≡ []
+    bad_gone k from low its apart =
+        let fits : k < 2 ^ 64 = omega (arith, low, p_high) in
+        let m = t.aside k fits (inr its) in ap (λ (o : Option (List ℕ)). unwrap_or o []) (data_later k fits from ∙ m.gone apart)
 
     module _ (found : WalksUpTo options.least options.limit p old (p.write_file + 1) plan.depth plan.bad.items) (read_bad write_bad : Bool) (read : IsTrue read_bad ↔ Contains plan.bad.items p.read_file)
         (write : IsTrue write_bad ↔ Contains plan.bad.items p.write_file) (some : plan.depth ≢ 0) (is : q ≡ settled p false read_bad write_bad) where
@@ -193,7 +150,7 @@ module _ (options : QueueOptions) (name : List ℕ) (plan : Plan) (f0 f4 f5 : Fi
           → Reads options.least options.limit new p.write_file 0 p.read_file from done
       before_write done bad walks past =
           reads_kept options.least options.limit p old new from is_bad is_good walks past (omega arith)
-          (λ j low before b. bad_gone j (omega (arith, before)) (bad_listed options.least options.limit p old new small found.walks j low (omega (arith, before)) b) (λ e. omega (arith, e, before, write_above)))
+          (λ j low before b. bad_gone j (omega (arith, reads_from, low)) (omega (arith, before)) (bad_listed options.least options.limit p old new small found.walks j low (omega (arith, before)) b) (λ e. omega (arith, e, before, write_above)))
           (λ j xs low before g. ap (λ (o : Option (List ℕ)). unwrap_or o []) (good_same j (omega (arith, reads_from, low)) low before (lacks_good j xs g)))
 
       abbrev Goal : Positions → Type 0
@@ -251,7 +208,7 @@ module _ (options : QueueOptions) (name : List ℕ) (plan : Plan) (f0 f4 f5 : Fi
                 | inl lt ↦ let next : q.write_file ≡ p.write_file + 1 = omega (arith, writes, lt) in
                     subst (λ (k : ℕ). Reads options.least options.limit new k 0 p.read_file from bodies) (sym next)
                     (reads_past options.least options.limit p old new p.write_file p.read_file from (before_write bodies b.bad b.walks past)
-                    (bad_gone p.write_file (omega arith) (bad_listed options.least options.limit p old new small found.walks p.write_file p_order (omega arith) b.is_bad) (λ e. omega (arith, e, next))))
+                    (bad_gone p.write_file (omega (arith, reads_from, p_order)) (omega arith) (bad_listed options.least options.limit p old new small found.walks p.write_file p_order (omega arith) b.is_bad) (λ e. omega (arith, e, next))))
                 | inr last ↦ subst (λ (k : ℕ). Reads options.least options.limit new k 0 p.read_file from bodies) (omega (arith, writes, last, p_high)) (before_write bodies b.bad b.walks past)
               ]
 
@@ -331,57 +288,102 @@ module _ (options : QueueOptions) (name : List ℕ) (plan : Plan) (f0 f4 f5 : Fi
       (λ j _ below e. let low = i.below in aside_apart name own (data_file name j) (numbered j (omega (arith, below, low, order, high)) refl) (sym e))
       (λ e. aside_apart name own (data_file name q.write_file) (numbered q.write_file (omega (arith, high)) refl) (sym e))
 
-  -- a number that is set aside where it has a file
-  pub aside_from : (k : ℕ) → k < 2 ^ 64 → plan.above ≤ k → IsSetAside name f0 f5 q.write_file k
-  aside_from k fits low = go (f0 (data_file name k)) refl
-    where
-      go : (o : Option (List ℕ)) → f0 (data_file name k) ≡ o → IsSetAside name f0 f5 q.write_file k
-      go None e = let between = i.apart in aside_none k fits (omega (arith, between, low)) e
-      go (Some x) e = aside_all k fits (inl (pl.numbers k fits (some_is (f0 (data_file name k)) x e), low))
+  module _ (w : IsWritten name plan f5) where
+    -- no file is left below the read file
+    pub gone_below : (k : ℕ) → k < q.read_file → f5 (data_file name k) ≡ None
+    gone_below k low = go (f5 (data_file name k)) refl
+      where
+        fits : k < 2 ^ 64
+        fits = omega (arith, low, order, high)
 
-  pub tidied_at : (p : Positions) → Says (f0 (meta_file name)) p → IsTidiedAt name f0 f5 p plan.bad.items q
-  tidied_at p says =
-      let pw = pl.with_meta p says in
-      let s = pw.settles in
-      let is = says.is in
-      let range = is.in_range in
-      let p_fits = range.write_file in
-      let from = i.below in
-      record {
-        removed = λ k low. gone_below k (omega (arith, low, from, pw.below));
-        above = λ k low fits. aside_from k fits (omega (arith, low, pw.above));
-        bad = λ k its. let h = i.bad k its in aside_all k (omega (arith, h.1, pw.above, p_fits)) (inr its);
-        kept_aside = λ k low lacks.
-            let fits : k < 2 ^ 64 = omega (arith, low, p_fits) in
-            aside_later k
-            ∙ ot (set_aside (data_file name k))
-            (λ j few its _. (aside_not_data name k j few, asides_apart name k j fits few (λ e. not_aside p says pw k low lacks (subst (λ (n : ℕ). SetsAside plan n) (sym e) its))))
-            (λ j _ below. aside_not_data name k j (omega (arith, below, from, order, high))) (aside_not_data name k q.write_file (omega (arith, high)));
-        good = λ k at before lacks. good_same p says pw k at (omega (arith, at, from, pw.below)) before lacks;
-        same_write = λ lacks.
-            let same : q.write_file ≡ p.write_file
-            = ap (λ (x : Positions). x.write_file) s.is ∙ settled_write p s.none s.read_bad s.write_bad ∙ cond_else s.write_bad (min (p.write_file + 1) (2 ^ 40)) p.write_file (λ h. lacks (s.write.0 h)) in (
-              same,
-              subst (λ (k : ℕ). f5 (data_file name k) ≡ Some (cut_to (content f0 name k) q.write_at)) same
-                  (data_later q.write_file (omega (arith, high)) order
-                  ∙ t.cut (not_aside p says pw q.write_file (omega (arith, same)) (λ its. lacks (subst (λ (n : ℕ). Contains plan.bad.items n) same its)))),
-            );
-        next_write = λ its.
-            let true_is = s.write.1 its in (
-              ap (λ (x : Positions). x.write_file) s.is ∙ settled_write p s.none s.read_bad s.write_bad ∙ cond_then s.write_bad (min (p.write_file + 1) (2 ^ 40)) p.write_file true_is,
-              ap (λ (x : Positions). x.write_at) s.is ∙ settled_zero p s.none s.read_bad s.write_bad true_is,
-            );
-      }
-    where
-      cond_else : (b : Bool) (m n : ℕ) → ¬ IsTrue b → cond b m n ≡ n
-      cond_else true m n h = absurd (h refl)
-      cond_else false m n h = refl
+        go : (o : Option (List ℕ)) → f5 (data_file name k) ≡ o → f5 (data_file name k) ≡ None
+        go None e = e
+        go (Some x) e =
+            let not : ¬ Contains plan.numbers.items k = λ its. none_some (f5 (data_file name k)) (w.removed k its low) (some_is (f5 (data_file name k)) x e) in
+            let apart = metadata_apart name k fits in
+            let later : f5 (data_file name k) ≡ f4 (data_file name k)
+            = ow (data_file name k) (λ a. apart.0 (sym a)) (λ a. apart.1 (sym a))
+            (λ j its before. data_apart name k j fits (omega (arith, before, order, high)) (λ a. not (subst (λ (n : ℕ). Contains plan.numbers.items n) (sym a) its))) in
+            let before : f4 (data_file name k) ≡ f0 (data_file name k)
+            = ot (data_file name k) (λ j few _ some. (data_apart name k j fits few (λ a. not (subst (λ (n : ℕ). Contains plan.numbers.items n) (sym a) (pl.numbers j few some))), data_not_aside name k j fits))
+            (λ j its below. let low' = i.below in data_apart name k j fits (omega (arith, below, low', order, high)) (λ a. not (subst (λ (n : ℕ). Contains plan.numbers.items n) (sym a) its)))
+            (data_apart name k q.write_file fits (omega (arith, high)) (λ a. omega (arith, a, low, order))) in
+            absurd (not (pl.numbers k fits (some_is (f0 (data_file name k)) x (sym before ∙ sym later ∙ e))))
 
-      cond_then : (b : Bool) (m n : ℕ) → IsTrue b → cond b m n ≡ m
-      cond_then true m n h = refl
-      cond_then false m n h = let contra : false ≡ true = h in cc
+    none_later : (k : ℕ) → k < 2 ^ 64 → f4 (data_file name k) ≡ None → f5 (data_file name k) ≡ None
+    none_later k fits none = elim (cases_lt k q.read_file) [ inl below ↦ gone_below k below | inr from ↦ data_later k fits from ∙ none ]
 
-      settled_zero : (p : Positions) (none read_bad write_bad : Bool) → IsTrue write_bad → (settled p none read_bad write_bad).write_at ≡ 0
-      settled_zero p true read_bad write_bad h = refl
-      settled_zero p false read_bad true h = refl
-      settled_zero p false read_bad false h = let contra : false ≡ true = h in cc
+    -- what is set aside is so at the end
+    pub aside_all : (k : ℕ) → k < 2 ^ 64 → SetsAside plan k → IsSetAside name f0 f5 q.write_file k
+    aside_all k fits its =
+        let m = t.aside k fits its in record { moved = λ some. aside_later k ∙ m.moved some; gone = λ apart. none_later k fits (m.gone apart); stays = λ none. aside_later k ∙ m.stays none }
+
+    -- and so is a number without a file
+    pub aside_none : (k : ℕ) → k < 2 ^ 64 → plan.below ≤ k → f0 (data_file name k) ≡ None → IsSetAside name f0 f5 q.write_file k
+    aside_none k fits from none = record {
+      moved = λ some. absurd (none_some (f0 (data_file name k)) none some);
+      gone = λ apart. none_later k fits (ot (data_file name k) (λ j few _ some. (data_apart name k j fits few (λ e. other j e some), data_not_aside name k j fits)) removed (data_apart name k q.write_file fits (omega (arith, high)) apart) ∙ none);
+      stays = λ _. aside_later k ∙ ot (set_aside (data_file name k)) (λ j few _ some. (aside_not_data name k j few, asides_apart name k j fits few (λ e. other j e some)))
+          (λ j _ below. let low = i.below in aside_not_data name k j (omega (arith, below, low, order, high))) (aside_not_data name k q.write_file (omega (arith, high)));
+    }
+      where
+        other : (j : ℕ) → k ≡ j → IsSome (f0 (data_file name j)) → ⊥
+        other j e some = none_some (f0 (data_file name j)) (subst (λ (n : ℕ). f0 (data_file name n) ≡ None) e none) some
+
+        removed : (j : ℕ) → Contains plan.numbers.items j → j < plan.below → data_file name k ≢ data_file name j
+        removed j its below = data_apart name k j fits (omega (arith, below, from, fits)) (λ e. omega (arith, e, below, from))
+
+    -- a number that is set aside where it has a file
+    pub aside_from : (k : ℕ) → k < 2 ^ 64 → plan.above ≤ k → IsSetAside name f0 f5 q.write_file k
+    aside_from k fits low = go (f0 (data_file name k)) refl
+      where
+        go : (o : Option (List ℕ)) → f0 (data_file name k) ≡ o → IsSetAside name f0 f5 q.write_file k
+        go None e = let between = i.apart in aside_none k fits (omega (arith, between, low)) e
+        go (Some x) e = aside_all k fits (inl (pl.numbers k fits (some_is (f0 (data_file name k)) x e), low))
+
+    pub tidied_at : (p : Positions) → Says (f0 (meta_file name)) p → IsTidiedAt name f0 f5 p plan.bad.items q
+    tidied_at p says =
+        let pw = pl.with_meta p says in
+        let s = pw.settles in
+        let is = says.is in
+        let range = is.in_range in
+        let p_fits = range.write_file in
+        let from = i.below in
+        record {
+          removed = λ k low. gone_below k (omega (arith, low, from, pw.below));
+          above = λ k low fits. aside_from k fits (omega (arith, low, pw.above));
+          bad = λ k its. let h = i.bad k its in aside_all k (omega (arith, h.1, pw.above, p_fits)) (inr its);
+          kept_aside = λ k low lacks.
+              let fits : k < 2 ^ 64 = omega (arith, low, p_fits) in
+              aside_later k
+              ∙ ot (set_aside (data_file name k))
+              (λ j few its _. (aside_not_data name k j few, asides_apart name k j fits few (λ e. not_aside p says pw k low lacks (subst (λ (n : ℕ). SetsAside plan n) (sym e) its))))
+              (λ j _ below. aside_not_data name k j (omega (arith, below, from, order, high))) (aside_not_data name k q.write_file (omega (arith, high)));
+          good = λ k at before lacks. good_same p says pw k at (omega (arith, at, from, pw.below)) before lacks;
+          same_write = λ lacks.
+              let same : q.write_file ≡ p.write_file
+              = ap (λ (x : Positions). x.write_file) s.is ∙ settled_write p s.none s.read_bad s.write_bad ∙ cond_else s.write_bad (min (p.write_file + 1) (2 ^ 40)) p.write_file (λ h. lacks (s.write.0 h)) in (
+                same,
+                subst (λ (k : ℕ). f5 (data_file name k) ≡ Some (cut_to (content f0 name k) q.write_at)) same
+                    (data_later q.write_file (omega (arith, high)) order
+                    ∙ t.cut (not_aside p says pw q.write_file (omega (arith, same)) (λ its. lacks (subst (λ (n : ℕ). Contains plan.bad.items n) same its)))),
+              );
+          next_write = λ its.
+              let true_is = s.write.1 its in (
+                ap (λ (x : Positions). x.write_file) s.is ∙ settled_write p s.none s.read_bad s.write_bad ∙ cond_then s.write_bad (min (p.write_file + 1) (2 ^ 40)) p.write_file true_is,
+                ap (λ (x : Positions). x.write_at) s.is ∙ settled_zero p s.none s.read_bad s.write_bad true_is,
+              );
+        }
+      where
+        cond_else : (b : Bool) (m n : ℕ) → ¬ IsTrue b → cond b m n ≡ n
+        cond_else true m n h = absurd (h refl)
+        cond_else false m n h = refl
+
+        cond_then : (b : Bool) (m n : ℕ) → IsTrue b → cond b m n ≡ m
+        cond_then true m n h = refl
+        cond_then false m n h = let contra : false ≡ true = h in cc
+
+        settled_zero : (p : Positions) (none read_bad write_bad : Bool) → IsTrue write_bad → (settled p none read_bad write_bad).write_at ≡ 0
+        settled_zero p true read_bad write_bad h = refl
+        settled_zero p false read_bad true h = refl
+        settled_zero p false read_bad false h = let contra : false ≡ true = h in cc

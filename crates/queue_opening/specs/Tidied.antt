@@ -1,5 +1,5 @@
 -- What an opening does with a queue's files before it saves.
-use Rattle.std.specs.Prelude.{ℕ, ◌≡◌, ◌≢◌, ◌+◌, min, ◌^◌, ◌<◌, ◌≤◌, ◌⊎◌, List, Option, Some, None, IsSome, Contains, length}
+use Rattle.std.specs.Prelude.{ℕ, ◌≡◌, ◌≢◌, ◌+◌, min, ◌^◌, ◌<◌, ◌≤◌, ◌⊎◌, List, [], Option, Some, None, IsSome, Contains, length}
 use Rattle.nsq_outside.specs.Files.{Files, SameFiles, OnlyChanges, Renames, cut_to}
 use Rattle.nsq_outside.specs.declared.did.Did.{Did}
 use Rattle.nsq_outside.specs.declared.did.Did.TheVariants.{Done, Failed}
@@ -48,9 +48,13 @@ abbrev pub OnlyAsideChanges : List ℕ → List ℕ → ℕ → Files → Files 
 OnlyAsideChanges name numbers from old new =
     (file : List ℕ) → ((k : ℕ) → k < 2 ^ 64 → Contains numbers k → from ≤ k → IsSome (old (data_file name k)) → (file ≢ data_file name k) × (file ≢ set_aside (data_file name k))) → new file ≡ old file
 
+-- each data file is as it was or gone
+abbrev pub StaysOrGoes : List ℕ → Files → Files → Type 0
+StaysOrGoes name old new = (k : ℕ) → k < 2 ^ 64 → (new (data_file name k) ≡ old (data_file name k)) ⊎ (new (data_file name k) ≡ None)
+
 abbrev pub AsideWhere : List ℕ → List ℕ → ℕ → Files → Files → Did → Type 0
 AsideWhere name numbers from old new Done = IsAside name numbers from old new
-AsideWhere name numbers from old new Failed = Unit {0}
+AsideWhere name numbers from old new Failed = StaysOrGoes name old new
 
 -- a file is gone, unless that failed
 abbrev pub GoneWhere : Option (List ℕ) → Did → Type 0
@@ -92,15 +96,30 @@ abbrev pub TidyWhere : List ℕ → Plan → Files → Files → Did → Type 0
 TidyWhere name plan old new Done = IsTidy name plan old new
 TidyWhere name plan old new Failed = Unit {0}
 
+-- how far a plan may be carried out: a file that it sets aside has its bytes still, or none; the write file, where it isn't one of those, has
+-- its bytes still or is cut, and where it is one, may be cut once it has none
+pub record IsPartlyTidy (name : List ℕ) (plan : Plan) (old new : Files) : Type 0 where
+  pub aside : (k : ℕ) → k < 2 ^ 64 → SetsAside plan k
+      → (content new name k ≡ content old name k) ⊎ (content new name k ≡ []) ⊎ ((k ≡ plan.positions.write_file) × (content new name k ≡ cut_to [] plan.positions.write_at))
+  pub cut : ¬ SetsAside plan plan.positions.write_file
+      → (content new name plan.positions.write_file ≡ content old name plan.positions.write_file)
+      ⊎ (content new name plan.positions.write_file ≡ cut_to (content old name plan.positions.write_file) plan.positions.write_at)
+
 -- a plan's list is saved, and the files below its read file are gone
 pub record IsWritten (name : List ℕ) (plan : Plan) (files : Files) : Type 0 where
   pub meta : files (meta_file name) ≡ Some (meta_text plan.depth plan.positions)
   pub temp : files (meta_temp name) ≡ None
   pub removed : (k : ℕ) → Contains plan.numbers.items k → k < plan.positions.read_file → files (data_file name k) ≡ None
 
-abbrev pub WrittenWhere : List ℕ → Plan → Files → Did → Type 0
-WrittenWhere name plan files Done = IsWritten name plan files
-WrittenWhere name plan files Failed = Unit {0}
+-- the metadata and each data file are as they were
+pub record IsUnwritten (name : List ℕ) (old new : Files) : Type 0 where
+  pub meta : new (meta_file name) ≡ old (meta_file name)
+  pub data_files : (k : ℕ) → k < 2 ^ 64 → new (data_file name k) ≡ old (data_file name k)
+
+-- where that failed, the metadata is that of the list, or nothing changed
+abbrev pub WrittenWhere : List ℕ → Plan → Files → Files → Did → Type 0
+WrittenWhere name plan old new Done = IsWritten name plan new
+WrittenWhere name plan old new Failed = IsUnwritten name old new ⊎ (new (meta_file name) ≡ Some (meta_text plan.depth plan.positions))
 
 -- no file changes but the metadata, its temporary, and those that are removed
 abbrev pub OnlyWritten : List ℕ → Plan → Files → Files → Type 0

@@ -7,7 +7,7 @@ use thiserror::Error;
 /// Why a queue wasn't opened.
 #[derive(Clone, Copy, Debug, PartialEq, Eq, Error)]
 pub enum Open {
-    /// The folder failed, and its count of faults rose in this call.
+    /// The folder failed, and its count of faults rose in this call. Another opening finds the same list.
     #[error("disk fault")]
     Fault,
     /// The metadata isn't in its grammar.

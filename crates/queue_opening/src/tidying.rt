@@ -1,6 +1,6 @@
 ghost use Rattle.std.specs.Prelude.{◌≡◌, ◌+◌, ◌^◌, ◌<◌, ◌≤◌, ℕ, Contains, IsTrue};
 ghost use Rattle.nsq_outside.specs.Causes.{DidFails};
-ghost use Rattle.queue_opening.specs.Tidied.{AsideStep, OnlyAsideChanges, AsideWhere, RemoveStep, RemovedWhere, OnlyRemovedChange, OnlyTidied, TidyWhere, WrittenWhere, OnlyWritten};
+ghost use Rattle.queue_opening.specs.Tidied.{AsideStep, OnlyAsideChanges, AsideWhere, RemoveStep, RemovedWhere, OnlyRemovedChange, OnlyTidied, TidyWhere, IsPartlyTidy, WrittenWhere, OnlyWritten};
 ghost use Rattle.queue_opening.specs.Planned.{IsPlan};
 
 use crate::names::Names;
@@ -19,6 +19,7 @@ pub fn tidy<F: Folder>(
     requires plan { IsPlan plan.now }
     ensures name { files.new ≡ files.old }
     ensures tidy { IsTrue F.tells_files → TidyWhere files.old plan.now (F.files folder.old) (F.files folder.new) result }
+    ensures partly { IsTrue F.tells_files → IsPartlyTidy files.old plan.now (F.files folder.old) (F.files folder.new) }
     ensures others { IsTrue F.tells_files → OnlyTidied files.old plan.now (F.files folder.old) (F.files folder.new) }
     ensures faults { F.folder_faults folder.old ≤ F.folder_faults folder.new }
     ensures cause { DidFails (F.folder_faults folder.old) (F.folder_faults folder.new) result }
@@ -42,7 +43,7 @@ pub fn tidy<F: Folder>(
 pub fn write_down<F: Folder>(folder: &mut F, files: &mut QueueFiles, plan: &Plan) -> Did
     requires { IsPlan plan.now }
     ensures name { files.new ≡ files.old }
-    ensures written { IsTrue F.tells_files → WrittenWhere files.old plan.now (F.files folder.new) result }
+    ensures written { IsTrue F.tells_files → WrittenWhere files.old plan.now (F.files folder.old) (F.files folder.new) result }
     ensures others { IsTrue F.tells_files → OnlyWritten files.old plan.now (F.files folder.old) (F.files folder.new) }
     ensures faults { F.folder_faults folder.old ≤ F.folder_faults folder.new }
     ensures cause { DidFails (F.folder_faults folder.old) (F.folder_faults folder.new) result }

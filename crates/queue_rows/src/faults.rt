@@ -101,11 +101,18 @@ fn holds(alloc: Global, trial: &Trial, failing: u64) -> Result<bool, Memory> {
         first: b'a',
         next: b'a',
     };
-    if !goes(alloc, &mut queue, &mut folder, &mut letters, trial.moves)? {
+    if !goes(
+        alloc,
+        &mut queue,
+        &mut folder,
+        &mut letters,
+        trial.moves,
+        failing,
+    )? {
         return Ok(false);
     }
-    if trial.deletes {
-        delete(queue, &mut folder, &mut letters);
+    if trial.deletes && !delete(queue, &mut folder, &mut letters, failing) {
+        return Ok(false);
     }
     finds_letters(alloc, &folder, &letters)
 }
@@ -117,13 +124,14 @@ fn goes(
     folder: &mut MemFolder,
     letters: &mut Letters,
     moves: &[Move],
+    failing: u64,
 ) -> Result<bool, Memory>
     requires least { queue.old.options.least ≤ 40 }
     requires limit { queue.old.options.limit ≤ 60 }
     requires none { queue.old.staged.count ≡ 0 }
 {
     for a_move in moves {
-        if !is_right(alloc, queue, folder, letters, *a_move)? {
+        if !is_right(alloc, queue, folder, letters, *a_move, failing)? {
             return Ok(false);
         }
     }
@@ -137,6 +145,7 @@ fn is_right(
     folder: &mut MemFolder,
     letters: &mut Letters,
     a_move: Move,
+    failing: u64,
 ) -> Result<bool, Memory>
     requires least { queue.old.options.least ≤ 40 }
     requires limit { queue.old.options.limit ≤ 60 }
@@ -155,7 +164,7 @@ fn is_right(
             Ok(true)
         }
         Move::Save => Ok(save(queue, folder) != Sync::Failed),
-        Move::Empty => empty(alloc, queue, folder, letters),
+        Move::Empty => empty(alloc, queue, folder, letters, failing),
         Move::Count => Ok(queue.depth() == letters.next.saturating_sub(letters.first) as u128),
     }
 }
@@ -204,23 +213,41 @@ fn empty(
     queue: &mut Queue,
     folder: &mut MemFolder,
     letters: &mut Letters,
+    failing: u64,
 ) -> Result<bool, Memory>
     ensures options { queue.new.options ≡ queue.old.options }
     ensures staged { queue.new.staged ≡ queue.old.staged }
 {
+    let before = folder.called().len() as u64;
     match queue.empty(folder) {
         Emptied::Done => letters.first = letters.next,
         Emptied::Fault => return Ok(true),
     }
-    finds_letters(alloc, folder, letters)
+    Ok(may_be_done(folder, before, failing) && finds_letters(alloc, folder, letters)?)
 }
 
-fn delete(queue: Queue, folder: &mut MemFolder, letters: &mut Letters) {
+// Whether the call that fails, where it came behind the first so many, is a removal.
+fn may_be_done(folder: &MemFolder, before: u64, failing: u64) -> bool {
+    if failing < before {
+        return true;
+    }
+    match folder.called().get(failing as usize) {
+        Some(called) => called.call == FolderCall::Remove,
+        None => true,
+    }
+}
+
+fn delete(queue: Queue, folder: &mut MemFolder, letters: &mut Letters, failing: u64) -> bool {
+    let before = folder.called().len() as u64;
     match queue.delete(folder) {
-        Deleted::Done => letters.first = letters.next,
+        Deleted::Done => {
+            letters.first = letters.next;
+            may_be_done(folder, before, failing)
+        }
         Deleted::Fault(kept) => {
             let mut kept = kept;
             kept.sync(folder);
+            true
         }
     }
 }

@@ -8,6 +8,8 @@ mod image;
 #[cfg(test)]
 mod opening;
 #[cfg(test)]
+mod order;
+#[cfg(test)]
 mod plain;
 #[cfg(test)]
 mod reading;

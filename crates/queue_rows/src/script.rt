@@ -103,8 +103,8 @@ pub fn folder_of(alloc: Global, files: &[File], fails: &[Failing]) -> Result<Mem
     MemFolder::new(alloc, all, fails.to_vec(alloc)?)
 }
 
-// Plays the steps up to one that doesn't hold.
-fn plays(
+/// Plays the steps up to one that doesn't hold.
+pub fn plays(
     alloc: Global,
     queue: &mut Queue,
     folder: &mut MemFolder,
@@ -112,6 +112,8 @@ fn plays(
 ) -> Result<bool, Memory>
     requires options { queue.old.options ≡ script.now.options }
     requires none { queue.old.staged.count ≡ 0 }
+    ensures options { OnOk result (queue.new.options ≡ script.now.options) }
+    ensures none_now { OnOk result (queue.new.staged.count ≡ 0) }
 {
     for step in script.steps {
         if !step_holds(alloc, queue, folder, script, *step)? {
@@ -121,8 +123,8 @@ fn plays(
     Ok(true)
 }
 
-// Whether a step answers what it says.
-fn step_holds(
+/// Whether a step answers what it says.
+pub fn step_holds(
     alloc: Global,
     queue: &mut Queue,
     folder: &mut MemFolder,
@@ -313,7 +315,8 @@ fn deletes(
     })
 }
 
-fn all_are(folder: &MemFolder, looks: &[Look]) -> bool {
+/// Whether each file is what is said of it.
+pub fn all_are(folder: &MemFolder, looks: &[Look]) -> bool {
     for look in looks {
         if !is(folder, *look) {
             return false;

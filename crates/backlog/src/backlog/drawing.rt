@@ -4,7 +4,7 @@ ghost use Rattle.v2_frame.specs.declared.message.Message.{Message};
 ghost use Rattle.backlog.specs.declared.backlog.Lent.TheVariants.{Nothing, OfRing, OfDisk};
 ghost use Rattle.backlog.specs.Seen.{FitsLimit, DrawSeen, DrawLends, DrawsShort, SettleSeen, undone, SameQueue};
 ghost use Rattle.backlog.specs.Lists.{OnDisk, Stands, DiskChanges, DrawGives, SettlesFirst, list_with, disk_settled};
-ghost use Rattle.backlog.specs.Answers.{DrawFails};
+ghost use Rattle.backlog.specs.Answers.{DrawFails, DrawCounts};
 
 use super::{Backlog, Lent};
 use crate::Drawn;
@@ -30,6 +30,7 @@ impl Backlog {
         ensures same { IsTrue F.tells_files → SameFiles (F.files folder.old) (F.files folder.new) }
         ensures faults { F.folder_faults folder.old ≤ F.folder_faults folder.new }
         ensures cause { DrawFails (F.folder_faults folder.old) (F.folder_faults folder.new) result }
+        ensures exact { IsTrue F.counts_exactly → DrawCounts (F.folder_faults folder.old) (F.folder_faults folder.new) result }
     {
         if let Some(message) = self.ring.pop_front() {
             self.lent = Lent::OfRing;

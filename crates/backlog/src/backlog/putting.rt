@@ -7,7 +7,7 @@ ghost use Rattle.v2_frame.specs.declared.message.Message.{Message};
 ghost use Rattle.backlog.specs.declared.backlog.Lent.TheVariants.{Nothing};
 ghost use Rattle.backlog.specs.Seen.{FitsLimit, room, PutWhere, PutSeen, PutAllSeen, PutAllTakes, SameQueue, ForMessages, SpillSeen};
 ghost use Rattle.backlog.specs.Lists.{OnDisk, Stands, DiskChanges, PutChanges, HoldsAll, disk_after, disk_after_all, disk_spilled};
-ghost use Rattle.backlog.specs.Answers.{PutFails, PutAllFails};
+ghost use Rattle.backlog.specs.Answers.{PutFails, PutCounts, PutAllFails};
 
 use super::Backlog;
 use crate::writing::write_record;
@@ -35,6 +35,7 @@ impl Backlog {
         ensures others { IsTrue F.tells_files → PutChanges self.old.queue (F.files folder.old) (F.files folder.new) result }
         ensures faults { F.folder_faults folder.old ≤ F.folder_faults folder.new }
         ensures cause { PutFails (F.folder_faults folder.old) (F.folder_faults folder.new) result }
+        ensures exact { IsTrue F.counts_exactly → PutCounts (F.folder_faults folder.old) (F.folder_faults folder.new) result }
     {
         let message = match self.ring.try_push_back(message) {
             Ok(()) => return PutOne::Kept,

@@ -1,14 +1,14 @@
 ghost use Rattle.std.specs.Prelude.{◌≡◌, ◌≤◌, ◌-◌, ◌++◌, List, All, length, take, drop, map, IsTrue, IsSome};
 ghost use Rattle.nsq_outside.specs.Causes.{DidFails};
 ghost use Rattle.circular_buffer.specs.Buffer.{buffer};
-ghost use Rattle.disk_queue.specs.Answers.{SyncFails};
+ghost use Rattle.disk_queue.specs.Answers.{SyncFails, SyncCounts};
 ghost use Rattle.disk_queue.specs.Holding.{SaveStands, OwnChange};
 ghost use Rattle.v2_frame.specs.declared.message.Message.{Message};
 ghost use Rattle.backlog.specs.declared.backlog.Lent.TheVariants.{Nothing};
 ghost use Rattle.backlog.specs.Seen.{FlushSeen, SyncSeen, EmptySeen, SameQueue, ForMessages, FitsLimit, Lengthens, WritesAll};
 ghost use Rattle.backlog.specs.Lists.{HoldsAll, stored, OnDisk, Stands, DiskChanges, FlushFinds, SyncFinds, EmptyFinds, disk_flushed, disk_emptied};
-ghost use Rattle.backlog.specs.Answers.{FlushFails, EmptyFails};
-ghost use Rattle.backlog.specs.Deleting.{DeleteSeen, DeleteLists, DeleteStands, DeleteFinds, DeleteGone, DeleteFails};
+ghost use Rattle.backlog.specs.Answers.{FlushFails, EmptyFails, EmptyCounts};
+ghost use Rattle.backlog.specs.Deleting.{DeleteSeen, DeleteLists, DeleteStands, DeleteFinds, DeleteGone, DeleteFails, DeleteCounts};
 
 use super::Backlog;
 use crate::writing::write_record;
@@ -60,6 +60,7 @@ impl Backlog {
         ensures others { IsTrue F.tells_files → DiskChanges self.old.queue (F.files folder.old) (F.files folder.new) }
         ensures faults { F.folder_faults folder.old ≤ F.folder_faults folder.new }
         ensures cause { SyncFails (F.folder_faults folder.old) (F.folder_faults folder.new) result }
+        ensures exact { IsTrue F.counts_exactly → SyncCounts (F.folder_faults folder.old) (F.folder_faults folder.new) result }
     {
         match &mut self.queue {
             Some(queue) => queue.sync(folder),
@@ -80,6 +81,7 @@ impl Backlog {
         ensures others { IsTrue F.tells_files → DiskChanges self.old.queue (F.files folder.old) (F.files folder.new) }
         ensures faults { F.folder_faults folder.old ≤ F.folder_faults folder.new }
         ensures cause { EmptyFails (F.folder_faults folder.old) (F.folder_faults folder.new) self.new.queue result }
+        ensures exact { IsTrue F.counts_exactly → EmptyCounts (F.folder_faults folder.old) (F.folder_faults folder.new) self.new.queue result }
     {
         if let Some(queue) = &mut self.queue {
             match queue.empty(folder) {
@@ -103,6 +105,7 @@ impl Backlog {
         ensures others { IsTrue F.tells_files → DiskChanges self.queue (F.files folder.old) (F.files folder.new) }
         ensures faults { F.folder_faults folder.old ≤ F.folder_faults folder.new }
         ensures cause { DeleteFails (F.folder_faults folder.old) (F.folder_faults folder.new) result }
+        ensures exact { IsTrue F.counts_exactly → DeleteCounts (F.folder_faults folder.old) (F.folder_faults folder.new) result }
     {
         let Backlog {
             alloc,

@@ -1,13 +1,13 @@
-ghost use Rattle.std.specs.Prelude.{◌≡◌, ◌≤◌, ℕ, List, IsTrue};
-ghost use Rattle.nsq_outside.specs.Causes.{DidFails};
+ghost use Rattle.std.specs.Prelude.{◌≡◌, ◌+◌, ◌≤◌, ℕ, List, IsTrue};
+ghost use Rattle.nsq_outside.specs.Causes.{DidFails, DidCounts};
 ghost use Rattle.queue_image.specs.FileNames.{meta_file, meta_temp};
 ghost use Rattle.queue_image.specs.Metas.{meta_text};
 ghost use Rattle.queue_files.specs.Replaced.{Replaces, OnlyTwoChange};
 ghost use Rattle.disk_queue.specs.Seen.{emptied, ended};
 ghost use Rattle.disk_queue.specs.Holding.{Holds, SaveStands, OwnChange};
 ghost use Rattle.disk_queue.specs.Parts.{IsSound, OnlySaveChanges};
-ghost use Rattle.queue_files.specs.FileCalls.{Gone, OnlyNumbersChange};
-ghost use Rattle.disk_queue.specs.Emptying.{Deletes, EmptySeen, EmptyKept, EmptyFound, EmptySaves, EmptyFails, DeleteSeen, DeleteHolds, DeleteStands, DeleteSaves, DeleteFound, DeleteGone, DeleteFails, bodies_left};
+ghost use Rattle.queue_files.specs.FileCalls.{Gone, OnlyNumbersChange, RemovalFails};
+ghost use Rattle.disk_queue.specs.Emptying.{Deletes, EmptySeen, EmptyKept, EmptyFound, EmptySaves, EmptyFails, EmptyCounts, DeleteSeen, DeleteHolds, DeleteStands, DeleteSaves, DeleteFound, DeleteGone, DeleteOrder, DeleteFails, DeleteCounts, bodies_left};
 
 use super::Queue;
 use crate::{Deleted, Emptied};
@@ -29,6 +29,7 @@ impl Queue {
         ensures others { IsTrue F.tells_files → OwnChange self.old.name (F.files folder.old) (F.files folder.new) }
         ensures faults { F.folder_faults folder.old ≤ F.folder_faults folder.new }
         ensures cause { EmptyFails (F.folder_faults folder.old) (F.folder_faults folder.new) self.new result }
+        ensures exact { IsTrue F.counts_exactly → EmptyCounts (F.folder_faults folder.old) (F.folder_faults folder.new) self.old self.new result }
     {
         self.unmark();
         match self.write_empty(folder) {
@@ -50,8 +51,9 @@ impl Queue {
         Emptied::Done
     }
 
-    /// Empties the queue and removes its data files, and then its metadata. After a removal that fails no other is tried, and what is left
-    /// are files in which an opening finds nothing. Files that forgotten records began further on may stay too.
+    /// Empties the queue and removes its data files, and then its metadata. After a removal that fails no other is tried: where a data file
+    /// stays the metadata does too. What is left are files in which an opening finds nothing. Files that forgotten records began
+    /// further on may stay too.
     pub fn delete<F: Folder>(self, folder: &mut F) -> Deleted
         ensures seen { DeleteSeen self result }
         ensures list { IsTrue F.tells_files → (bodies waiting : List (List ℕ)) → Holds self (F.files folder.old) bodies waiting → DeleteHolds (F.files folder.new) bodies waiting result }
@@ -59,9 +61,11 @@ impl Queue {
         ensures metadata { IsTrue F.tells_files → DeleteSaves self (F.files folder.old) (F.files folder.new) result }
         ensures found { IsTrue F.tells_files → DeleteFound self (F.files folder.new) result }
         ensures gone { IsTrue F.tells_files → SaveStands self (F.files folder.old) → DeleteGone self (F.files folder.new) (F.folder_faults folder.old) (F.folder_faults folder.new) result }
+        ensures order { IsTrue F.tells_files → SaveStands self (F.files folder.old) → DeleteOrder self (F.files folder.new) result }
         ensures others { IsTrue F.tells_files → OwnChange self.name (F.files folder.old) (F.files folder.new) }
         ensures faults { F.folder_faults folder.old ≤ F.folder_faults folder.new }
         ensures cause { DeleteFails (F.folder_faults folder.old) (F.folder_faults folder.new) result }
+        ensures exact { IsTrue F.counts_exactly → DeleteCounts (F.folder_faults folder.old) (F.folder_faults folder.new) result }
     {
         let mut queue = self;
         match queue.empty(folder) {
@@ -83,6 +87,7 @@ impl Queue {
         ensures files { IsTrue F.tells_files → OnlyTwoChange (F.files folder.old) (F.files folder.new) (meta_file self.old.name) (meta_temp self.old.name) }
         ensures faults { F.folder_faults folder.old ≤ F.folder_faults folder.new }
         ensures cause { DidFails (F.folder_faults folder.old) (F.folder_faults folder.new) result }
+        ensures exact { IsTrue F.counts_exactly → DidCounts (F.folder_faults folder.old) (F.folder_faults folder.new) result }
     {
         let end = Positions {
             read_file: self.positions.write_file,
@@ -107,23 +112,29 @@ impl Queue {
     fn remove_read<F: Folder>(&mut self, folder: &mut F) -> Did
         ensures seen { self.new ≡ self.old }
         ensures removed { IsTrue F.tells_files → Gone self.old.name (F.files folder.new) self.old.saved.positions.read_file self.old.positions.read_file result }
+        ensures tried { RemovalFails self.old.saved.positions.read_file self.old.positions.read_file result }
         ensures files { IsTrue F.tells_files → OnlyNumbersChange self.old.name (F.files folder.old) (F.files folder.new) self.old.saved.positions.read_file self.old.positions.read_file }
         ensures faults { F.folder_faults folder.old ≤ F.folder_faults folder.new }
         ensures cause { DidFails (F.folder_faults folder.old) (F.folder_faults folder.new) result }
+        ensures exact { IsTrue F.counts_exactly → DidCounts (F.folder_faults folder.old) (F.folder_faults folder.new) result }
     {
         let first = self.saved.positions.read_file;
         self.files.remove(folder, first, self.positions.read_file)
     }
 
-    // Removes the data files up to the one behind the staged end, which a refused record may have begun, and the metadata, as far as the
-    // folder can.
+    // Removes the data files up to the one behind the staged end, which a refused record may have begun, and then the metadata, up to a
+    // failure.
     fn remove_files<F: Folder>(&mut self, folder: &mut F)
         ensures sound { IsSound self.old }
+        ensures exact { IsTrue F.counts_exactly → F.folder_faults folder.new ≤ F.folder_faults folder.old + 1 }
         ensures deletes { IsTrue F.tells_files → Deletes self.old (F.files folder.old) (F.files folder.new) (F.folder_faults folder.old) (F.folder_faults folder.new) }
         ensures faults { F.folder_faults folder.old ≤ F.folder_faults folder.new }
     {
         let first = self.saved.positions.read_file;
-        let _ = self.files.remove(folder, first, self.staged.file + 2);
+        match self.files.remove(folder, first, self.staged.file + 2) {
+            Did::Done => {}
+            Did::Failed => return,
+        }
         let _ = self.files.remove_metadata(folder);
     }
 }

@@ -5,11 +5,11 @@ ghost use Rattle.queue_image.specs.Places.{IsOrdered};
 ghost use Rattle.queue_image.specs.Records.{IsSize};
 ghost use Rattle.disk_queue.specs.Seen.{reading_at, behind, advanced, after_save, passed_over, IsEarly};
 ghost use Rattle.disk_queue.specs.Holding.{Holds, SaveStands, OwnChange};
-ghost use Rattle.disk_queue.specs.Answers.{NotDueWhere, SyncFails, Saves, KeptWhereDone};
+ghost use Rattle.disk_queue.specs.Answers.{NotDueWhere, SyncFails, SyncCounts, Saves, KeptWhereDone};
 ghost use Rattle.disk_queue.specs.Parts.{IsSound, OnlySaveChanges};
-ghost use Rattle.disk_queue.specs.Peeking.{BeginsWithSize, HeadIs, HeadEnds, HeadFails, HeadFinds, TurnSeen, TurnFinds, PeekMakes};
+ghost use Rattle.disk_queue.specs.Peeking.{BeginsWithSize, HeadIs, HeadEnds, HeadFails, HeadCounts, FindCounts, HeadFinds, TurnSeen, TurnFinds, PeekMakes};
 ghost use Rattle.disk_queue.specs.declared.answers.Peek.TheVariants.{Damaged, Empty};
-ghost use Rattle.disk_queue.specs.Reading.{left_of, Turns, PeekSeen, PeekSize, PeekReads, PeekGives, PeekFails, TakeSeen, TakeKept, TakeSaves, TakeChanges, TakeFails, stood, peek_of, bodies_taken};
+ghost use Rattle.disk_queue.specs.Reading.{left_of, Turns, PeekSeen, PeekSize, PeekReads, PeekGives, PeekFails, PeekCounts, TakeSeen, TakeKept, TakeSaves, TakeChanges, TakeFails, TakeCounts, stood, stood_taking, peek_of, bodies_taken};
 
 use super::Queue;
 use crate::{Peek, Sync, Take};
@@ -35,6 +35,7 @@ impl Queue {
         ensures same { IsTrue F.tells_files → SameFiles (F.files folder.old) (F.files folder.new) }
         ensures faults { F.folder_faults folder.old ≤ F.folder_faults folder.new }
         ensures cause { PeekFails (F.folder_faults folder.old) (F.folder_faults folder.new) result }
+        ensures exact { IsTrue F.counts_exactly → PeekCounts (F.folder_faults folder.old) (F.folder_faults folder.new) result }
     {
         self.unmark();
         let head = self.find(folder);
@@ -54,6 +55,7 @@ impl Queue {
         ensures others { IsTrue F.tells_files → OwnChange self.old.name (F.files folder.old) (F.files folder.new) }
         ensures faults { F.folder_faults folder.old ≤ F.folder_faults folder.new }
         ensures cause { SyncFails (F.folder_faults folder.old) (F.folder_faults folder.new) result }
+        ensures exact { IsTrue F.counts_exactly → SyncCounts (F.folder_faults folder.old) (F.folder_faults folder.new) result }
     {
         self.drop_first();
         if self.is_early() {
@@ -70,6 +72,8 @@ impl Queue {
         ensures options { self.new.options ≡ self.old.options }
         ensures staged { self.new.staged ≡ self.old.staged }
         ensures size { PeekSize self.old.options.least self.old.options.limit (peek_of result) }
+        ensures moves { IsTrue F.tells_files → Turns (content (F.files folder.old) self.old.name) self.old.positions (stood_taking self.new.positions result) }
+        ensures reads { IsTrue F.tells_files → PeekReads self.old.options.least self.old.options.limit (content (F.files folder.old) self.old.name) (stood_taking self.new.positions result) into.new (peek_of result) }
         ensures first { IsTrue F.tells_files → (bodies waiting : List (List ℕ)) → Holds self.old (F.files folder.old) bodies waiting → PeekGives bodies into.new (peek_of result) }
         ensures list { IsTrue F.tells_files → (bodies waiting : List (List ℕ)) → Holds self.old (F.files folder.old) bodies waiting → Holds self.new (F.files folder.new) (bodies_taken bodies result) waiting }
         ensures kept { IsTrue F.tells_files → (bodies waiting : List (List ℕ)) → Holds self.old (F.files folder.old) bodies waiting → TakeKept self.new (F.files folder.new) (bodies_taken bodies result) result }
@@ -79,6 +83,7 @@ impl Queue {
         ensures others { IsTrue F.tells_files → OwnChange self.old.name (F.files folder.old) (F.files folder.new) }
         ensures faults { F.folder_faults folder.old ≤ F.folder_faults folder.new }
         ensures cause { TakeFails (F.folder_faults folder.old) (F.folder_faults folder.new) result }
+        ensures exact { IsTrue F.counts_exactly → TakeCounts (F.folder_faults folder.old) (F.folder_faults folder.new) result }
     {
         let size = match self.peek(folder, into) {
             Peek::Got(size) => size,
@@ -114,6 +119,7 @@ impl Queue {
         ensures same { IsTrue F.tells_files → SameFiles (F.files folder.old) (F.files folder.new) }
         ensures faults { F.folder_faults folder.old ≤ F.folder_faults folder.new }
         ensures cause { IfSome result (HeadFails (F.folder_faults folder.old) (F.folder_faults folder.new)) }
+        ensures exact { IsTrue F.counts_exactly → FindCounts (F.folder_faults folder.old) (F.folder_faults folder.new) result }
     {
         while self.positions.read_file < self.positions.write_file {
             match self.size_or_turn(folder) {
@@ -135,6 +141,7 @@ impl Queue {
         ensures same { IsTrue F.tells_files → SameFiles (F.files folder.old) (F.files folder.new) }
         ensures faults { F.folder_faults folder.old ≤ F.folder_faults folder.new }
         ensures cause { IfSome result (HeadFails (F.folder_faults folder.old) (F.folder_faults folder.new)) }
+        ensures exact { IsTrue F.counts_exactly → FindCounts (F.folder_faults folder.old) (F.folder_faults folder.new) result }
     {
         match self.size_here(folder) {
             Head::Size(size) => return Some(Head::Size(size)),
@@ -162,6 +169,7 @@ impl Queue {
         ensures same { IsTrue F.tells_files → SameFiles (F.files folder.old) (F.files folder.new) }
         ensures faults { F.folder_faults folder.old ≤ F.folder_faults folder.new }
         ensures cause { IfSome result (HeadFails (F.folder_faults folder.old) (F.folder_faults folder.new)) }
+        ensures exact { IsTrue F.counts_exactly → FindCounts (F.folder_faults folder.old) (F.folder_faults folder.new) result }
     {
         let left = self.positions.write_at - self.positions.read_at;
         if left == 0 {
@@ -182,6 +190,7 @@ impl Queue {
         ensures same { IsTrue F.tells_files → SameFiles (F.files folder.old) (F.files folder.new) }
         ensures faults { F.folder_faults folder.old ≤ F.folder_faults folder.new }
         ensures cause { HeadFails (F.folder_faults folder.old) (F.folder_faults folder.new) result }
+        ensures exact { IsTrue F.counts_exactly → HeadCounts (F.folder_faults folder.old) (F.folder_faults folder.new) result }
     {
         let mut size = [0; 4];
         match self.files.read_at(
@@ -207,6 +216,7 @@ impl Queue {
         ensures same { IsTrue F.tells_files → SameFiles (F.files folder.old) (F.files folder.new) }
         ensures faults { F.folder_faults folder.old ≤ F.folder_faults folder.new }
         ensures cause { (before : ℕ) → before ≤ F.folder_faults folder.old → IfSome head (HeadFails before (F.folder_faults folder.old)) → PeekFails before (F.folder_faults folder.new) result }
+        ensures exact { IsTrue F.counts_exactly → (before : ℕ) → FindCounts before (F.folder_faults folder.old) head → PeekCounts before (F.folder_faults folder.new) result }
     {
         match head {
             Some(Head::Size(size)) => self.read(folder, size, into),
@@ -226,6 +236,7 @@ impl Queue {
         ensures same { IsTrue F.tells_files → SameFiles (F.files folder.old) (F.files folder.new) }
         ensures faults { F.folder_faults folder.old ≤ F.folder_faults folder.new }
         ensures cause { PeekFails (F.folder_faults folder.old) (F.folder_faults folder.new) result }
+        ensures exact { IsTrue F.counts_exactly → PeekCounts (F.folder_faults folder.old) (F.folder_faults folder.new) result }
     {
         if !self.takes(size) {
             return self.pass_over(size);

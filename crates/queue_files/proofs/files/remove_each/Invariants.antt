@@ -10,5 +10,6 @@ invariant-loop-number g l = record {
   others : IsTrue g.F.Folder.tells_files → OnlyNumbersChange l.initial.file.name (g.F.Folder.files l.initial.folder) (g.F.Folder.files l.folder) l.initial.from l.number;
   low : l.initial.from ≤ l.number;
   high : l.initial.from < l.number → l.number ≤ l.initial.to;
+  exact : IsTrue g.F.Folder.counts_exactly → g.F.Folder.folder_faults l.folder ≡ g.F.Folder.folder_faults l.initial.folder;
   faults : g.F.Folder.folder_faults l.initial.folder ≤ g.F.Folder.folder_faults l.folder;
 }

@@ -2,7 +2,7 @@ use Rattle.std.proofs.Common.{◌∙◌, ◌+◌, List, ℕ, take, get_or, sym, 
 use Rattle.std.specs.List.{Contains}
 use Rattle.nsq_outside.specs.declared.did.Did.TheVariants.{Done, Failed}
 use Rattle.queue_opening.specs.Tidied.{AsideStep, IsAside, OnlyAsideChanges}
-use Rattle.queue_opening.proofs.Asides.{aside_more, aside_others_more, next_taken, among}
+use Rattle.queue_opening.proofs.Asides.{aside_more, aside_stops, aside_others_more, next_taken, among}
 use Rattle.queue_opening.proofs.tidying.set_aside.Goals as goal
 
 pub loop-number-preserved : goal.loop-number-preserved
@@ -39,3 +39,16 @@ returns-in-Failed-clause-others g c = λ told file apart.
     aside_others_more name f0 f1 f2 n (omega (arith, c.type_inv.numbers at)) (take at numbers) c.args.from Failed (i.aside told) (i.others told)
     (subst (λ (x : List ℕ). AsideStep x c.args.from n f1 f2 Failed) i.name (c.in-Failed.ensures.step told)) file
     (λ k fits its low some. apart k fits (among numbers (at + 1) k (subst (λ (ns : List ℕ). Contains ns k) (sym (next_taken numbers at c.loop-number-test.true)) its)) low some)
+
+pub returns-in-Failed-clause-aside : goal.returns-in-Failed-clause-aside
+returns-in-Failed-clause-aside g c = λ told.
+    let i = c.loop-number.invariant in
+    let name = c.args.names.now in
+    let numbers = c.args.numbers.now in
+    let at = c.loop-number.number-index in
+    let n = get_or numbers at 0 in
+    let f0 = g.F.Folder.files c.args.folder.now in
+    let f1 = g.F.Folder.files c.loop-number.folder in
+    let f2 = g.F.Folder.files c.set_aside_one.new.folder in
+    aside_stops name f0 f1 f2 n (omega (arith, c.type_inv.numbers at)) (take at numbers) c.args.from (i.aside told)
+    (subst (λ (x : List ℕ). AsideStep x c.args.from n f1 f2 Failed) i.name (c.in-Failed.ensures.step told))

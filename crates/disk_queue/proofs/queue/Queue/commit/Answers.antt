@@ -1,4 +1,5 @@
-use Rattle.std.proofs.Common.{subst, [], ◌++◌}
+use Rattle.std.proofs.Common.{subst, ◌≡◌, [], ◌++◌}
+use Rattle.queue_image.specs.FileNames.{data_file}
 use Rattle.disk_queue.specs.Holding.{OwnChange}
 use Rattle.disk_queue.proofs.Saves.{holds_joined, stands_joined}
 use Rattle.disk_queue.proofs.queue.Queue.commit.Goals as goal
@@ -20,3 +21,9 @@ returns-clause-stands g c = λ told s. c.save.ensures.stands told (stands_joined
 pub returns-clause-others : goal.returns-clause-others
 returns-clause-others g c = λ told.
     subst (λ q. OwnChange q.name (g.F.Folder.files c.args.folder.now) (g.F.Folder.files c.save.new.folder)) c.join.ensures (c.save.ensures.others told)
+
+pub returns-clause-written : goal.returns-clause-written
+returns-clause-written g c = λ told.
+    let old = g.F.Folder.files c.args.folder.now in
+    let new = g.F.Folder.files c.save.new.folder in
+    subst (λ q. new (data_file q.name q.positions.write_file) ≡ old (data_file q.name q.positions.write_file)) c.join.ensures (c.save.ensures.written told)

@@ -1,6 +1,6 @@
 use Rattle.std.proofs.Common.{arith, inl, inr}
 use Rattle.disk_queue.specs.declared.answers.Sync.TheVariants.{Done as Saved, Failed as Unsaved}
-use Rattle.disk_queue.proofs.ListDropped.{value_after, value_failed, sound_known, empty_changes, empty_writes, empty_gone, empty_holds, empty_kept, empty_stands, empty_fails, empty_own, empty_found, two_known, fault_changes, fault_holds, fault_stands, fault_own, fault_writes, not_failed, rose_within}
+use Rattle.disk_queue.proofs.ListDropped.{value_after, value_failed, sound_known, empty_changes, empty_writes, empty_gone, empty_holds, empty_kept, empty_stands, empty_fails, empty_own, empty_found, two_known, fault_changes, fault_holds, fault_stands, fault_own, fault_writes, not_failed, rose_within, counted_done, counted_failed, tried_some}
 use Rattle.disk_queue.proofs.queue.Queue.empty.Goals as goal
 
 pub returns-clause-seen : goal.returns-clause-seen
@@ -290,3 +290,27 @@ returns-in-Failed-clause-others g c = λ told.
     let new = g.F.Folder.files c.write_empty.new.folder in
     let value = value_failed q u c.write_empty.new.self c.fail.new.self c.unmark.ensures c.in-Failed.ensures.seen c.fail.ensures in
     fault_own q u old new c.unmark.ensures c.in-Failed.ensures.sound (c.in-Failed.ensures.files told)
+
+pub returns-clause-exact : goal.returns-clause-exact
+returns-clause-exact g c = λ counts.
+    let q = c.args.self.now in
+    let u = c.unmark.new.self in
+    let w = c.write_empty.new.self in
+    let d = c.drop_all.new.self in
+    let value = value_after q u w d c.remove_read.new.self c.finish.new.self Saved c.unmark.ensures c.in-Done.ensures.seen c.drop_all.ensures c.in-Done-remove_read.ensures.seen c.finish.ensures in
+    counted_done q c.finish.new.self (g.F.Folder.folder_faults c.args.folder.now) (g.F.Folder.folder_faults c.write_empty.new.folder) (g.F.Folder.folder_faults c.remove_read.new.folder) value
+    (c.in-Done.ensures.exact counts) (c.in-Done-remove_read.ensures.exact counts)
+
+pub returns-in-Failed-remove_read-clause-exact : goal.returns-in-Failed-remove_read-clause-exact
+returns-in-Failed-remove_read-clause-exact g c = λ counts.
+    let q = c.args.self.now in
+    let u = c.unmark.new.self in
+    let w = c.write_empty.new.self in
+    let d = c.drop_all.new.self in
+    let old = g.F.Folder.files c.args.folder.now in
+    let mid = g.F.Folder.files c.write_empty.new.folder in
+    let new = g.F.Folder.files c.remove_read.new.folder in
+    let value = value_after q u w d c.remove_read.new.self c.fail-in-Failed-remove_read.new.self Unsaved c.unmark.ensures c.in-Done.ensures.seen c.drop_all.ensures c.in-Failed-remove_read.ensures.seen c.fail-in-Failed-remove_read.ensures in
+    counted_failed q c.fail-in-Failed-remove_read.new.self (g.F.Folder.folder_faults c.args.folder.now) (g.F.Folder.folder_faults c.write_empty.new.folder) (g.F.Folder.folder_faults c.remove_read.new.folder) value
+    (c.in-Done.ensures.exact counts) (c.in-Failed-remove_read.ensures.exact counts)
+    (tried_some q u w d old mid new c.unmark.ensures c.in-Done.ensures.seen c.drop_all.ensures c.in-Done.ensures.sound c.in-Failed-remove_read.ensures.tried)

@@ -10,6 +10,7 @@ invariant-loop-self g l = record {
   seen : l.self ≡ reading_at l.fn.self l.self.positions.read_file l.self.positions.read_at;
   moves : IsTrue g.F.Folder.tells_files → Turns (content (g.F.Folder.files l.fn.folder) l.fn.self.name) l.fn.self.positions l.self.positions;
   same : IsTrue g.F.Folder.tells_files → SameFiles (g.F.Folder.files l.fn.folder) (g.F.Folder.files l.folder);
+  exact : IsTrue g.F.Folder.counts_exactly → g.F.Folder.folder_faults l.folder ≡ g.F.Folder.folder_faults l.fn.folder;
   faults : g.F.Folder.folder_faults l.fn.folder ≤ g.F.Folder.folder_faults l.folder;
 }
 

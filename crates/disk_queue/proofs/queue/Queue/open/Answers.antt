@@ -2,9 +2,11 @@ use Rattle.std.proofs.Common.{◌∙◌, ◌^◌, ◌<◌, List, ℕ, sym, ap, s
 use Rattle.disk_queue.specs.Seen.{opened_queue, Seen}
 use Rattle.disk_queue.specs.Holding.{SaveStands}
 use Rattle.disk_queue.specs.Opened.{IsOpened, IsTidied}
-use Rattle.queue_opening.specs.Tidied.{OnlyTidied, IsTidy, IsWritten, OnlyWritten}
+use Rattle.queue_opening.specs.Tidied.{OnlyTidied, IsTidy, IsPartlyTidy, WrittenWhere, IsWritten, OnlyWritten}
+use Rattle.nsq_outside.specs.declared.did.Did.TheVariants.{Failed}
+use Rattle.queue_opening.proofs.FoundAgain.{found_tidied, found_written}
 use Rattle.queue_opening.proofs.Finds.{same_files}
-use Rattle.disk_queue.proofs.OpeningDone.{opened_list, opened_stands, opened_tidied, tidied_own, written_own, carried}
+use Rattle.disk_queue.proofs.OpeningDone.{opened_list, opened_stands, opened_tidied, tidied_own, written_own, refused, carried}
 use Rattle.disk_queue.proofs.queue.Queue.open.Goals as goal
 
 pub returns-in-Failed-clause-others : goal.returns-in-Failed-clause-others
@@ -99,3 +101,39 @@ returns-clause-tidied g c = λ told.
     (carried (λ n f. OnlyTidied n plan f f4) c.make_plan.new.files name f1 f0 named same (c.in-Done.ensures.others told))
     (subst (λ (n : List ℕ). IsWritten n plan f5) (c.in-Done.ensures.name ∙ named) (c.in-Done-write_down.ensures.written told))
     (subst (λ (n : List ℕ). OnlyWritten n plan f4 f5) (c.in-Done.ensures.name ∙ named) (c.in-Done-write_down.ensures.others told)))
+
+pub returns-in-Failed-clause-refused : goal.returns-in-Failed-clause-refused
+returns-in-Failed-clause-refused g c = λ told.
+    let name = c.args.name.now in
+    let f0 = g.F.Folder.files c.args.folder.now in
+    let f1 = g.F.Folder.files c.make_plan.new.folder in
+    let f4 = g.F.Folder.files c.tidy.new.folder in
+    let plan = c.in-Ok-make_plan.plan in
+    let named = c.in-Ok-make_plan.ensures.name ∙ c.in-Ok.ensures in
+    let same = same_files f0 f1 (c.in-Ok-make_plan.ensures.same told) in
+    let small : c.args.options.limit < 2 ^ 32 = search rules in
+    found_tidied c.args.options name plan f0 f4 small c.in-Ok-make_plan.ensures.sound (c.in-Ok-make_plan.ensures.plan told)
+    (carried (λ n f. IsPartlyTidy n plan f f4) c.make_plan.new.files name f1 f0 named same (c.in-Failed.ensures.partly told))
+    (carried (λ n f. OnlyTidied n plan f f4) c.make_plan.new.files name f1 f0 named same (c.in-Failed.ensures.others told))
+
+pub returns-in-Failed-write_down-clause-refused : goal.returns-in-Failed-write_down-clause-refused
+returns-in-Failed-write_down-clause-refused g c = λ told.
+    let name = c.args.name.now in
+    let f0 = g.F.Folder.files c.args.folder.now in
+    let f1 = g.F.Folder.files c.make_plan.new.folder in
+    let f4 = g.F.Folder.files c.tidy.new.folder in
+    let f5 = g.F.Folder.files c.write_down.new.folder in
+    let plan = c.in-Ok-make_plan.plan in
+    let named = c.in-Ok-make_plan.ensures.name ∙ c.in-Ok.ensures in
+    let same = same_files f0 f1 (c.in-Ok-make_plan.ensures.same told) in
+    let small : c.args.options.limit < 2 ^ 32 = search rules in
+    found_written c.args.options name plan f0 f4 f5 small c.in-Ok-make_plan.ensures.sound (c.in-Ok-make_plan.ensures.plan told)
+    (carried (λ n f. IsTidy n plan f f4) c.make_plan.new.files name f1 f0 named same (c.in-Done.ensures.tidy told))
+    (carried (λ n f. IsPartlyTidy n plan f f4) c.make_plan.new.files name f1 f0 named same (c.in-Done.ensures.partly told))
+    (carried (λ n f. OnlyTidied n plan f f4) c.make_plan.new.files name f1 f0 named same (c.in-Done.ensures.others told))
+    (subst (λ (n : List ℕ). WrittenWhere n plan f4 f5 Failed) (c.in-Done.ensures.name ∙ named) (c.in-Failed-write_down.ensures.written told))
+    (subst (λ (n : List ℕ). OnlyWritten n plan f4 f5) (c.in-Done.ensures.name ∙ named) (c.in-Failed-write_down.ensures.others told))
+
+pub returns-in-Err-clause-refused : goal.returns-in-Err-clause-refused
+returns-in-Err-clause-refused g c = λ told.
+    refused c.args.options.least c.args.options.limit c.args.name.now (g.F.Folder.files c.args.folder.now) (g.F.Folder.files c.make_plan.new.folder) c.in-Err.why (c.in-Err.ensures.same told) (c.in-Err.ensures.bad_meta told)

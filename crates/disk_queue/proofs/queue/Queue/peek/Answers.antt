@@ -53,3 +53,6 @@ returns-clause-same g c = λ told. same_join (g.F.Folder.files c.args.folder.now
 
 pub returns-clause-cause : goal.returns-clause-cause
 returns-clause-cause g c = c.answer.ensures.cause (g.F.Folder.folder_faults c.args.folder.now) c.find-head.ensures.faults c.find-head.ensures.cause
+
+pub returns-clause-exact : goal.returns-clause-exact
+returns-clause-exact g c = λ counts. c.answer.ensures.exact counts (g.F.Folder.folder_faults c.args.folder.now) (c.find-head.ensures.exact counts)

@@ -1,8 +1,9 @@
 use Rattle.std.proofs.Common.{subst, [], ◌∷◌, length}
 use Rattle.disk_queue.specs.Holding.{OwnChange}
+use Rattle.disk_queue.specs.Answers.{SyncCounts}
 use Rattle.disk_queue.specs.Parts.{OnlySaveChanges}
 use Rattle.disk_queue.proofs.Kept.{own_join}
-use Rattle.disk_queue.proofs.Saves.{put_changes, put_saves}
+use Rattle.disk_queue.proofs.Saves.{put_changes, put_saves, put_writes}
 use Rattle.disk_queue.proofs.queue.Queue.put.Goals as goal
 
 pub returns-in-Fault-clause-list : goal.returns-in-Fault-clause-list
@@ -35,3 +36,12 @@ returns-clause-metadata g c = λ told.
     let mid = g.F.Folder.files c.stage.new.folder in
     let new = g.F.Folder.files c.commit.new.folder in
     put_saves c.args.self.now c.stage.new.self c.commit.new.self old mid new (length c.args.bytes.now) c.commit.result c.in-Staged.ensures.seen c.commit.ensures.seen (c.in-Staged.ensures.metadata told) (c.commit.ensures.metadata told)
+
+pub returns-clause-written : goal.returns-clause-written
+returns-clause-written g c = λ told.
+    put_writes c.args.self.now c.stage.new.self (g.F.Folder.files c.args.folder.now) (g.F.Folder.files c.stage.new.folder) (g.F.Folder.files c.commit.new.folder) c.args.bytes.now c.in-Staged.ensures.seen
+    (c.in-Staged.ensures.written told) (c.commit.ensures.written told)
+
+pub returns-clause-exact : goal.returns-clause-exact
+returns-clause-exact g c = λ counts.
+    subst (λ n. SyncCounts n (g.F.Folder.folder_faults c.commit.new.folder) c.commit.result) (c.in-Staged.ensures.exact counts) (c.commit.ensures.exact counts)

@@ -1,7 +1,7 @@
 use Rattle.disk_queue.specs.Holding.{Holds, SaveStands}
 use Rattle.disk_queue.specs.Answers.{IsKept, Saves}
 use Rattle.disk_queue.specs.declared.answers.Sync.TheVariants.{Done, Failed}
-use Rattle.disk_queue.proofs.Saves.{to_saved, holds_after, holds_saved, own_saved, stands_failed, stands_saved, kept_saved}
+use Rattle.disk_queue.proofs.Saves.{to_saved, holds_after, holds_saved, own_saved, write_saved, stands_failed, stands_saved, kept_saved}
 use Rattle.disk_queue.proofs.queue.Queue.save.Goals as goal
 
 pub returns-in-Failed-clause-list : goal.returns-in-Failed-clause-list
@@ -58,3 +58,11 @@ returns-clause-metadata g c = λ told.
 pub returns-clause-others : goal.returns-clause-others
 returns-clause-others g c = λ told.
     own_saved c.args.self.now c.save_files.ensures.sound (g.F.Folder.files c.args.folder.now) (g.F.Folder.files c.save_files.new.folder) (c.save_files.ensures.files told)
+
+pub returns-clause-written : goal.returns-clause-written
+returns-clause-written g c = λ told.
+    write_saved c.args.self.now c.save_files.ensures.sound (g.F.Folder.files c.args.folder.now) (g.F.Folder.files c.save_files.new.folder) (c.save_files.ensures.files told)
+
+pub returns-in-Failed-clause-written : goal.returns-in-Failed-clause-written
+returns-in-Failed-clause-written g c = λ told.
+    write_saved c.args.self.now c.save_files.ensures.sound (g.F.Folder.files c.args.folder.now) (g.F.Folder.files c.save_files.new.folder) (c.save_files.ensures.files told)

@@ -91,9 +91,22 @@ HasNoAct c turned.Stopping = EndsAtStop c
 HasNoAct c turned.Memory = Unit {0}
 HasNoAct c _ = ⊥
 
--- the call can be answered so: with some entry, or without an act
+-- the answers that a call can have, whatever is told of entries
 abbrev pub IsAnswerTo : Call → Turned → Type 0
-IsAnswerTo c answer = HasNoAct c answer ⊎ ((e : Entry × End) × Answers c e answer)
+IsAnswerTo call.Begin turned.Begun = Unit {0}
+IsAnswerTo (call.Command command) (turned.Reply frame closing) = Unit {0}
+IsAnswerTo (call.Command command) turned.Quiet = Unit {0}
+IsAnswerTo (call.Command command) turned.Deleted = Unit {0}
+IsAnswerTo (call.Bad fault) (turned.Reply frame closing) = closing ≡ true
+IsAnswerTo call.Next (turned.Send frame) = Unit {0}
+IsAnswerTo call.Next turned.Idle = Unit {0}
+IsAnswerTo call.Next turned.Silent = Unit {0}
+IsAnswerTo call.Next turned.Deleted = Unit {0}
+IsAnswerTo call.Gone turned.Ended = Unit {0}
+IsAnswerTo (call.Ask a) (turned.Said told) = Unit {0}
+IsAnswerTo call.Names (turned.Listed names at) = Unit {0}
+IsAnswerTo call.Tick turned.Quiet = Unit {0}
+IsAnswerTo c answer = HasNoAct c answer
 
 -- the later history begins with the earlier one
 pub record Grows (earlier later : History) : Type 0 where

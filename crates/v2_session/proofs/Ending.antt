@@ -10,7 +10,7 @@ use Rattle.broker_history.specs.declared.ended.Ended.TheVariants.{EndOfInput, Cl
 use Rattle.broker_history.specs.declared.entry.Entry.{Entry}
 use Rattle.broker_history.specs.Entries.{History, own, has_stop}
 use Rattle.broker_history.specs.Reply.{frames}
-use Rattle.broker_history.specs.Talk.{WithGone, IsGivenUp, Reaches, Leaves, Writes, IsTalk, IsTalkIn, stops_before_gone}
+use Rattle.broker_history.specs.Talk.{WithGone, IsOpen, IsClosed, IsGivenUp, Reaches, Leaves, Writes, IsTalk, IsTalkIn, stops_before_gone}
 use Rattle.desk.specs.Calls.{IsHere}
 use Rattle.desk.specs.Answers.{Grows, Answers, AddsNothing, Adds, Joins, stays_for_memory}
 use Rattle.desk.specs.declared.call.Call.TheVariants as call
@@ -80,14 +80,17 @@ module _ (limits : Limits) (number : ℕ) (seen seen' : History) (pieces : List 
   none_given_up : out ≡ frames (own number seen) → IsGivenUp (own number seen) out
   none_given_up all = given_up (own number seen) out out all (0, sym (append-nil out))
 
+  -- a conversation that was closed, whose Gone wanted memory, ended by that
+  stayed_closed : IsClosed limits pieces (own number seen) ⊎ (IsOpen limits pieces (own number seen) × (has_stop seen ≡ true)) → out ≡ frames (own number seen) → own number seen' ≡ own number seen → 0 < wanted
+      → IsTalkIn limits number seen' wanted pieces out Memory
+  stayed_closed (inl closed) all same some = inl (record { entries = own number seen; reached = inl closed; leaves = inr (same, some); written = none_given_up all })
+  stayed_closed (inr so) all same some = inl (record { entries = own number seen; reached = inr so.0; leaves = inr (same, some); written = none_given_up all })
+
   -- a conversation that is over, whose Gone wanted memory
   stayed_talk : (ended last : Ended) → IsOver limits (has_stop seen) pieces (own number seen) out ended → own number seen' ≡ own number seen → 0 < wanted → EndsAfter ended turned.Memory last → IsTalkIn limits number seen' wanted pieces out last
+  stayed_talk Closed last o same some l = subst (λ x. IsTalkIn limits number seen' wanted pieces out x) (sym l) (stayed_closed o.reached o.written same some)
   stayed_talk EndOfInput last o same some l =
       subst (λ x. IsTalkIn limits number seen' wanted pieces out x) (sym l) (inl (record { entries = own number seen; reached = o.reached; leaves = inr (same, some); written = o.written }))
-  stayed_talk Closed last (record { reached = inl closed; written = all }) same some l =
-      subst (λ x. IsTalkIn limits number seen' wanted pieces out x) (sym l) (inl (record { entries = own number seen; reached = inl closed; leaves = inr (same, some); written = none_given_up all }))
-  stayed_talk Closed last (record { reached = inr so; written = all }) same some l =
-      subst (λ x. IsTalkIn limits number seen' wanted pieces out x) (sym l) (inl (record { entries = own number seen; reached = inr so.0; leaves = inr (same, some); written = none_given_up all }))
   stayed_talk ReadFault last o same some l =
       subst (λ x. IsTalkIn limits number seen' wanted pieces out x) (sym l) (inl (record { entries = own number seen; reached = o.reached; leaves = inr (same, some); written = o.written }))
   stayed_talk WriteFault last o same some l =

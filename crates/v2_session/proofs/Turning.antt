@@ -51,11 +51,11 @@ stays_here : {number : ℕ} {h h' : History} {c : Call} {said : Turned} → IsHe
 stays_here here (inl p) keeps = subst IsHere (sym p.0) here
 stays_here {h = h} {h' = h'} here (inr j) keeps = here_next h h' j.entry here j.whole (keeps j.entry j.answers)
 
-sending_stays : (act : Act) → IsSending act → is_gone act ≡ false
+sending_stays : (a : Act) → IsSending a → is_gone a ≡ false
 sending_stays act.Gone is = absurd is
 sending_stays a is = refl
 
-rest_stays : (act : Act) → IsRest act → is_gone act ≡ false
+rest_stays : (a : Act) → IsRest a → is_gone a ≡ false
 rest_stays act.Gone is = absurd is
 rest_stays a is = refl
 

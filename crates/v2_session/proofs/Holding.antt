@@ -77,7 +77,7 @@ pub record Greeted (limits : Limits) (pieces : List (List ℕ)) (h : History) (r
   pub place : place_of pieces rest ≡ 4
 
 -- the magic that stands at the front can be read
-pub greeted : (limits : Limits) (pieces : List (List ℕ)) (h : History) (told : ℕ) (held pending rest : List ℕ) (read : Bool) → Going limits pieces h read pending Doing → Holds Opening told held (place_of pieces pending) read pending
+pub greeted : (limits : Limits) (pieces : List (List ℕ)) (h : History) (told : ℕ) (held pending rest : List ℕ) (known : Bool) → Going limits pieces h known pending Doing → Holds Opening told held (place_of pieces pending) known pending
     → held ≡ magic ++ rest → Greeted limits pieces h rest
 greeted limits pieces h told held pending rest false going holds e =
     let there : pending ≡ magic ++ rest = sym holds ∙ e in
@@ -103,66 +103,66 @@ script_here limits told place bytes end t s =
 
 -- the bytes that aren't done have this fault
 pub record HasFaulty (limits : Limits) (pieces : List (List ℕ)) (h : History) (fault : Fault) : Type 0 where
-  pub read : Bool
+  pub known : Bool
   pub pending : List ℕ
-  pub going : Going limits pieces h read pending Doing
-  pub faulty : HasFault limits (place_of pieces pending) read pending fault
+  pub going : Going limits pieces h known pending Doing
+  pub faulty : HasFault limits (place_of pieces pending) known pending fault
 
 greeted_fault : (limits : Limits) (pieces : List (List ℕ)) (h : History) (left : List ℕ) (fault : Fault) → Greeted limits pieces h left → HasScript limits 4 left [] (rest.Faulty fault) → HasFaulty limits pieces h fault
 greeted_fault limits pieces h left fault g s =
-    record { read = true; pending = left; going = g.going; faulty = script_here limits 4 (place_of pieces left) left (rest.Faulty fault) (omega (arith, g.place)) s }
+    record { known = true; pending = left; going = g.going; faulty = script_here limits 4 (place_of pieces left) left (rest.Faulty fault) (omega (arith, g.place)) s }
 
-magic_fault : (limits : Limits) (pieces : List (List ℕ)) (h : History) (told : ℕ) (held pending : List ℕ) (read : Bool) (fault : Fault) → Going limits pieces h read pending Doing
-    → Holds Opening told held (place_of pieces pending) read pending → HasBadMagic held → fault ≡ record { kind = BadMagic; at = 0 } → HasFaulty limits pieces h fault
+magic_fault : (limits : Limits) (pieces : List (List ℕ)) (h : History) (told : ℕ) (held pending : List ℕ) (known : Bool) (fault : Fault) → Going limits pieces h known pending Doing
+    → Holds Opening told held (place_of pieces pending) known pending → HasBadMagic held → fault ≡ record { kind = BadMagic; at = 0 } → HasFaulty limits pieces h fault
 magic_fault limits pieces h told held pending false fault going holds bad is =
-    record { read = false; pending = pending; going = going; faulty = (subst HasBadMagic holds bad, is) }
+    record { known = false; pending = pending; going = going; faulty = (subst HasBadMagic holds bad, is) }
 magic_fault limits pieces h told held pending true fault going holds bad is = absurd (bad.other (front_unique bad.has (has_magic held pending holds.0)).0)
 
 -- a fault that is all that is left stands in the bytes that aren't done
-pub fault_at : (stage : Stage) (limits : Limits) (pieces : List (List ℕ)) (h : History) (told : ℕ) (held pending : List ℕ) (read : Bool) (fault : Fault) → Going limits pieces h read pending Doing
-    → Holds stage told held (place_of pieces pending) read pending → LeftAt stage limits told held [] (rest.Faulty fault) → HasFaulty limits pieces h fault
-fault_at Opening limits pieces h told held pending read fault going holds (open_magic few e f) = absurd cc
-fault_at Opening limits pieces h told held pending read fault going holds (bad_magic {front = front} {after = after} has wrong e f) =
-    magic_fault limits pieces h told held pending read fault going holds (record { front = front; after = after; has = has; other = wrong }) cc
-fault_at Opening limits pieces h told held pending read fault going holds (good_magic {after = after} e s) = greeted_fault limits pieces h after fault (greeted limits pieces h told held pending after read going holds e) s
-fault_at Commands limits pieces h told held pending read fault going holds left =
+pub fault_at : (stage : Stage) (limits : Limits) (pieces : List (List ℕ)) (h : History) (told : ℕ) (held pending : List ℕ) (known : Bool) (fault : Fault) → Going limits pieces h known pending Doing
+    → Holds stage told held (place_of pieces pending) known pending → LeftAt stage limits told held [] (rest.Faulty fault) → HasFaulty limits pieces h fault
+fault_at Opening limits pieces h told held pending known fault going holds (open_magic few e f) = absurd cc
+fault_at Opening limits pieces h told held pending known fault going holds (bad_magic {front = front} {after = after} has wrong e f) =
+    magic_fault limits pieces h told held pending known fault going holds (record { front = front; after = after; has = has; other = wrong }) cc
+fault_at Opening limits pieces h told held pending known fault going holds (good_magic {after = after} e s) = greeted_fault limits pieces h after fault (greeted limits pieces h told held pending after known going holds e) s
+fault_at Commands limits pieces h told held pending known fault going holds left =
     let ends : Ends limits (place_of pieces pending) held (rest.Faulty fault) = script_here limits told (place_of pieces pending) held (rest.Faulty fault) holds.2 left in
     record {
-      read = true;
+      known = true;
       pending = pending;
       going = subst (λ x. Going limits pieces h x pending Doing) holds.0 going;
       faulty = subst (λ x. Ends limits (place_of pieces pending) x (rest.Faulty fault)) holds.1 ends;
     }
-fault_at (Failed other) limits pieces h told held pending read fault going holds left = absurd holds
+fault_at (Failed other) limits pieces h told held pending known fault going holds left = absurd holds
 
 -- nothing can be done with the bytes that aren't done
 pub record Waits (stage : Stage) (limits : Limits) (pieces : List (List ℕ)) (h : History) (told : ℕ) (held : List ℕ) : Type 0 where
-  pub read : Bool
+  pub known : Bool
   pub pending : List ℕ
-  pub going : Going limits pieces h read pending Doing
-  pub holds : Holds stage told held (place_of pieces pending) read pending
-  pub needs_more : NeedsMore limits read pending
+  pub going : Going limits pieces h known pending Doing
+  pub holds : Holds stage told held (place_of pieces pending) known pending
+  pub needs_more : NeedsMore limits known pending
 
-few_wait : (limits : Limits) (pieces : List (List ℕ)) (h : History) (told : ℕ) (held pending : List ℕ) (read : Bool) → Going limits pieces h read pending Doing → Holds Opening told held (place_of pieces pending) read pending
+few_wait : (limits : Limits) (pieces : List (List ℕ)) (h : History) (told : ℕ) (held pending : List ℕ) (known : Bool) → Going limits pieces h known pending Doing → Holds Opening told held (place_of pieces pending) known pending
     → length held < 4 → Waits Opening limits pieces h told held
-few_wait limits pieces h told held pending false going holds few = record { read = false; pending = pending; going = going; holds = holds; needs_more = subst (λ x. length x < 4) holds few }
+few_wait limits pieces h told held pending false going holds few = record { known = false; pending = pending; going = going; holds = holds; needs_more = subst (λ x. length x < 4) holds few }
 few_wait limits pieces h told held pending true going holds few = absurd (omega (arith, ap length holds.0, length-append magic pending))
 
 -- where nothing whole and no fault is left nothing can be done
-pub waits_at : (stage : Stage) (limits : Limits) (pieces : List (List ℕ)) (h : History) (told : ℕ) (held pending : List ℕ) (read : Bool) → Going limits pieces h read pending Doing → Holds stage told held (place_of pieces pending) read pending
+pub waits_at : (stage : Stage) (limits : Limits) (pieces : List (List ℕ)) (h : History) (told : ℕ) (held pending : List ℕ) (known : Bool) → Going limits pieces h known pending Doing → Holds stage told held (place_of pieces pending) known pending
     → LeftAt stage limits told held [] rest.Unfinished → Waits stage limits pieces h told held
-waits_at Opening limits pieces h told held pending read going holds (open_magic few e f) = few_wait limits pieces h told held pending read going holds few
-waits_at Opening limits pieces h told held pending read going holds (bad_magic has wrong e f) = absurd cc
-waits_at Opening limits pieces h told held pending read going holds (good_magic {after = after} e s) =
-    let g = greeted limits pieces h told held pending after read going holds e in
-    record { read = true; pending = after; going = g.going; holds = (e, g.place); needs_more = script_here limits 4 (place_of pieces after) after rest.Unfinished (omega (arith, g.place)) s }
-waits_at Commands limits pieces h told held pending read going holds left =
+waits_at Opening limits pieces h told held pending known going holds (open_magic few e f) = few_wait limits pieces h told held pending known going holds few
+waits_at Opening limits pieces h told held pending known going holds (bad_magic has wrong e f) = absurd cc
+waits_at Opening limits pieces h told held pending known going holds (good_magic {after = after} e s) =
+    let g = greeted limits pieces h told held pending after known going holds e in
+    record { known = true; pending = after; going = g.going; holds = (e, g.place); needs_more = script_here limits 4 (place_of pieces after) after rest.Unfinished (omega (arith, g.place)) s }
+waits_at Commands limits pieces h told held pending known going holds left =
     let ends = script_here limits told (place_of pieces pending) held rest.Unfinished holds.2 left in
     record {
-      read = true;
+      known = true;
       pending = pending;
       going = subst (λ x. Going limits pieces h x pending Doing) holds.0 going;
       holds = (refl, holds.1, holds.2);
       needs_more = subst (λ x. IsUnfinished limits x) holds.1 ends;
     }
-waits_at (Failed other) limits pieces h told held pending read going holds left = absurd holds
+waits_at (Failed other) limits pieces h told held pending known going holds left = absurd holds

@@ -165,7 +165,7 @@ pub done_talk : (limits : Limits) (pieces : List (List ℕ)) (own : History) (ou
 done_talk limits pieces own out reader i left =
     let here = subst (λ x. LeftAt reader.stage x reader.place reader.pending [] rest.Unfinished) i.limits_are left in
     let w : Waits reader.stage limits pieces own reader.place reader.pending = waits_at reader.stage limits pieces own reader.place reader.pending i.pending i.greeted i.going i.holds here in
-    record { greeted = w.read; pending = w.pending; going = done w.going w.needs_more; limits_are = i.limits_are; holds = w.holds; all_out = i.all_out }
+    record { greeted = w.known; pending = w.pending; going = done w.going w.needs_more; limits_are = i.limits_are; holds = w.holds; all_out = i.all_out }
 
 -- a fault is all that is left, and is refused
 pub refused_closed : (limits : Limits) (pieces : List (List ℕ)) (own : History) (out : List ℕ) (begun new : Reading) (fault : Fault) (frame : Frame) (e : Entry × End) → InTalk limits pieces own out begun Doing → Fails begun new fault
@@ -174,14 +174,14 @@ refused_closed limits pieces own out begun new fault frame e i f is =
     let here = subst (λ x. LeftAt begun.stage x begun.place begun.pending [] (rest.Faulty fault)) i.limits_are f.left in
     let h : HasFaulty limits pieces own fault = fault_at begun.stage limits pieces own begun.place begun.pending i.pending i.greeted fault i.going i.holds here in
     record {
-      greeted = h.read;
+      greeted = h.known;
       pending = h.pending;
       round = Doing;
       before = own;
       last = e;
       whole = refl;
       going = h.going;
-      closes_by = subst (λ x. ClosesBy limits (place_of pieces h.pending) h.read h.pending Doing x (answered e)) (sym is) h.faulty;
+      closes_by = subst (λ x. ClosesBy limits (place_of pieces h.pending) h.known h.pending Doing x (answered e)) (sym is) h.faulty;
     }
 
 -- the frame for want of memory, in part, behind all answers

@@ -33,18 +33,18 @@ use Rattle.v2_session.proofs.Talking.{frames_next, frames_same, rest_answers, mo
 
 -- where a call can't have been answered so without its entry, one joined
 pub joined : {number : ℕ} {h h' : History} {c : Call} {said : Turned} → Adds number h h' c said → (AddsNothing c said → ⊥) → Joins number h h' c said
-joined (inl p) no = absurd (no p.1)
-joined (inr j) no = j
+joined (inl p) never = absurd (never p.1)
+joined (inr j) never = j
 
 -- where no entry is answered so, none joined
 pub unchanged : {number : ℕ} {h h' : History} {c : Call} {said : Turned} → Adds number h h' c said → ((e : Entry × End) → Answers c e said → ⊥) → h' ≡ h
-unchanged (inl p) no = p.0
-unchanged (inr j) no = absurd (no j.entry j.answers)
+unchanged (inl p) never = p.0
+unchanged (inr j) never = absurd (never j.entry j.answers)
 
 -- where neither can be, the call wasn't answered so
 pub refuted : {A : Type 0} {number : ℕ} {h h' : History} {c : Call} {said : Turned} → Adds number h h' c said → (AddsNothing c said → ⊥) → ((e : Entry × End) → Answers c e said → ⊥) → A
-refuted (inl p) none no = absurd (none p.1)
-refuted (inr j) none no = absurd (no j.entry j.answers)
+refuted (inl p) nothing never = absurd (nothing p.1)
+refuted (inr j) nothing never = absurd (never j.entry j.answers)
 
 -- a connection stays behind an entry that isn't its Gone
 stays_here : {number : ℕ} {h h' : History} {c : Call} {said : Turned} → IsHere h → Adds number h h' c said → ((e : Entry × End) → Answers c e said → is_gone e.0.act ≡ false) → IsHere h'

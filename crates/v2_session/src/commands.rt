@@ -1,4 +1,5 @@
 ghost use Rattle.std.specs.Prelude.{◌≡◌, ◌≤◌, IsTrue};
+ghost use Rattle.v2_frame.specs.declared.fault.Limits.{Limits};
 ghost use Rattle.broker_history.specs.Entries.{own};
 ghost use Rattle.broker_history.specs.Talk.{Sending, Doing};
 ghost use Rattle.desk.specs.Calls.{AreAllowed, IsHere};

@@ -1,5 +1,6 @@
 ghost use Rattle.std.specs.Prelude.{◌≡◌, ◌≤◌, ◌++◌, IsTrue, length};
 ghost use Rattle.v2_frame.specs.Reading as reading;
+ghost use Rattle.v2_frame.specs.declared.fault.Limits.{Limits};
 ghost use Rattle.broker_history.specs.Entries.{own};
 ghost use Rattle.broker_history.specs.Talk.{Sending, Reading, bytes_of, longest_piece};
 ghost use Rattle.desk.specs.Calls.{AreAllowed, IsHere};

@@ -67,3 +67,6 @@ pub returns-in-Failed-clause-stream : goal.returns-in-Failed-clause-stream
 returns-in-Failed-clause-stream g c = λ told.
     let reads = c.in-Failed.ensures.told told in
     same_stream _ _ _ _ reads.0 reads.1 ∙ same_stream _ _ _ _ c.pushes.ensures.pieces c.pushes.ensures.left
+
+pub returns-in-Some-clause-talk : goal.returns-in-Some-clause-talk
+returns-in-Some-clause-talk g c = λ limits told i. c.in-Some.ensures.talk limits c.args.reader.now told i

@@ -17,3 +17,6 @@ rounds-preserved g c =
       wanted = did.wanted ∙ before.wanted;
       leads = g.met.D.Desk.goes_on _ _ _ before.leads did.leads;
     }
+
+pub returns-in-Some-round-clause-talk : goal.returns-in-Some-round-clause-talk
+returns-in-Some-round-clause-talk g c = λ limits told i. c.in-Some-round.ensures.talk limits told (c.rounds.invariant.talk limits told i)

@@ -1,5 +1,5 @@
 -- What a call notes, and what it is answered: one relation of call, entry with its end, and answer, for turns of a floor and of desks alike.
-use Rattle.std.specs.Prelude.{◌≡◌, ◌⊎◌, ℕ, ◌^◌, ◌<◌, ◌&&◌, Bool, true, false, List, [], ◌∷◌, ◌++◌, length, Option, Some, None}
+use Rattle.std.specs.Prelude.{◌≡◌, ◌⊎◌, ℕ, ◌^◌, ◌<◌, ◌&&◌, Bool, true, false, [], ◌∷◌, ◌++◌, length, Option, Some, None}
 use Rattle.nsq_outside.specs.declared.journal.End.{End}
 use Rattle.nsq_outside.specs.declared.journal.End.TheVariants as end
 use Rattle.v2_frame.specs.declared.command.Command.{Command}

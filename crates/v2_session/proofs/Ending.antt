@@ -1,18 +1,16 @@
 -- A conversation that is over, and its Gone.
-use Rattle.std.proofs.Common.{◌≡◌, ◌≢◌, ◌⊎◌, ℕ, ◌+◌, ◌-◌, ◌^◌, ◌<◌, min, Bool, true, false, if◌then◌else◌, List, [], ◌∷◌, ◌++◌, refl, sym, ap, subst, ◌∙◌, inl, inr, arith, nat_le, le_refl}
+use Rattle.std.proofs.Common.{◌≡◌, ◌≢◌, ◌⊎◌, ℕ, ◌+◌, ◌-◌, ◌^◌, ◌<◌, min, Bool, true, false, if◌then◌else◌, List, [], refl, sym, ap, subst, ◌∙◌, inl, inr, arith, nat_le, le_refl}
 use Rattle.std.proofs.lemmas.Bool.{le-leb}
 use Rattle.std.proofs.lemmas.List.{append-nil}
-use Rattle.nsq_outside.specs.declared.journal.End.{End}
 use Rattle.nsq_outside.specs.Causes.{CountsFault}
 use Rattle.v2_frame.specs.declared.fault.Limits.{Limits}
 use Rattle.broker_history.specs.declared.ended.Ended.{Ended}
 use Rattle.broker_history.specs.declared.ended.Ended.TheVariants.{EndOfInput, Closed, ReadFault, WriteFault, Memory}
-use Rattle.broker_history.specs.declared.entry.Entry.{Entry}
 use Rattle.broker_history.specs.Entries.{History, own, has_stop}
 use Rattle.broker_history.specs.Reply.{frames}
-use Rattle.broker_history.specs.Talk.{WithGone, IsOpen, IsClosed, IsGivenUp, Reaches, Leaves, Writes, IsTalk, IsTalkIn, stops_before_gone}
+use Rattle.broker_history.specs.Talk.{WithGone, IsOpen, IsClosed, IsGivenUp, Reaches, Leaves, IsTalk, IsTalkIn, stops_before_gone}
 use Rattle.desk.specs.Calls.{IsHere}
-use Rattle.desk.specs.Answers.{Grows, Answers, AddsNothing, Adds, Joins, stays_for_memory}
+use Rattle.desk.specs.Answers.{Grows, Adds, stays_for_memory}
 use Rattle.desk.specs.declared.call.Call.TheVariants as call
 use Rattle.desk.specs.declared.turned.Turned.{Turned}
 use Rattle.desk.specs.declared.turned.Turned.TheVariants as turned

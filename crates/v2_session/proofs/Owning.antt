@@ -6,7 +6,7 @@ use Rattle.nsq_outside.specs.declared.journal.End.{End}
 use Rattle.broker_history.specs.declared.entry.Act.{Act}
 use Rattle.broker_history.specs.declared.entry.Act.TheVariants.{Gone}
 use Rattle.broker_history.specs.declared.entry.Entry.{Entry}
-use Rattle.broker_history.specs.Entries.{History, own, is_own, is_began, is_gone, is_stop, is_common, has_stop}
+use Rattle.broker_history.specs.Entries.{History, own, is_began, is_gone, is_stop, is_common, has_stop}
 use Rattle.broker_history.specs.Talk.{has_gone, stops_before_gone, WithGone}
 use Rattle.broker_history.proofs.Own.{own-append}
 use Rattle.desk.specs.Calls.{has_began, is_over, IsHere}

@@ -16,7 +16,7 @@ use Rattle.broker_history.specs.declared.entry.Act.TheVariants as act
 use Rattle.broker_history.specs.declared.entry.Entry.{Entry}
 use Rattle.broker_history.specs.Entries.{History, has_stop, is_began, is_gone}
 use Rattle.broker_history.specs.Reply.{answered, act_answered, answer_bytes, written_by, frames, closes, closes_answer}
-use Rattle.broker_history.specs.Talk.{Round, Sending, Reading as ToRead, Doing, Going, sent, rested, most_sent, IsSending, IsRest, ClosesBy, IsOpen, IsClosed, IsCutShort, bytes_of, place_of}
+use Rattle.broker_history.specs.Talk.{Round, Sending, Reading as ToRead, Doing, sent, rested, most_sent, IsSending, IsRest, ClosesBy, IsOpen, IsClosed, bytes_of, place_of}
 use Rattle.desk.specs.Calls.{IsHere}
 use Rattle.desk.specs.Answers.{Takes as Took, Answers, AnswersCommand, AnswersBad, AnswersNext, Joins, AddsNothing, Adds, StopsSeen}
 use Rattle.desk.specs.declared.call.Call.{Call}

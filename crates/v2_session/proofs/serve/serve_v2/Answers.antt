@@ -1,7 +1,7 @@
 use Rattle.std.proofs.Common.{◌∙◌, refl}
 use Rattle.broker_history.specs.Talk.{stops_before_gone}
 use Rattle.v2_session.specs.Sessions.{rises}
-use Rattle.v2_session.proofs.Turning.{unbegun, begun_here, begun_talk}
+use Rattle.v2_session.proofs.Turning.{unbegun, begun_talk}
 use Rattle.v2_session.proofs.Ending.{never_begins, over_talk, after_cause, some_wanted}
 use Rattle.v2_session.proofs.serve.serve_v2.Goals as goal
 

@@ -9,6 +9,7 @@ use std::test::Fail;
 use v2_frame::Limits;
 use v2_session::{Ended, serve_v2};
 
+#[derive(Drop)]
 struct Row {
     name: &'static str,
     /// What the client sends, in pieces.
@@ -28,6 +29,7 @@ struct Row {
 }
 
 /// What was written: these bytes, or so many messages and nothing else.
+#[derive(Clone, Copy)]
 enum Out {
     Bytes(&'static [u8]),
     Messages(usize),

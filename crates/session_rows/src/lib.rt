@@ -1,0 +1,10 @@
+//! Rows of a V2 connection's service: what comes in, what its desk answers, and what goes out.
+//!
+//! The crate has nothing but tests. Each is a table of rows, a function that says whether a row holds, and a loop that names the row
+//! that doesn't.
+#![tactic(auto)]
+
+#[cfg(test)]
+mod conversations;
+#[cfg(test)]
+mod scripted;

@@ -1,0 +1,6 @@
+pub mod Writing
+pub mod Owning
+pub mod Holding
+pub mod Talking
+pub mod Turning
+pub mod Ending

@@ -1,0 +1,13 @@
+//! One V2 connection, from its first byte to its end, in rounds: frames out for what is to be sent, a piece in, a turn of the desk
+//! for each command that the piece completes, and its reply out.
+//!
+//! What a session read, the entries that its desk noted for it and what it wrote are a conversation that ended as it says.
+#![tactic(auto)]
+
+mod commands;
+mod output;
+mod round;
+mod serve;
+
+pub use broker_history::Ended;
+pub use serve::serve_v2;

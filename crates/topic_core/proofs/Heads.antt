@@ -1,6 +1,6 @@
 -- What taking, settling and undoing the head make of a topic of a state, and what paying makes of what is owed.
-use Rattle.std.proofs.Common.{◌≡◌, ◌≢◌, ℕ, ◌+◌, Bool, true, false, not, ◌&&◌, List, [], ◌∷◌, ◌++◌, length, drop, map, Option, Some, None, refl, sym, ap, subst, ◌∙◌, arith, length-append}
-use Rattle.std.specs.Prelude.{is_none, IfSome}
+use Rattle.std.proofs.Common.{rules, ◌≡◌, ◌≢◌, ℕ, ◌+◌, Bool, true, false, not, ◌&&◌, List, [], ◌∷◌, ◌++◌, length, drop, map, Option, Some, None, refl, sym, ap, subst, ◌∙◌, arith, length-append}
+use Rattle.std.specs.Prelude.{is_none, IfSome, IsSome}
 use Rattle.std.proofs.lemmas.List.{length-map}
 use Rattle.v2_frame.specs.Written.{message_bytes}
 use Rattle.nsq_outside.specs.Files.{Files}
@@ -11,17 +11,17 @@ use Rattle.backlog.specs.Lists.{OnDisk, IsFirstMessage, SettlesFirst, list_with,
 use Rattle.backlog.specs.declared.backlog.Lent.{Lent}
 use Rattle.backlog.specs.declared.backlog.Lent.TheVariants.{Nothing, OfRing, OfDisk}
 use Rattle.broker_history.specs.State.{Waiting, Taken, Topic, Channel, is_empty, channel_names}
-use Rattle.broker_history.specs.Topics.{Fits, HasWaiting, Takes, takes}
+use Rattle.broker_history.specs.Topics.{HasWaiting, Takes, takes, without_name, still_owed, owed_no_more}
 use Rattle.broker_history.proofs.Counting.{kept_taken}
-use Rattle.topic_core.specs.Seen.{Seen, IsSettled, IsDrawn}
+use Rattle.topic_core.specs.Seen.{Seen, IsSettled, IsDrawn, with_owed}
 use Rattle.topic_core.specs.Rows.{IsTopicOf, Becomes, Stays, TakesHead, Took, MayTake, waiting_with, taken_where}
 use Rattle.topic_core.proofs.Waiting.{IsSettledTopic, from_settled, to_settled, as_many}
 
 -- nothing is taken while a message is drawn, nor where there is no head
 pub drawn_taken : (lent : Lent) (head : Option Taken) → lent ≢ Nothing → taken_where lent head ≡ None
-drawn_taken Nothing head no = absurd (no refl)
-drawn_taken OfRing head no = refl
-drawn_taken OfDisk head no = refl
+drawn_taken Nothing head drawn = absurd (drawn refl)
+drawn_taken OfRing head drawn = refl
+drawn_taken OfDisk head drawn = refl
 
 pub none_taken : (lent : Lent) → taken_where lent None ≡ None
 none_taken Nothing = refl
@@ -94,8 +94,8 @@ head_taken old new before after head there drawn now only settles list t was =
     }
 
 not_empty : {X : Type 0} (xs : List X) → xs ≢ [] → is_empty xs ≡ false
-not_empty [] no = absurd (no refl)
-not_empty (x ∷ xs) no = refl
+not_empty [] some = absurd (some refl)
+not_empty (x ∷ xs) some = refl
 
 none_of_none : {X Y : Type 0} (f : X → Y) (xs : List X) → xs ≡ [] → map f xs ≡ []
 none_of_none f xs e = ap (map f) e
@@ -174,7 +174,7 @@ pause_changed old new on settled is files t was =
 -- as many are on disk as the queue's depth says
 disk_long : (queue : Option Queue) (files : Files) (disk : List Message) → OnDisk queue files disk → disk_depth queue ≡ length disk
 disk_long None files disk on = sym (ap length on)
-disk_long (Some q) files disk on = sym on.list.depth ∙ length-map message_bytes disk
+disk_long (Some q) files disk on = sym on.list.depth ∙ length-map disk message_bytes
 
 lent_long : (lent : Lent) (m : Message) (ring disk : List Message) → length (with_lent lent m ring ++ disk) ≡ (length ring + lent_of_ring lent) + length disk
 lent_long Nothing m ring disk = omega (arith, length-append ring disk)
@@ -191,3 +191,40 @@ list_long b (Some head) disk settled = lent_long b.lent head.message b.ring disk
 -- as many wait as are in memory and on disk
 pub depths_count : (q : Seen) (files : Files) (t : Topic) → (q.head ≡ None → q.backlog.lent ≡ Nothing) → IsTopicOf q files t → ring_depth q.backlog + disk_depth q.backlog.queue ≡ length t.waiting
 depths_count q files t settled is = omega (arith, as_many _ t.waiting is.waiting, list_long q.backlog q.head is.disk settled, disk_long q.backlog.queue files is.disk is.on_disk)
+
+-- what holds of the head, whichever it is, holds of it where there is one
+pub if_head : (h : Option Taken) (P : Taken → Type 0) → ((head : Taken) → h ≡ Some head → P head) → IfSome h P
+if_head None P each = tt
+if_head (Some head) P each = each head refl
+
+-- what the fields of a topic's queue say of its head
+pub no_head : (head : Option Message) (owed : List (List ℕ)) → with_owed head owed ≡ None → head ≡ None
+no_head None owed e = refl
+no_head (Some m) owed e = absurd cc
+
+lent_nothing : (lent : Lent) (head : Option Message) → (lent ≢ Nothing → IsSome head) → head ≡ None → lent ≡ Nothing
+lent_nothing Nothing head drawn none = refl
+lent_nothing OfRing head drawn none = absurd (let some = drawn (λ e. cc) in cc)
+lent_nothing OfDisk head drawn none = absurd (let some = drawn (λ e. cc) in cc)
+
+pub settled_view : (lent : Lent) (head : Option Message) (owed : List (List ℕ)) → (lent ≢ Nothing → IsSome head) → with_owed head owed ≡ None → lent ≡ Nothing
+settled_view lent head owed drawn none = lent_nothing lent head drawn (no_head head owed none)
+
+pub owed_some : (head : Option Message) (owed : List (List ℕ)) (taken : Taken) → with_owed head owed ≡ Some taken → (IsSome head → owed ≢ []) → taken.owed ≢ []
+owed_some None owed taken is some = absurd cc
+owed_some (Some m) owed taken is some none =
+    let same : record { message = m; owed = owed } ≡ taken = cc in
+    some (search rules) (ap (λ (t : Taken). t.owed) same ∙ none)
+
+-- a channel struck from those that are owed
+pub struck_last : (head : Option Message) (owed kept : List (List ℕ)) (channel : List ℕ) → kept ≡ without_name owed channel → kept ≡ [] → None ≡ owed_no_more (with_owed head owed) channel
+struck_last None owed kept channel is none = refl
+struck_last (Some m) owed kept channel is none = ap (still_owed m) (sym none ∙ is)
+
+still : (m : Message) (kept : List (List ℕ)) → kept ≢ [] → Some (record { message = m; owed = kept }) ≡ still_owed m kept
+still m [] some = absurd (some refl)
+still m (name ∷ names) some = refl
+
+pub struck_one : (head : Option Message) (owed kept : List (List ℕ)) (channel : List ℕ) → kept ≡ without_name owed channel → kept ≢ [] → with_owed head kept ≡ owed_no_more (with_owed head owed) channel
+struck_one None owed kept channel is some = refl
+struck_one (Some m) owed kept channel is some = still m kept some ∙ ap (still_owed m) is

@@ -79,14 +79,14 @@ put_durable cap zero (m ∷ ms) R D t e c within h =
     let is_so : full ≡ true = full_at cap (length t.waiting) (omega (arith, c, both_long R D t.waiting h)) in
     let put = inserted (R ++ D) [] (stored m) t.waiting (record { message = m; loose = full }) (fits_stored m full is_so) (subst (λ xs. HasWaiting xs t.waiting) (sym (append-nil (R ++ D))) h) in
     let rest = put_durable cap zero ms R (D ++ stored m ∷ []) (with_waiting t m full) e c (counted_within t.message_count)
-        (subst (λ xs. HasWaiting xs (t.waiting ++ record { message = m; loose = full } ∷ [])) (append_assoc R D (stored m ∷ [])) put) in
+    (subst (λ xs. HasWaiting xs (t.waiting ++ record { message = m; loose = full } ∷ [])) (append_assoc R D (stored m ∷ [])) put) in
     subst (λ u. Joined t (put_messages cap u ms) (suc (length ms)) ((R ++ []) ++ (D ++ map stored (m ∷ ms)))) (sym (put_kept cap t m e))
     (joined_more t (put_messages cap (with_waiting t m full) ms) m full (length ms) _ _ (ap (λ xs. (R ++ []) ++ xs) (append_assoc D (stored m ∷ []) (map stored ms))) rest)
 put_durable cap (suc k) (m ∷ ms) R D t e c within h =
     let full = is_full cap t in
     let put = inserted R D m t.waiting (record { message = m; loose = full }) (fits_itself m full) h in
     let rest = put_durable cap k ms (R ++ m ∷ []) D (with_waiting t m full) e (omega (arith, c, length-append R (m ∷ []))) (counted_within t.message_count)
-        (subst (λ xs. HasWaiting xs (t.waiting ++ record { message = m; loose = full } ∷ [])) (sym (append_assoc R (m ∷ []) D)) put) in
+    (subst (λ xs. HasWaiting xs (t.waiting ++ record { message = m; loose = full } ∷ [])) (sym (append_assoc R (m ∷ []) D)) put) in
     subst (λ u. Joined t (put_messages cap u ms) (suc (length ms)) ((R ++ m ∷ take k ms) ++ (D ++ map stored (drop k ms)))) (sym (put_kept cap t m e))
     (joined_more t (put_messages cap (with_waiting t m full) ms) m full (length ms) _ _ (ap (λ xs. xs ++ (D ++ map stored (drop k ms))) (append_assoc R (m ∷ []) (take k ms))) rest)
 
@@ -119,8 +119,7 @@ none_spilled None ms e = refl
 none_spilled (Some q) ms e = absurd (false≢true (sym e))
 
 module _ (old new : Seen) (before after : Files) (ms : List Message) (named : IsNamed old.name old.backlog) (within : length old.backlog.ring ≤ old.backlog.capacity) (count : old.message_count ≤ 2 ^ 64 - 1)
-  (puts : PutsAll old new ms AllDone) (list : (disk : List Message) → OnDisk old.backlog.queue before disk → OnDisk new.backlog.queue after (disk_after_all old.backlog disk ms AllDone)) where
-
+    (puts : PutsAll old new ms AllDone) (list : (disk : List Message) → OnDisk old.backlog.queue before disk → OnDisk new.backlog.queue after (disk_after_all old.backlog disk ms AllDone)) where
   ring_is : new.backlog.ring ≡ old.backlog.ring ++ take (room old.backlog) ms
   ring_is = ap (λ (b : Backlog). b.ring) puts.backlog.0
 
@@ -142,7 +141,7 @@ module _ (old new : Seen) (before after : Files) (ms : List Message) (named : Is
       let none : is.disk ≡ [] = none_on_disk old.backlog.queue before is.disk absent is.on_disk in
       let kept : length (take (room old.backlog) ms) ≡ kept_of old ms = sym (ap (λ b. if b then length (take (room old.backlog) ms) else length ms) e) in
       let all : new.backlog.ring ++ disk_after_all old.backlog is.disk ms AllDone ≡ old.backlog.ring ++ take (room old.backlog) ms =
-          ap (λ xs. new.backlog.ring ++ (is.disk ++ xs)) (none_spilled old.backlog.queue (drop (room old.backlog) ms) absent) ∙ ap (λ xs. new.backlog.ring ++ (xs ++ [])) none ∙ append-nil new.backlog.ring ∙ ring_is in
+      ap (λ xs. new.backlog.ring ++ (is.disk ++ xs)) (none_spilled old.backlog.queue (drop (room old.backlog) ms) absent) ∙ ap (λ xs. new.backlog.ring ++ (xs ++ [])) none ∙ append-nil new.backlog.ring ∙ ring_is in
       let there = subst (λ xs. HasWaiting xs t.waiting) (ap (λ xs. old.backlog.ring ++ xs) none ∙ append-nil old.backlog.ring) is.waiting in
       let j = put_ephemeral old.backlog.capacity (room old.backlog) ms old.backlog.ring t (ap is_ephemeral is.name ∙ e) (omega (arith, within)) (subst (λ n. n ≤ 2 ^ 64 - 1) (sym is.message_count) count) there in
       subst (λ n. Joined t (put_messages old.backlog.capacity t ms) n (new.backlog.ring ++ disk_after_all old.backlog is.disk ms AllDone)) kept
@@ -151,7 +150,7 @@ module _ (old new : Seen) (before after : Files) (ms : List Message) (named : Is
       let there : is_some old.backlog.queue ≡ true = named.durable ∙ ap not e in
       let kept : length ms ≡ kept_of old ms = sym (ap (λ b. if b then length (take (room old.backlog) ms) else length ms) e) in
       let all : (old.backlog.ring ++ take (room old.backlog) ms) ++ (is.disk ++ map stored (drop (room old.backlog) ms)) ≡ new.backlog.ring ++ disk_after_all old.backlog is.disk ms AllDone =
-          ap (λ xs. xs ++ (is.disk ++ map stored (drop (room old.backlog) ms))) (sym ring_is) ∙ ap (λ xs. new.backlog.ring ++ (is.disk ++ xs)) (sym (spilled_where old.backlog.queue (drop (room old.backlog) ms) there)) in
+      ap (λ xs. xs ++ (is.disk ++ map stored (drop (room old.backlog) ms))) (sym ring_is) ∙ ap (λ xs. new.backlog.ring ++ (is.disk ++ xs)) (sym (spilled_where old.backlog.queue (drop (room old.backlog) ms) there)) in
       let j = put_durable old.backlog.capacity (room old.backlog) ms old.backlog.ring is.disk t (ap is_ephemeral is.name ∙ e) (omega (arith, within)) (subst (λ n. n ≤ 2 ^ 64 - 1) (sym is.message_count) count) is.waiting in
       subst (λ n. Joined t (put_messages old.backlog.capacity t ms) n (new.backlog.ring ++ disk_after_all old.backlog is.disk ms AllDone)) kept
       (subst (λ xs. Joined t (put_messages old.backlog.capacity t ms) (length ms) xs) all j)

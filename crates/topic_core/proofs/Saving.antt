@@ -1,5 +1,5 @@
 -- What openings find, and what a flush leaves.
-use Rattle.std.proofs.Common.{◌≡◌, ◌≢◌, ℕ, ◌+◌, ◌-◌, ◌^◌, Bool, true, false, List, [], ◌∷◌, ◌++◌, length, take, drop, map, Option, Some, None, refl, sym, ap, subst, ◌∙◌, arith, append_assoc}
+use Rattle.std.proofs.Common.{◌≡◌, ◌≢◌, ℕ, ◌+◌, ◌-◌, ◌^◌, Bool, true, false, List, [], ◌∷◌, ◌++◌, length, take, drop, map, Option, Some, None, refl, sym, ap, subst, ◌∙◌, arith, inl}
 use Rattle.std.specs.List.{All, count_by}
 use Rattle.std.specs.Prelude.{IsSome}
 use Rattle.std.proofs.lemmas.List.{append-nil, map-append}
@@ -27,9 +27,10 @@ from_records [] (m ∷ ms) p = absurd p
 from_records (b ∷ bodies) [] p = absurd p
 from_records (b ∷ bodies) (m ∷ ms) p =
     let rest = from_records bodies ms p.1 in
-    let one = p.0 in
-    (ap (λ x. x ∷ bodies) one.whole ∙ ap (λ xs. message_bytes m ∷ xs) rest.0,
-    All-cons IsStored m ms (record { fits = record { stamp = one.stamp; attempts = one.attempts; id = one.id }; no_delay = one.delay }) rest.1)
+    let one = p.0 in (
+      ap (λ x. x ∷ bodies) one.whole ∙ ap (λ xs. message_bytes m ∷ xs) rest.0,
+      All-cons IsStored m ms (record { fits = record { stamp = one.stamp; attempts = one.attempts; id = one.id }; no_delay = one.delay }) rest.1,
+    )
 
 to_records : (ms : List Message) → All IsStored ms → Pairwise IsRecordOf (map message_bytes ms) ms
 to_records [] h = tt
@@ -84,18 +85,26 @@ left_same t R D head taken h p =
     let W : List Message = map (λ (w : Waiting). w.message) t.waiting in
     let front : map compared (left_in_topic t) ≡ map compared W ++ map compared T = map-append compared W (taken_message t.taken) ∙ ap (λ k. map compared W ++ map compared (taken_message k)) taken in
     let back : map compared (D ++ map stored (R ++ T)) ≡ map compared D ++ (map compared R ++ map compared T) =
-        map-append compared D (map stored (R ++ T)) ∙ ap (λ xs. map compared D ++ xs) (stored_same (R ++ T) ∙ map-append compared R T) in
+    map-append compared D (map stored (R ++ T)) ∙ ap (λ xs. map compared D ++ xs) (stored_same (R ++ T) ∙ map-append compared R T) in
     let waits : count_by p (map compared W) ≡ count_by p (map compared R ++ map compared D) = waiting_count p (R ++ D) t.waiting h ∙ ap (count_by p) (map-append compared R D) in
-    omega (arith, ap (count_by p) front, ap (count_by p) back, waits, count-append p (map compared W) (map compared T), count-append p (map compared R) (map compared D),
-    count-append p (map compared D) (map compared R ++ map compared T), count-append p (map compared R) (map compared T))
+    omega (
+      arith,
+      ap (count_by p) front,
+      ap (count_by p) back,
+      waits,
+      count-append p (map compared W) (map compared T),
+      count-append p (map compared R) (map compared D),
+      count-append p (map compared D) (map compared R ++ map compared T),
+      count-append p (map compared R) (map compared T),
+    )
 
 -- the head behind an empty ring: in the ring, or on disk
 pub head_behind : (old new : Backlog) (m : Message) (answer : PutOne) (disk : List Message) → old.ring ≡ [] → IsSome old.queue → ((back : Message) → answer ≢ Fault back) → PutWhere old answer → PutSeen old new m answer
     → disk_after disk m answer ++ map stored new.ring ≡ disk ++ map stored (m ∷ [])
-head_behind old new m Kept disk none durable no place seen = ap (λ (b : Backlog). disk ++ map stored b.ring) seen ∙ ap (λ xs. disk ++ map stored (xs ++ m ∷ [])) none
-head_behind old new m Dropped disk none durable no place seen = absurd (let gone = place.1 in cc)
-head_behind old new m Spilled disk none durable no place seen = ap (λ (b : Backlog). (disk ++ stored m ∷ []) ++ map stored b.ring) seen.is ∙ ap (λ xs. (disk ++ stored m ∷ []) ++ map stored xs) none ∙ append-nil (disk ++ stored m ∷ [])
-head_behind old new m (Fault back) disk none durable no place seen = absurd (no back refl)
+head_behind old new m Kept disk none durable kept place seen = ap (λ (b : Backlog). disk ++ map stored b.ring) seen ∙ ap (λ xs. disk ++ map stored (xs ++ m ∷ [])) none
+head_behind old new m Dropped disk none durable kept place seen = absurd (let gone = place.1 in cc)
+head_behind old new m Spilled disk none durable kept place seen = ap (λ (b : Backlog). (disk ++ stored m ∷ []) ++ map stored b.ring) seen.is ∙ ap (λ xs. (disk ++ stored m ∷ []) ++ map stored xs) none ∙ append-nil (disk ++ stored m ∷ [])
+head_behind old new m (Fault back) disk none durable kept place seen = absurd (kept back refl)
 
 -- a queue of the same name is found alike
 pub same_finds : (q r : Option Queue) (files : Files) (ms : List Message) → SameQueue q r → QueueFinds r files ms → QueueFinds q files ms

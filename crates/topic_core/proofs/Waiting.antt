@@ -1,5 +1,5 @@
 -- The messages that a topic's queue has beside those that wait in a topic of a state.
-use Rattle.std.proofs.Common.{◌≡◌, ◌≢◌, ℕ, ◌+◌, Bool, true, List, [], ◌∷◌, ◌++◌, length, Option, Some, None, refl, sym, ap, subst, ◌∙◌, arith}
+use Rattle.std.proofs.Common.{◌≡◌, ◌≢◌, ℕ, ◌+◌, Bool, true, List, [], ◌∷◌, ◌++◌, length, Option, Some, None, refl, sym, ap, subst, ◌∙◌, arith, suc}
 use Rattle.std.specs.List.{count_by}
 use Rattle.nsq_outside.specs.Files.{Files}
 use Rattle.v2_frame.specs.declared.message.Message.{Message}
@@ -46,7 +46,7 @@ pairs_length : (ws : List Waiting) (ms : List Message) → Pairwise Fits ws ms �
 pairs_length [] [] p = refl
 pairs_length [] (m ∷ ms) p = absurd p
 pairs_length (w ∷ ws) [] p = absurd p
-pairs_length (w ∷ ws) (m ∷ ms) p = ap (λ n. n + 1) (pairs_length ws ms p.1)
+pairs_length (w ∷ ws) (m ∷ ms) p = ap suc (pairs_length ws ms p.1)
 
 -- as many wait as there are
 pub as_many : (ms : List Message) (waiting : List Waiting) → HasWaiting ms waiting → length waiting ≡ length ms
@@ -61,7 +61,7 @@ pub none_waits : (ms : List Message) (waiting : List Waiting) → HasWaiting ms 
 none_waits ms waiting h e = no_length waiting (as_many ms waiting h ∙ e)
 
 pub some_wait : (ms : List Message) (waiting : List Waiting) → HasWaiting ms waiting → length ms ≢ 0 → waiting ≢ []
-some_wait ms waiting h no e = no (sym (as_many ms waiting h) ∙ ap length e)
+some_wait ms waiting h some e = some (sym (as_many ms waiting h) ∙ ap length e)
 
 -- where nothing is drawn the messages are those of the ring and those on disk, and the head is taken
 pub settled_list : (b : Backlog) (head : Option Taken) (disk : List Message) → b.lent ≡ Nothing → waiting_with b head disk ≡ b.ring ++ disk

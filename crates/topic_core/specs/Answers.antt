@@ -1,11 +1,12 @@
 -- What the calls of a topic's queue change of it, by their answers, and when they fail.
-use Rattle.std.specs.Prelude.{ℕ, ◌≡◌, ◌≢◌, ◌⊎◌, List, [], ◌++◌, map, false, if◌then◌else◌, Some, None}
+use Rattle.std.specs.Prelude.{ℕ, ◌≡◌, ◌≢◌, ◌⊎◌, List, [], ◌++◌, map, false, MatchBool, Some, None}
 use Rattle.nsq_base.specs.Name.{is_ephemeral}
 use Rattle.nsq_outside.specs.Causes.{Rose}
 use Rattle.nsq_outside.specs.Files.{Files}
 use Rattle.v2_frame.specs.declared.message.Message.{Message}
 use Rattle.backlog.specs.Seen.{DrawSeen, PutAllSeen, QueueIsSaved}
 use Rattle.backlog.specs.Lists.{OnDisk, QueueFinds, stored}
+use Rattle.backlog.specs.declared.backlog.Lent.TheVariants.{Nothing}
 use Rattle.backlog.specs.declared.answers.Drawn.{Drawn}
 use Rattle.backlog.specs.declared.answers.Drawn.TheVariants as drawn
 use Rattle.backlog.specs.declared.answers.PutAll.{PutAll}
@@ -69,7 +70,7 @@ pub record FlushesAll (old new : Seen) : Type 0 where
 
 -- what a flush changes: nothing in an ephemeral topic; after a fault some of what was in memory may be on disk
 abbrev pub FlushesTopic : Seen → Seen → Flushed → Type 0
-FlushesTopic old new FlushDone = if is_ephemeral old.name then new ≡ old else FlushesAll old new
+FlushesTopic old new FlushDone = MatchBool (is_ephemeral old.name) (new ≡ old) (FlushesAll old new)
 FlushesTopic old new FlushFault = new ≡ record old { backlog = new.backlog; head = new.head }
 
 -- so it is where a head is written behind all others

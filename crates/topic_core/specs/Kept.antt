@@ -19,5 +19,5 @@ pub record IsOwed (head : Option Message) (owed : List (List ℕ)) : Type 0 wher
 -- the backlog is the topic's, the head is owed, and a message that is drawn is the head
 pub record IsSound (name : List ℕ) (b : Backlog) (head : Option Message) (owed : List (List ℕ)) : Type 0 where
   pub named : IsNamed name b
-  pub owed : IsOwed head owed
+  pub owes : IsOwed head owed
   pub drawn : b.lent ≢ Nothing → IsSome head

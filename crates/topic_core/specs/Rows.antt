@@ -1,5 +1,5 @@
 -- Which topic of a state a topic's queue is, and what each call makes of that topic.
-use Rattle.std.specs.Prelude.{ℕ, ◌≡◌, ◌≢◌, ◌+◌, Bool, false, if◌then◌else◌, List, [], ◌∷◌, ◌++◌, map, Option, Some, None, IfSome, IsSome}
+use Rattle.std.specs.Prelude.{ℕ, ◌≡◌, ◌≢◌, Bool, false, MatchBool, List, [], ◌∷◌, ◌++◌, Option, Some, None, IfSome}
 use Rattle.nsq_base.specs.Name.{is_ephemeral}
 use Rattle.nsq_outside.specs.Files.{Files}
 use Rattle.v2_frame.specs.declared.message.Message.{Message}
@@ -110,7 +110,7 @@ emptied_where emptying.Fault t = t
 
 -- what an opening finds of a topic: nothing of an ephemeral one
 abbrev pub FindsMessages : Files → List ℕ → List Message → Type 0
-FindsMessages files name messages = if is_ephemeral name then messages ≡ [] else HasMessages files name messages
+FindsMessages files name messages = MatchBool (is_ephemeral name) (messages ≡ []) (HasMessages files name messages)
 
 -- the topic at the start of a run, where these messages were found
 abbrev pub found_topic : List ℕ → List Message → Topic

@@ -1,5 +1,5 @@
 -- What is seen of a topic's queue, and what its calls change of it.
-use Rattle.std.specs.Prelude.{ℕ, ◌≡◌, ◌≢◌, ◌+◌, ◌^◌, List, [], ◌∷◌, ◌++◌, length, take, min, Bool, false, not, if◌then◌else◌, Option, Some, None, IfSome, IsTrue, is_some}
+use Rattle.std.specs.Prelude.{ℕ, ◌≡◌, ◌≢◌, ◌+◌, ◌-◌, ◌^◌, List, [], length, take, min, Bool, false, not, if◌then◌else◌, MatchBool, Option, Some, None, IfSome}
 use Rattle.nsq_base.specs.Name.{is_ephemeral}
 use Rattle.nsq_base.specs.declared.options.Options.{Options}
 use Rattle.queue_files.specs.declared.options.QueueOptions.{QueueOptions}
@@ -53,7 +53,7 @@ fresh_topic name options = record {
 -- the backlog as an opening makes it: all is on disk; that of an ephemeral topic is made anew
 abbrev pub BacklogOpened : List ℕ → Options → Backlog → Type 0
 BacklogOpened name options b =
-    if is_ephemeral name then b ≡ (fresh_topic name options).backlog else IfSome b.queue (IsOpenedAt name options.mem_queue_size (queue_options options) b)
+    MatchBool (is_ephemeral name) (b ≡ (fresh_topic name options).backlog) (IfSome b.queue (IsOpenedAt name options.mem_queue_size (queue_options options) b))
 
 -- a topic's queue as an opening makes it
 pub record IsOpenedTopic (name : List ℕ) (options : Options) (q : Seen) : Type 0 where

@@ -1,4 +1,4 @@
-ghost use Rattle.std.specs.Prelude.{◌≡◌, ◌≤◌, ◌+◌, length, true, IsTrue, IfOk, IfErr, option_map, option_copied};
+ghost use Rattle.std.specs.Prelude.{◌≡◌, ◌≤◌, ◌+◌, List, length, true, false, None, IsTrue, IfOk, IfErr, option_map, option_copied};
 ghost use Rattle.nsq_base.specs.Name.{is_ephemeral};
 ghost use Rattle.nsq_outside.specs.Files.{Files};
 ghost use Rattle.queue_image.specs.FileNames.{meta_file};
@@ -8,6 +8,7 @@ ghost use Rattle.queue_opening.specs.Refusals.{OpenFails};
 ghost use Rattle.v2_frame.specs.declared.message.Message.{Message};
 ghost use Rattle.backlog.specs.Seen.{ForMessages, ring_depth, disk_depth};
 ghost use Rattle.backlog.specs.Lists.{Stands, OpenRefused};
+ghost use Rattle.backlog.specs.declared.backlog.Lent.TheVariants.{Nothing};
 ghost use Rattle.broker_history.specs.State.{Topic as StateTopic, new_topic};
 ghost use Rattle.topic_core.specs.Seen.{fresh_topic, queue_options, owed_of, IsSettled, IsOpenedTopic};
 ghost use Rattle.topic_core.specs.Kept.{IsNamed};
@@ -66,7 +67,7 @@ impl TopicQueue {
         let backlog = Backlog::fresh(
             alloc,
             name.as_str(),
-            options.mem_queue_size as usize,
+            ring_of(options),
             durable,
             queue_options(options),
         )?;
@@ -96,7 +97,7 @@ impl TopicQueue {
             alloc,
             folder,
             name.as_str(),
-            options.mem_queue_size as usize,
+            ring_of(options),
             queue_options(options),
         )?;
         Ok(TopicQueue::over(alloc, name, backlog))
@@ -181,6 +182,13 @@ const LEAST: u32 = 26;
 
 /// The greatest number of bytes of a message on disk: 26 and those of the longest body that any options allow.
 const LONGEST: u32 = 26 + 16_777_216;
+
+// How many messages a topic keeps in memory.
+fn ring_of(options: &Options) -> usize
+    ensures { result ≡ options.now.mem_queue_size }
+{
+    options.mem_queue_size as usize
+}
 
 // The options of a topic's queue on disk.
 fn queue_options(options: &Options) -> QueueOptions

@@ -102,7 +102,7 @@ impl TopicQueue {
         ensures seen { self.new ≡ record self.old { head = owed_no_more self.old.head channel } }
         ensures row { (files : Files) → Becomes self.old files self.new files (paid_in channel) }
     {
-        self.strike(channel);
+        self.forget_channel(channel);
     }
 
     /// The channel is gone, and owed nothing: as `paid`, where it was owed a copy. Requires that nothing is drawn.
@@ -110,14 +110,6 @@ impl TopicQueue {
         requires { IsSettled self.old }
         ensures seen { self.new ≡ record self.old { head = owed_no_more self.old.head channel } }
         ensures row { (files : Files) → Becomes self.old files self.new files (paid_in channel) }
-    {
-        self.strike(channel);
-    }
-
-    // Strikes the channel from those that are owed. A head that is owed to none goes.
-    fn strike(&mut self, channel: Chan)
-        requires { IsSettled self.old }
-        ensures { self.new ≡ record self.old { head = owed_no_more self.old.head channel } }
     {
         self.owed.retain(|owed| *owed != channel);
         if self.owed.is_empty() {

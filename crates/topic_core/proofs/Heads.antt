@@ -1,7 +1,9 @@
 -- What taking, settling and undoing the head make of a topic of a state, and what paying makes of what is owed.
-use Rattle.std.proofs.Common.{rules, ◌≡◌, ◌≢◌, ℕ, ◌+◌, Bool, true, false, not, ◌&&◌, List, [], ◌∷◌, ◌++◌, length, drop, map, Option, Some, None, refl, sym, ap, subst, ◌∙◌, arith, length-append}
+use Rattle.std.proofs.Common.{rules, ◌≡◌, ◌≢◌, ℕ, ◌+◌, Bool, true, false, not, ◌&&◌, nat_eq, inl, inr, List, [], ◌∷◌, ◌++◌, length, drop, map, Option, Some, None, refl, sym, ap, subst, ◌∙◌, arith, length-append}
 use Rattle.std.specs.Prelude.{is_none, IfSome, IsSome}
 use Rattle.std.proofs.lemmas.List.{length-map}
+use Rattle.std.proofs.lemmas.Bool.{eq-eqb, false≢true}
+use Rattle.std.proofs.lemmas.Bool.Decides.{eqb_tells}
 use Rattle.v2_frame.specs.Written.{message_bytes}
 use Rattle.nsq_outside.specs.Files.{Files}
 use Rattle.v2_frame.specs.declared.message.Message.{Message}
@@ -15,7 +17,7 @@ use Rattle.broker_history.specs.Topics.{HasWaiting, Takes, takes, without_name, 
 use Rattle.broker_history.proofs.Counting.{kept_taken}
 use Rattle.topic_core.specs.Seen.{Seen, IsSettled, IsDrawn, with_owed}
 use Rattle.topic_core.specs.Rows.{IsTopicOf, Becomes, Stays, TakesHead, Took, MayTake, waiting_with, taken_where}
-use Rattle.topic_core.proofs.Waiting.{IsSettledTopic, from_settled, to_settled, as_many}
+use Rattle.topic_core.proofs.Waiting.{IsSettledTopic, from_settled, to_settled, as_many, none_waits}
 
 -- nothing is taken while a message is drawn, nor where there is no head
 pub drawn_taken : (lent : Lent) (head : Option Taken) → lent ≢ Nothing → taken_where lent head ≡ None
@@ -212,9 +214,9 @@ settled_view lent head owed drawn none = lent_nothing lent head drawn (no_head h
 
 pub owed_some : (head : Option Message) (owed : List (List ℕ)) (taken : Taken) → with_owed head owed ≡ Some taken → (IsSome head → owed ≢ []) → taken.owed ≢ []
 owed_some None owed taken is some = absurd cc
-owed_some (Some m) owed taken is some none =
+owed_some (Some m) owed taken is some =
     let same : record { message = m; owed = owed } ≡ taken = cc in
-    some (search rules) (ap (λ (t : Taken). t.owed) same ∙ none)
+    λ none. some (search rules) (ap (λ (t : Taken). t.owed) same ∙ none)
 
 -- a channel struck from those that are owed
 pub struck_last : (head : Option Message) (owed kept : List (List ℕ)) (channel : List ℕ) → kept ≡ without_name owed channel → kept ≡ [] → None ≡ owed_no_more (with_owed head owed) channel
@@ -228,3 +230,23 @@ still m (name ∷ names) some = refl
 pub struck_one : (head : Option Message) (owed kept : List (List ℕ)) (channel : List ℕ) → kept ≡ without_name owed channel → kept ≢ [] → with_owed head kept ≡ owed_no_more (with_owed head owed) channel
 struck_one None owed kept channel is some = refl
 struck_one (Some m) owed kept channel is some = still m kept some ∙ ap (still_owed m) is
+
+-- whether none waits, by how many are in memory and on disk
+pub some_count : {X : Type 0} (xs : List X) (ring disk : ℕ) → ring + disk ≡ length xs → ring ≢ 0 → false ≡ is_empty xs
+some_count [] ring disk e some = absurd (some (omega (arith, e)))
+some_count (x ∷ xs) ring disk e some = refl
+
+pub none_count : {X : Type 0} (xs : List X) (ring disk : ℕ) → ring + disk ≡ length xs → ring ≡ 0 → nat_eq disk 0 ≡ is_empty xs
+none_count [] ring disk e none = eq-eqb disk 0 (omega (arith, e, none))
+none_count (x ∷ xs) ring disk e none = elim (eqb_tells disk 0) [ inl t ↦ absurd (omega (arith, e, none, t.1)) | inr t ↦ t.0 ]
+
+pub is_nothing : {X : Type 0} (xs : List X) → is_empty xs ≡ true → xs ≡ []
+is_nothing [] e = refl
+is_nothing (x ∷ xs) e = absurd (false≢true e)
+
+pub is_something : {X : Type 0} (xs : List X) → is_empty xs ≡ false → xs ≢ []
+is_something xs e none = false≢true (sym e ∙ ap is_empty none)
+
+-- nothing was drawn since none waits
+pub drawn_none : (q : Seen) (files : Files) (t : Topic) → q.head ≡ None → ((disk : List Message) → OnDisk q.backlog.queue files disk → q.backlog.ring ++ disk ≡ []) → IsTopicOf q files t → t.waiting ≡ []
+drawn_none q files t none gives is = none_waits _ t.waiting is.waiting (ap (λ h. length (waiting_with q.backlog h is.disk)) none ∙ ap length (gives is.disk is.on_disk))

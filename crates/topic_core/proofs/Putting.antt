@@ -8,7 +8,8 @@ use Rattle.nsq_base.specs.Name.{is_ephemeral}
 use Rattle.nsq_outside.specs.Files.{Files}
 use Rattle.v2_frame.specs.declared.message.Message.{Message}
 use Rattle.disk_queue.specs.Seen.{Seen as Queue}
-use Rattle.backlog.specs.Seen.{Seen as Backlog, room}
+use Rattle.backlog.specs.Seen.{Seen as Backlog, room, ring_depth, lent_of_ring}
+use Rattle.backlog.specs.declared.backlog.Lent.TheVariants.{Nothing}
 use Rattle.backlog.specs.Lists.{OnDisk, stored, spilled, disk_after_all}
 use Rattle.backlog.specs.declared.answers.PutAll.TheVariants.{Done as AllDone}
 use Rattle.broker_history.specs.State.{Waiting, Topic, counted}
@@ -161,3 +162,14 @@ module _ (old new : Seen) (before after : Files) (ms : List Message) (named : Is
       let there = from_settled old before t settled is in
       let t' = put_messages old.backlog.capacity t ms in
       to_settled new after t' now (joined_topic t t' there (joined_as (is_ephemeral old.name) refl t there))
+
+-- how many were kept, by how many more are in the ring, or by how many came
+pub kept_ephemeral : (old : Seen) (b : Backlog) (ms : List Message) (before after : ℕ) → is_ephemeral old.name ≡ true → old.backlog.lent ≡ Nothing → b.lent ≡ Nothing → before ≡ ring_depth old.backlog → after ≡ ring_depth b
+    → b.ring ≡ old.backlog.ring ++ take (room old.backlog) ms → after - before ≡ kept_of old ms
+kept_ephemeral old b ms before after e lent now was is ring =
+    let more : after - before ≡ length (take (room old.backlog) ms) =
+        omega (arith, was, is, ap lent_of_ring lent, ap lent_of_ring now, ap length ring, length-append old.backlog.ring (take (room old.backlog) ms)) in
+    more ∙ sym (ap (λ b. if b then length (take (room old.backlog) ms) else length ms) e)
+
+pub kept_durable : (old : Seen) (ms : List Message) → is_ephemeral old.name ≡ false → length ms ≡ kept_of old ms
+kept_durable old ms e = sym (ap (λ b. if b then length (take (room old.backlog) ms) else length ms) e)

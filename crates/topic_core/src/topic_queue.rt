@@ -9,7 +9,7 @@ ghost use Rattle.v2_frame.specs.declared.message.Message.{Message};
 ghost use Rattle.backlog.specs.Seen.{ForMessages, ring_depth, disk_depth};
 ghost use Rattle.backlog.specs.Lists.{Stands, OpenRefused};
 ghost use Rattle.backlog.specs.declared.backlog.Lent.TheVariants.{Nothing};
-ghost use Rattle.broker_history.specs.State.{Topic as StateTopic, new_topic};
+ghost use Rattle.broker_history.specs.State.{Topic as StateTopic, new_topic, is_empty};
 ghost use Rattle.topic_core.specs.Seen.{fresh_topic, queue_options, owed_of, IsSettled, IsOpenedTopic};
 ghost use Rattle.topic_core.specs.Kept.{IsNamed};
 ghost use Rattle.topic_core.specs.Rows.{IsTopicOf, Becomes, FindsMessages, found_topic, paused_in};
@@ -29,7 +29,7 @@ use v2_frame::Message;
 /// A topic's messages: those that wait, in a backlog, and the one that was taken, for as long as a channel is owed a copy of it.
 ///
 /// A message that waits is drawn by `take_head`, and then either taken, by `settle_head`, or put back, by `undo_head`; no call but
-/// `head`, `owed`, `name`, `is_paused`, `message_count` and `depths` may come before. The channels themselves are the caller's. An
+/// `head`, `owed`, `name`, `is_paused`, `message_count`, `depths` and `is_empty` may come before. The channels themselves are the caller's. An
 /// ephemeral topic has no queue on disk. No call but `fresh`, `open` and `take_head` takes memory.
 #[derive(Drop)]
 pub struct TopicQueue {
@@ -160,6 +160,17 @@ impl TopicQueue {
         ensures row { (files : Files) (t : StateTopic) → IsTopicOf self.now files t → result.ring + result.disk ≡ length t.waiting }
     {
         self.backlog.depths()
+    }
+
+    /// Whether no message waits.
+    pub fn is_empty(&self) -> bool
+        ensures { (files : Files) (t : StateTopic) → IsTopicOf self.now files t → result ≡ is_empty t.waiting }
+    {
+        let depths = self.depths();
+        if depths.ring != 0 {
+            return false;
+        }
+        depths.disk == 0
     }
 
     /// The message that is drawn or taken.

@@ -14,6 +14,7 @@ use crate::Head;
 use backlog::Drawn;
 use nsq_base::Chan;
 use nsq_outside::Folder;
+use v2_frame::Message;
 
 /// Taking, and what is owed.
 impl TopicQueue {
@@ -40,8 +41,7 @@ impl TopicQueue {
         ensures faults { F.folder_faults folder.old ≤ F.folder_faults folder.new }
         ensures cause { HeadFails (F.folder_faults folder.old) (F.folder_faults folder.new) result }
     {
-        let depths = self.backlog.depths();
-        if depths.ring == 0 && depths.disk == 0 {
+        if self.is_empty() {
             return Head::Empty;
         }
         let Ok(()) = self.owed.reserve(channels.len()) else {
@@ -113,7 +113,14 @@ impl TopicQueue {
     {
         self.owed.retain(|owed| *owed != channel);
         if self.owed.is_empty() {
-            self.head = None;
+            let_go(&mut self.head);
         }
     }
+}
+
+// Drops the head.
+fn let_go(head: &mut Option<Message>)
+    ensures { head.new ≡ None }
+{
+    *head = None;
 }

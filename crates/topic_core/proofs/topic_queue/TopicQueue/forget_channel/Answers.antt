@@ -2,9 +2,11 @@ use Rattle.std.proofs.Common.{rules, ◌≡◌, ◌≢◌, ℕ, not, List, [], O
 use Rattle.std.specs.List.{filter}
 use Rattle.std.specs.Str.{bytes_eq}
 use Rattle.std.proofs.lemmas.Fn.{filter_same}
+use Rattle.std.proofs.lemmas.List.{nil_from_length}
 use Rattle.broker_history.specs.State.{Taken}
 use Rattle.broker_history.specs.Topics.{owed_no_more, without_name}
-use Rattle.topic_core.specs.Seen.{Seen}
+use Rattle.v2_frame.specs.declared.message.Message.{Message}
+use Rattle.topic_core.specs.Seen.{Seen, with_owed}
 use Rattle.topic_core.proofs.Heads.{head_changed, struck_last, struck_one}
 use Rattle.topic_core.proofs.topic_queue.TopicQueue.forget_channel.Goals as goal
 
@@ -12,8 +14,9 @@ pub returns-then-is_empty-clause-seen : goal.returns-then-is_empty-clause-seen
 returns-then-is_empty-clause-seen c =
     let inside = c.self.inside in
     let kept : c.retain.new.self.items ≡ without_name inside.owed.items c.args.channel = filter_same _ _ _ (λ x b f' k. search rules) _ _ c.retain.ensures.filtered in
-    let none : c.retain.new.self.items ≡ [] = search rules in
-    ap (λ (h : Option Taken). record { name = inside.name; paused = inside.paused; message_count = inside.message_count; backlog = inside.backlog; head = h })
+    let none : c.retain.new.self.items ≡ [] = nil_from_length c.retain.new.self.items (search rules) in
+    ap (λ (h : Option Message). record { name = inside.name; paused = inside.paused; message_count = inside.message_count; backlog = inside.backlog; head = with_owed h c.retain.new.self.items }) c.let_go.ensures
+    ∙ ap (λ (h : Option Taken). record { name = inside.name; paused = inside.paused; message_count = inside.message_count; backlog = inside.backlog; head = h })
     (struck_last inside.head inside.owed.items c.retain.new.self.items c.args.channel kept none)
     ∙ ap (λ (q : Seen). record q { head = owed_no_more q.head c.args.channel }) c.self.view_is
 

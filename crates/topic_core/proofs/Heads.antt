@@ -1,6 +1,6 @@
 -- What taking, settling and undoing the head make of a topic of a state, and what paying makes of what is owed.
-use Rattle.std.proofs.Common.{rules, ◌≡◌, ◌≢◌, ℕ, ◌+◌, Bool, true, false, not, ◌&&◌, nat_eq, inl, inr, List, [], ◌∷◌, ◌++◌, length, drop, map, Option, Some, None, refl, sym, ap, subst, ◌∙◌, arith, length-append}
-use Rattle.std.specs.Prelude.{is_none, IfSome, IsSome}
+use Rattle.std.proofs.Common.{rules, ◌≡◌, ◌≢◌, ℕ, ◌+◌, Bool, true, false, nat_eq, inl, inr, List, [], ◌∷◌, ◌++◌, length, drop, map, Option, Some, None, refl, sym, ap, subst, ◌∙◌, arith, length-append}
+use Rattle.std.specs.Prelude.{IfSome, IsSome}
 use Rattle.std.proofs.lemmas.List.{length-map}
 use Rattle.std.proofs.lemmas.Bool.{eq-eqb, false≢true}
 use Rattle.std.proofs.lemmas.Bool.Decides.{eqb_tells}
@@ -12,12 +12,12 @@ use Rattle.backlog.specs.Seen.{Seen as Backlog, with_lent, undone, ring_depth, d
 use Rattle.backlog.specs.Lists.{OnDisk, IsFirstMessage, SettlesFirst, list_with, disk_settled}
 use Rattle.backlog.specs.declared.backlog.Lent.{Lent}
 use Rattle.backlog.specs.declared.backlog.Lent.TheVariants.{Nothing, OfRing, OfDisk}
-use Rattle.broker_history.specs.State.{Waiting, Taken, Topic, Channel, is_empty, channel_names}
-use Rattle.broker_history.specs.Topics.{HasWaiting, Takes, takes, without_name, still_owed, owed_no_more}
+use Rattle.broker_history.specs.State.{Taken, Topic, Channel, is_empty}
+use Rattle.broker_history.specs.Topics.{HasWaiting, without_name, still_owed, owed_no_more}
 use Rattle.broker_history.proofs.Counting.{kept_taken}
 use Rattle.topic_core.specs.Seen.{Seen, IsSettled, IsDrawn, with_owed}
 use Rattle.topic_core.specs.Rows.{IsTopicOf, Becomes, Stays, TakesHead, Took, MayTake, waiting_with, taken_where}
-use Rattle.topic_core.proofs.Waiting.{IsSettledTopic, from_settled, to_settled, as_many, none_waits}
+use Rattle.topic_core.proofs.Waiting.{from_settled, to_settled, as_many, none_waits}
 
 -- nothing is taken while a message is drawn, nor where there is no head
 pub drawn_taken : (lent : Lent) (head : Option Taken) → lent ≢ Nothing → taken_where lent head ≡ None

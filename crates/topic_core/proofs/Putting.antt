@@ -1,5 +1,5 @@
 -- What putting messages makes of a topic of a state.
-use Rattle.std.proofs.Common.{◌≡◌, ℕ, ◌+◌, ◌-◌, ◌^◌, ◌≤◌, ◌<◌, ◌⊎◌, inl, inr, min, Bool, true, false, not, ◌&&◌, nat_le, if◌then◌else◌, List, [], ◌∷◌, ◌++◌, length, take, drop, map, Option, Some, None, refl, sym, ap, subst, ◌∙◌, arith, zero, suc, length-append, append_assoc}
+use Rattle.std.proofs.Common.{◌≡◌, ℕ, ◌+◌, ◌-◌, ◌^◌, ◌≤◌, ◌<◌, inl, inr, Bool, true, false, not, ◌&&◌, nat_le, if◌then◌else◌, List, [], ◌∷◌, ◌++◌, length, take, drop, map, Option, Some, None, refl, sym, ap, subst, ◌∙◌, arith, zero, suc, length-append, append_assoc}
 use Rattle.std.specs.Prelude.{is_some}
 use Rattle.std.proofs.lemmas.Bool.{le-leb, false≢true}
 use Rattle.std.proofs.lemmas.Bool.Decides.{leb_tells}
@@ -168,7 +168,7 @@ pub kept_ephemeral : (old : Seen) (b : Backlog) (ms : List Message) (before afte
     → b.ring ≡ old.backlog.ring ++ take (room old.backlog) ms → after - before ≡ kept_of old ms
 kept_ephemeral old b ms before after e lent now was is ring =
     let more : after - before ≡ length (take (room old.backlog) ms) =
-        omega (arith, was, is, ap lent_of_ring lent, ap lent_of_ring now, ap length ring, length-append old.backlog.ring (take (room old.backlog) ms)) in
+    omega (arith, was, is, ap lent_of_ring lent, ap lent_of_ring now, ap length ring, length-append old.backlog.ring (take (room old.backlog) ms)) in
     more ∙ sym (ap (λ b. if b then length (take (room old.backlog) ms) else length ms) e)
 
 pub kept_durable : (old : Seen) (ms : List Message) → is_ephemeral old.name ≡ false → length ms ≡ kept_of old ms

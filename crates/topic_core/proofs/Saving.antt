@@ -1,5 +1,5 @@
 -- What openings find, and what a flush leaves.
-use Rattle.std.proofs.Common.{◌≡◌, ◌≢◌, ℕ, ◌+◌, ◌-◌, ◌^◌, ◌≤◌, Bool, true, false, List, [], ◌∷◌, ◌++◌, length, take, drop, map, Option, Some, None, refl, sym, ap, subst, ◌∙◌, arith, inl, not, append_assoc}
+use Rattle.std.proofs.Common.{◌≡◌, ◌≢◌, ℕ, ◌+◌, ◌-◌, ◌≤◌, Bool, true, false, List, [], ◌∷◌, ◌++◌, length, take, drop, map, Option, Some, None, refl, sym, ap, subst, ◌∙◌, arith, inl, not, append_assoc}
 use Rattle.std.specs.List.{All, count_by}
 use Rattle.std.specs.Prelude.{IsSome, IfSome, MatchBool, is_some}
 use Rattle.std.proofs.lemmas.Bool.{false≢true}
@@ -145,7 +145,7 @@ pub head_found : (b1 b2 : Backlog) (old new : Seen) (after : Files) (disk d1 : L
 head_found b1 b2 old new after disk d1 head FlushDone seen same is behind none there on found =
     let moves = seen.0 in
     let goal : d1 ++ map stored b1.ring ≡ disk ++ map stored (old.backlog.ring ++ taken_message old.head) =
-        behind ∙ ap (λ xs. disk ++ map stored (xs ++ (head.message ∷ []))) (sym none) ∙ ap (λ h. disk ++ map stored (old.backlog.ring ++ taken_message h)) (sym there) in
+    behind ∙ ap (λ xs. disk ++ map stored (xs ++ (head.message ∷ []))) (sym none) ∙ ap (λ h. disk ++ map stored (old.backlog.ring ++ taken_message h)) (sym there) in
     record {
       on_disk = subst (λ (b : Backlog). OnDisk b.queue after (disk ++ map stored (old.backlog.ring ++ taken_message old.head))) (sym is)
           (subst (λ ms. OnDisk b2.queue after ms) (ap (λ xs. d1 ++ map stored xs) (all_flushed b1 b2 (ap (λ (b : Backlog). b.ring) moves.is)) ∙ goal) on);
@@ -262,10 +262,10 @@ pub both_found : (old mid new : Seen) (after : Files) (disk : List Message) (ans
     → FlushFindsAll mid new after (disk ++ map stored old.backlog.ring) answer → FlushFindsAll old new after disk answer
 both_found old mid new after disk FlushDone same ring head found =
     let goal : (disk ++ map stored old.backlog.ring) ++ map stored (mid.backlog.ring ++ taken_message mid.head) ≡ disk ++ map stored (old.backlog.ring ++ taken_message old.head) =
-        ap (λ xs. (disk ++ map stored old.backlog.ring) ++ map stored (xs ++ taken_message mid.head)) ring
-        ∙ ap (λ h. (disk ++ map stored old.backlog.ring) ++ map stored (taken_message h)) head
-        ∙ append_assoc disk (map stored old.backlog.ring) (map stored (taken_message old.head))
-        ∙ ap (λ xs. disk ++ xs) (sym (map-append stored old.backlog.ring (taken_message old.head))) in
+    ap (λ xs. (disk ++ map stored old.backlog.ring) ++ map stored (xs ++ taken_message mid.head)) ring
+    ∙ ap (λ h. (disk ++ map stored old.backlog.ring) ++ map stored (taken_message h)) head
+    ∙ append_assoc disk (map stored old.backlog.ring) (map stored (taken_message old.head))
+    ∙ ap (λ xs. disk ++ xs) (sym (map-append stored old.backlog.ring (taken_message old.head))) in
     record {
       on_disk = subst (λ ms. OnDisk new.backlog.queue after ms) goal found.on_disk;
       found = same_finds old.backlog.queue mid.backlog.queue after _ same (subst (λ ms. QueueFinds mid.backlog.queue after ms) goal found.found);
@@ -276,7 +276,7 @@ pub ring_found : (old new : Seen) (after : Files) (disk : List Message) → old.
     → FlushFinds old.backlog after disk FlushDone → AllFound old new after (disk ++ map stored (old.backlog.ring ++ taken_message old.head))
 ring_found old new after disk none seen on found =
     let goal : disk ++ map stored old.backlog.ring ≡ disk ++ map stored (old.backlog.ring ++ taken_message old.head) =
-        ap (λ xs. disk ++ map stored xs) (sym (append-nil old.backlog.ring)) ∙ ap (λ h. disk ++ map stored (old.backlog.ring ++ taken_message h)) (sym none) in
+    ap (λ xs. disk ++ map stored xs) (sym (append-nil old.backlog.ring)) ∙ ap (λ h. disk ++ map stored (old.backlog.ring ++ taken_message h)) (sym none) in
     record {
       on_disk = subst (λ ms. OnDisk new.backlog.queue after ms) (ap (λ xs. disk ++ map stored xs) (all_flushed old.backlog new.backlog (ap (λ (b : Backlog). b.ring) seen.0.is)) ∙ goal) on;
       found = subst (λ ms. QueueFinds old.backlog.queue after ms) goal found;

@@ -1,5 +1,5 @@
 -- What deleting a topic's queue leaves.
-use Rattle.std.specs.Prelude.{ℕ, ◌≡◌}
+use Rattle.std.specs.Prelude.{◌≡◌}
 use Rattle.nsq_outside.specs.Files.{Files}
 use Rattle.backlog.specs.Deleting.{DeleteSeen}
 use Rattle.backlog.specs.declared.answers.Gone.{Gone}

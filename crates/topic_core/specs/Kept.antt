@@ -1,5 +1,5 @@
 -- What every topic's queue keeps.
-use Rattle.std.specs.Prelude.{ℕ, ◌≡◌, ◌≢◌, not, List, [], Option, None, Some, IfSome, IsSome, is_some}
+use Rattle.std.specs.Prelude.{ℕ, ◌≡◌, ◌≢◌, not, List, [], Option, None, IfSome, IsSome, is_some}
 use Rattle.nsq_base.specs.Name.{is_ephemeral}
 use Rattle.v2_frame.specs.declared.message.Message.{Message}
 use Rattle.backlog.specs.Seen.{Seen as Backlog, FitsLimit}

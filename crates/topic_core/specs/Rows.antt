@@ -14,7 +14,7 @@ use Rattle.backlog.specs.declared.answers.PutAll.{PutAll}
 use Rattle.backlog.specs.declared.answers.PutAll.TheVariants.{Done as AllDone, Fault as AllFault}
 use Rattle.backlog.specs.declared.answers.Flushed.{Flushed}
 use Rattle.backlog.specs.declared.answers.Flushed.TheVariants.{Done as FlushDone, Fault as FlushFault}
-use Rattle.broker_history.specs.State.{Waiting, Taken, Topic, new_topic, channel_names}
+use Rattle.broker_history.specs.State.{Waiting, Taken, Topic, channel_names}
 use Rattle.broker_history.specs.Found.{started}
 use Rattle.broker_history.specs.Left.{SameMessages, left_in_topic}
 use Rattle.broker_history.specs.Topics.{Fits, HasWaiting, Takes, put_message, owed_no_more}

@@ -5,8 +5,7 @@ use Rattle.nsq_base.specs.declared.options.Options.{Options}
 use Rattle.queue_files.specs.declared.options.QueueOptions.{QueueOptions}
 use Rattle.v2_frame.specs.declared.message.Message.{Message}
 use Rattle.backlog.specs.Seen.{Seen as Backlog, fresh_backlog, longest_body, room, IsOpenedAt}
-use Rattle.backlog.specs.declared.backlog.Lent.{Lent}
-use Rattle.backlog.specs.declared.backlog.Lent.TheVariants.{Nothing, OfRing, OfDisk}
+use Rattle.backlog.specs.declared.backlog.Lent.TheVariants.{Nothing}
 use Rattle.broker_history.specs.State.{Taken}
 
 -- a topic's queue: its name, whether it is paused, how many messages were put into it and not dropped, the backlog of those that wait, and

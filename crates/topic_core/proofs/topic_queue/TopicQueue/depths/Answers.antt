@@ -1,4 +1,4 @@
-use Rattle.std.proofs.Common.{◌≡◌, ◌+◌, None, ap, subst, arith}
+use Rattle.std.proofs.Common.{◌≡◌, None, ap, subst, arith}
 use Rattle.backlog.specs.Seen.{Seen as Backlog, ring_depth, disk_depth}
 use Rattle.backlog.specs.declared.backlog.Lent.TheVariants.{Nothing}
 use Rattle.topic_core.specs.Seen.{Seen}

@@ -1,4 +1,4 @@
-use Rattle.std.proofs.Common.{rules, ◌≡◌, List, Option, [], None, ap, subst, sym, ◌∙◌}
+use Rattle.std.proofs.Common.{rules, ◌≡◌, List, Option, None, ap, subst, sym, ◌∙◌}
 use Rattle.v2_frame.specs.declared.message.Message.{Message}
 use Rattle.backlog.specs.Seen.{Seen as Backlog, SameQueue, FlushSeen}
 use Rattle.backlog.specs.Lists.{OnDisk, Stands, DiskChanges, FlushFinds, disk_flushed}

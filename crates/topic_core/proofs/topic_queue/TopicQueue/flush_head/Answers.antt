@@ -1,10 +1,9 @@
-use Rattle.std.proofs.Common.{rules, ◌≡◌, ◌≢◌, ◌++◌, ◌∷◌, [], List, Option, map, ap, subst, sym, ◌∙◌, None, Some, arith, inl, inr}
+use Rattle.std.proofs.Common.{rules, ◌≡◌, ◌≢◌, Option, ap, subst, sym, ◌∙◌, None, Some, inl, inr}
 use Rattle.std.specs.Prelude.{IsSome}
 use Rattle.v2_frame.specs.declared.message.Message.{Message}
 use Rattle.backlog.specs.Seen.{Seen as Backlog, SameQueue}
 use Rattle.backlog.specs.Lists.{OnDisk, Stands, PutChanges, disk_after}
 use Rattle.backlog.specs.declared.answers.PutOne.TheVariants.{Fault}
-use Rattle.broker_history.specs.State.{Taken}
 use Rattle.topic_core.specs.Seen.{Seen, with_owed}
 use Rattle.topic_core.proofs.Saving.{head_behind, head_flushed, head_found, same_joined, disk_joined, put_changes, flush_rose}
 use Rattle.topic_core.proofs.topic_queue.TopicQueue.flush_head.Goals as goal
@@ -24,14 +23,14 @@ returns g c =
     let ring = ap (λ (b : Backlog). b.ring) same ∙ c.requires.empty in
     let lent = ap (λ (b : Backlog). b.lent) same ∙ c.requires.settled in
     let durable = subst (λ (b : Backlog). IsSome b.queue) (sym same) c.requires.durable in
-    let kept : (back : Message) → c.put.result ≢ Fault back = λ back e. elim c.in-Kept.is [ | inl f ↦ cc | inr f ↦ elim f [ | inl h ↦ cc | inr h ↦ cc ] ] in
+    let kept : (back : Message) → c.put.result ≢ Fault back = λ back e. elim c.in-Kept.is [ inl f ↦ cc | inr f ↦ elim f [ inl h ↦ cc | inr h ↦ cc ] ] in
     let view = c.self.view_is in
     let taken : inside.head ≡ Some m = search rules in
     let there : old.head ≡ Some (record { message = m; owed = inside.owed.items }) = ap (λ (q : Seen). q.head) (sym view) ∙ ap (λ (h : Option Message). with_owed h inside.owed.items) taken in
     let none : c.take.new.self ≡ None = search rules in
     let put_queue = subst (λ (b : Backlog). SameQueue b.queue b1.queue) same c.put.ensures.queue in
     let now : record { name = inside.name; paused = inside.paused; message_count = inside.message_count; backlog = b2; head = with_owed c.take.new.self c.clear.new.self.items } ≡ new =
-        ap (λ h. record { name = inside.name; paused = inside.paused; message_count = inside.message_count; backlog = b2; head = with_owed h c.clear.new.self.items }) none in
+    ap (λ h. record { name = inside.name; paused = inside.paused; message_count = inside.message_count; backlog = b2; head = with_owed h c.clear.new.self.items }) none in
     let is : new ≡ record old { backlog = b2; head = None } = ap (λ (q : Seen). record q { backlog = b2; head = None }) view in
     record {
       settled_now = c.flush.ensures.nothing_now;

@@ -1,4 +1,3 @@
-use Rattle.std.proofs.Common.{rules, sym}
 use Rattle.topic_core.proofs.Heads.{some_count, none_count}
 use Rattle.topic_core.proofs.topic_queue.TopicQueue.is_empty.Goals as goal
 

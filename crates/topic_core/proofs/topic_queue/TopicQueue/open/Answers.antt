@@ -1,4 +1,4 @@
-use Rattle.std.proofs.Common.{rules, ℕ, ◌≡◌, List, false, ap, subst, sym}
+use Rattle.std.proofs.Common.{rules, ℕ, ◌≡◌, List, false, subst, sym}
 use Rattle.disk_queue.specs.Opened.{FilesOfChange}
 use Rattle.nsq_base.specs.Name.{is_ephemeral}
 use Rattle.v2_frame.specs.declared.message.Message.{Message}

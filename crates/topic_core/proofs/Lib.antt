@@ -1,0 +1,4 @@
+pub mod Waiting
+pub mod Putting
+pub mod Heads
+pub mod Saving

@@ -1,0 +1,5 @@
+pub mod Seen
+pub mod Kept
+pub mod Rows
+pub mod Answers
+pub mod Deleting

@@ -301,7 +301,7 @@ impl Pair {
     fn agrees(&self) -> bool {
         let depths = self.topic.depths();
         let waiting = self.plain.waiting.len() as u128;
-        depths.ring as u128 + depths.disk == waiting
+        depths.disk.checked_add(depths.ring as u128) == Some(waiting)
             && self.topic.message_count() == self.plain.count
             && head_of(&self.topic) == self.plain.taken
             && owed_are(self.topic.owed(), &self.plain.owed)
@@ -365,7 +365,10 @@ fn head_of(topic: &TopicQueue) -> Option<(u64, u64)> {
         return None;
     };
     let number = u64::from_be_bytes(*number);
-    if message.stamp != 7 || message.attempts != 0 || message.id != MsgId::make(1, number % 1_000_000) {
+    if message.stamp != 7
+        || message.attempts != 0
+        || message.id != MsgId::make(1, number % 1_000_000)
+    {
         return None;
     }
     Some((number, message.delay))

@@ -71,7 +71,7 @@ const COMMAND: Row = Row {
     ..QUIET
 };
 
-const ENDINGS: [Row; 21] = [
+const ENDINGS: [Row; 11] = [
     QUIET,
     COMMAND,
     Row {
@@ -139,6 +139,10 @@ const ENDINGS: [Row; 21] = [
         ended: Ended::Closed,
         ..QUIET
     },
+];
+
+/// What comes between commands, faults and goings.
+const CLOSINGS: [Row; 10] = [
     Row {
         name: "a channel that is deleted before a command",
         script: b"bidg",
@@ -466,6 +470,15 @@ fn holds<R: Wait>(rt: &R, alloc: Global, row: &Row) -> Result<bool, Memory> {
 #[test]
 fn endings(rt: HostRuntime) -> Result<(), Fail> {
     for row in &ENDINGS {
+        let holds = holds(&rt, rt.alloc(), row)?;
+        assert!(rt; holds, "{}", row.name);
+    }
+    Ok(())
+}
+
+#[test]
+fn closings(rt: HostRuntime) -> Result<(), Fail> {
+    for row in &CLOSINGS {
         let holds = holds(&rt, rt.alloc(), row)?;
         assert!(rt; holds, "{}", row.name);
     }

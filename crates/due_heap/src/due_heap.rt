@@ -61,6 +61,13 @@ impl<T> DueHeap<T> {
         }
     }
 
+    /// How many items there are.
+    pub fn len(&self) -> usize
+        ensures { result ≡ length self.now.entries }
+    {
+        self.count
+    }
+
     /// Makes room, so that `n` more items go in without memory. After Memory nothing is lost, neither items nor room.
     ///
     /// All the room that it makes is written at once, so its time grows with that, and the insertions that follow are short.

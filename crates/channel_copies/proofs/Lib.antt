@@ -1,0 +1,4 @@
+pub mod Counts
+pub mod Heaps
+pub mod Indexing
+pub mod Soonest

@@ -1,0 +1,6 @@
+pub mod Clients
+pub mod Deferred
+pub mod Flights
+pub mod Index
+pub mod Putting
+pub mod Tally

@@ -120,11 +120,12 @@ impl Backlog {
         })
     }
 
-    /// How many messages wait, and where.
+    /// How many messages wait, and where. Their sum stays below 2^128.
     pub fn depths(&self) -> Depths
         ensures ring { result.ring ≡ ring_depth self.now }
         ensures disk { result.disk ≡ disk_depth self.now.queue }
         ensures within { result.ring ≤ self.now.capacity }
+        ensures fits { result.ring + result.disk < 2 ^ 128 }
     {
         let lent = match self.lent {
             Lent::OfRing => 1,

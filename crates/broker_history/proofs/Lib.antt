@@ -9,3 +9,4 @@ pub mod Credits
 pub mod Timing
 pub mod Starting
 pub mod Counting
+pub mod Scripting

@@ -16,3 +16,4 @@ pub mod Found
 pub mod Left
 pub mod Copies
 pub mod Laws
+pub mod Scripts

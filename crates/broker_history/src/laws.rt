@@ -1,6 +1,7 @@
 //! What follows from the definitions alone: each function's contract is a law, and its body is empty.
 
 ghost use Rattle.broker_history.specs.Laws.{HistoriesJoin, FrontsAreLegal, MomentsNeverFall, StopsAreOnce, FaultsAreApartButOne, OwnEntriesJoin, CommonEntriesAreNobodys, OnlyGonesTell, GonesTell, OthersAreNotGone, TalksStay, TalksWithoutGone, TalksWithGone, CopiesHaveOnePlace, SentWithinReady, TurnsHaveReadings, StartsFromFound, LiveMovesAreMoves, LiveJoinsAreJoins, LiveCountsAreCounts, KeptIsTaken};
+ghost use Rattle.broker_history.specs.Scripts.{TalksTakeCommandsInOrder, FinishedTalksTakeAll};
 
 /// Legal histories join, each front of one is legal, its moments never fall, it has one Stop at most, and of its disk faults at
 /// most one stands just before that.
@@ -23,6 +24,13 @@ pub fn connections()
     ensures stay { TalksStay }
     ensures without_gone { TalksWithoutGone }
     ensures with_gone { TalksWithGone }
+{}
+
+/// A conversation takes the commands of its bytes in order, however they come in rounds, and all of them where it comes to the end of
+/// the input.
+pub fn talks()
+    ensures in_order { TalksTakeCommandsInOrder }
+    ensures all { FinishedTalksTakeAll }
 {}
 
 /// A copy has one place, for as long as its channel is there, and each message is sent within its client's RDY.

@@ -87,9 +87,10 @@ impl Queue {
         })
     }
 
-    /// The number of records in the list.
+    /// The number of records in the list: below 2^127, since places in the files bound it.
     pub fn depth(&self) -> u128
-        ensures { result ≡ self.now.depth }
+        ensures told { result ≡ self.now.depth }
+        ensures fits { result < 2 ^ 127 }
     {
         self.depth
     }

@@ -3,6 +3,8 @@ use Rattle.std.specs.Prelude.{ℕ, ◌≡◌, ◌≢◌, ◌+◌, ◌-◌, ◌^�
 use Rattle.nsq_base.specs.Name.{is_ephemeral}
 use Rattle.nsq_base.specs.declared.options.Options.{Options}
 use Rattle.queue_files.specs.declared.options.QueueOptions.{QueueOptions}
+use Rattle.queue_opening.specs.declared.refusal.Open.{Open}
+use Rattle.queue_opening.specs.declared.refusal.Open.TheVariants.{Memory}
 use Rattle.v2_frame.specs.declared.message.Message.{Message}
 use Rattle.backlog.specs.Seen.{Seen as Backlog, fresh_backlog, longest_body, room, IsOpenedAt}
 use Rattle.backlog.specs.declared.backlog.Lent.TheVariants.{Nothing}
@@ -66,3 +68,7 @@ kept_of q messages = if is_ephemeral q.name then length (take (room q.backlog) m
 -- a count after so many more: counts stay at 2^64 - 1
 abbrev pub counted_by : ℕ → ℕ → ℕ
 counted_by count more = min (count + more) (2 ^ 64 - 1)
+
+-- an opening found no memory
+abbrev pub IsWant : Open → Type 0
+IsWant why = why ≡ Memory

@@ -410,7 +410,7 @@ fn message(alloc: Global, letter: u8) -> Result<Message, Memory>
     })
 }
 
-fn all_of(alloc: Global, letters: &[u8]) -> Result<Vec<Message>, Memory>
+pub fn all_of(alloc: Global, letters: &[u8]) -> Result<Vec<Message>, Memory>
     ensures { IfOk result (λ messages. All FitsLimit messages.items) }
 {
     let mut messages = Vec::new(alloc);
@@ -448,7 +448,7 @@ fn put(
 }
 
 // The answer, where no message is taken.
-fn take(
+pub fn take(
     alloc: Global,
     topic: &mut TopicQueue,
     folder: &mut MemFolder,
@@ -566,7 +566,7 @@ fn delete(
 }
 
 // Room for the longest message.
-fn scratch(alloc: Global) -> Result<Vec<u8>, Memory>
+pub fn scratch(alloc: Global) -> Result<Vec<u8>, Memory>
     ensures { IfOk result (λ bytes. length bytes.items ≡ 16777242) }
 {
     Ok(vec![in alloc; 0; 16_777_242]?)

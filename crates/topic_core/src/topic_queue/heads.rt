@@ -6,7 +6,7 @@ ghost use Rattle.backlog.specs.declared.backlog.Lent.TheVariants.{OfRing};
 ghost use Rattle.broker_history.specs.State.{Topic as StateTopic};
 ghost use Rattle.broker_history.specs.Topics.{owed_no_more, is_owed};
 ghost use Rattle.topic_core.specs.Seen.{IsDrawn, IsSettled};
-ghost use Rattle.topic_core.specs.Answers.{HeadSeen, HeadLends, HeadFails};
+ghost use Rattle.topic_core.specs.Answers.{HeadSeen, HeadLends, HeadFails, HeadCounts};
 ghost use Rattle.topic_core.specs.Rows.{IsTopicOf, Becomes, Stays, HeadGives, TakesHead, Took, MayTake, paid_in};
 
 use super::TopicQueue;
@@ -40,6 +40,7 @@ impl TopicQueue {
         ensures same { IsTrue F.tells_files → SameFiles (F.files folder.old) (F.files folder.new) }
         ensures faults { F.folder_faults folder.old ≤ F.folder_faults folder.new }
         ensures cause { HeadFails (F.folder_faults folder.old) (F.folder_faults folder.new) result }
+        ensures exact { IsTrue F.counts_exactly → HeadCounts (F.folder_faults folder.old) (F.folder_faults folder.new) result }
     {
         if self.is_empty() {
             return Head::Empty;

@@ -29,6 +29,11 @@ abbrev pub owed_of : Option Taken → List (List ℕ)
 owed_of None = []
 owed_of (Some head) = head.owed
 
+-- the head with this message in place of its own
+abbrev pub with_message : Message → Option Taken → Option Taken
+with_message message None = None
+with_message message (Some head) = Some (record head { message = message })
+
 -- the head is drawn: it is still the first of those that wait, until it is settled or undone
 abbrev pub IsDrawn : Seen → Type 0
 IsDrawn q = q.backlog.lent ≢ Nothing

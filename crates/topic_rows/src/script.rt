@@ -471,7 +471,7 @@ pub fn take(
     Ok(Some(answer))
 }
 
-fn undo(
+pub fn undo(
     alloc: Global,
     topic: &mut TopicQueue,
     folder: &mut MemFolder,
@@ -504,7 +504,7 @@ fn head(topic: &TopicQueue) -> Option<(u8, u64)> {
 }
 
 // Whether the channel was owed a copy. Then it is paid.
-fn pay(topic: &mut TopicQueue, letter: u8) -> bool
+pub fn pay(topic: &mut TopicQueue, letter: u8) -> bool
     requires settled { IsSettled topic.old }
     ensures settled_now { IsSettled topic.new }
 {
@@ -518,7 +518,7 @@ fn pay(topic: &mut TopicQueue, letter: u8) -> bool
     true
 }
 
-fn forget(topic: &mut TopicQueue, letter: u8) -> bool
+pub fn forget(topic: &mut TopicQueue, letter: u8) -> bool
     requires settled { IsSettled topic.old }
     ensures settled_now { IsSettled topic.new }
 {
@@ -529,7 +529,7 @@ fn forget(topic: &mut TopicQueue, letter: u8) -> bool
     true
 }
 
-fn open(
+pub fn open(
     alloc: Global,
     topic: &mut TopicQueue,
     folder: &mut MemFolder,

@@ -162,7 +162,13 @@ fn reopens(
 ) -> Result<bool, Memory> {
     let before = image(alloc, folder)?;
     match TopicQueue::open(alloc, folder, name, options) {
-        Ok(topic) => return Ok(topic.depths() == Depths { ring: 0, disk: left }),
+        Ok(topic) => return Ok(
+            topic.depths()
+                == Depths {
+                    ring: 0,
+                    disk: left,
+                },
+        ),
         Err(Open::Memory) => {
             if image(alloc, folder)?.as_slice() != before.as_slice() {
                 return Ok(false);
@@ -172,7 +178,13 @@ fn reopens(
         Err(Open::BadMeta) => return Ok(false),
     }
     match TopicQueue::open(alloc, folder, name, options) {
-        Ok(topic) => Ok(topic.depths() == Depths { ring: 0, disk: left }),
+        Ok(topic) => Ok(
+            topic.depths()
+                == Depths {
+                    ring: 0,
+                    disk: left,
+                },
+        ),
         Err(_) => Ok(false),
     }
 }
@@ -197,8 +209,10 @@ fn holds(alloc: Global, scratch: &mut [u8], row: &Row) -> Result<bool, Memory>
     if !flushes(&mut topic, &mut folder, scratch) {
         return Ok(false);
     }
-    Ok(is_refused(alloc, &mut folder, name)?
-        && reopens(alloc, &mut folder, name, &options, row.left)?)
+    Ok(
+        is_refused(alloc, &mut folder, name)?
+            && reopens(alloc, &mut folder, name, &options, row.left)?,
+    )
 }
 
 // Room for the longest message.

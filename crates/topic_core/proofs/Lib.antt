@@ -2,3 +2,4 @@ pub mod Waiting
 pub mod Putting
 pub mod Heads
 pub mod Saving
+pub mod Keeping

@@ -1,7 +1,7 @@
 -- What the calls of a topic's queue change of it, by their answers, and when they fail.
-use Rattle.std.specs.Prelude.{ℕ, ◌≡◌, ◌≢◌, ◌⊎◌, List, [], ◌++◌, map, false, MatchBool, Some, None}
+use Rattle.std.specs.Prelude.{ℕ, ◌≡◌, ◌≢◌, ◌⊎◌, List, [], ◌++◌, map, true, false, MatchBool, Some, None}
 use Rattle.nsq_base.specs.Name.{is_ephemeral}
-use Rattle.nsq_outside.specs.Causes.{Rose}
+use Rattle.nsq_outside.specs.Causes.{Rose, CountsFault}
 use Rattle.nsq_outside.specs.Files.{Files}
 use Rattle.v2_frame.specs.declared.message.Message.{Message}
 use Rattle.backlog.specs.Seen.{DrawSeen, PutAllSeen, QueueIsSaved}
@@ -62,6 +62,14 @@ HeadFails before now head.Empty = Unit {0}
 HeadFails before now head.Fault = Rose before now
 HeadFails before now head.Damaged = Unit {0}
 HeadFails before now head.Memory = Unit {0}
+
+-- a fault is counted, and nothing else
+abbrev pub HeadCounts : ℕ → ℕ → Head → Type 0
+HeadCounts before now head.Ready = CountsFault before now false
+HeadCounts before now head.Empty = CountsFault before now false
+HeadCounts before now head.Fault = CountsFault before now true
+HeadCounts before now head.Damaged = CountsFault before now false
+HeadCounts before now head.Memory = CountsFault before now false
 
 -- all that a durable topic had in memory is on disk, and saved: nothing is taken any more
 pub record FlushesAll (old new : Seen) : Type 0 where

@@ -3,3 +3,4 @@ pub mod Kept
 pub mod Rows
 pub mod Answers
 pub mod Deleting
+pub mod Laws

@@ -3,6 +3,8 @@ use Rattle.std.specs.Prelude.{ℕ, ◌≡◌, ◌≢◌, ◌+◌, ◌-◌, ◌^�
 use Rattle.nsq_base.specs.Name.{is_ephemeral}
 use Rattle.nsq_base.specs.declared.options.Options.{Options}
 use Rattle.queue_files.specs.declared.options.QueueOptions.{QueueOptions}
+use Rattle.queue_opening.specs.declared.refusal.Open.{Open}
+use Rattle.queue_opening.specs.declared.refusal.Open.TheVariants.{Memory}
 use Rattle.v2_frame.specs.declared.message.Message.{Message}
 use Rattle.backlog.specs.Seen.{Seen as Backlog, fresh_backlog, longest_body, room, IsOpenedAt}
 use Rattle.backlog.specs.declared.backlog.Lent.TheVariants.{Nothing}
@@ -26,6 +28,11 @@ with_owed (Some message) owed = Some (record { message = message; owed = owed })
 abbrev pub owed_of : Option Taken → List (List ℕ)
 owed_of None = []
 owed_of (Some head) = head.owed
+
+-- the head with this message in place of its own
+abbrev pub with_message : Message → Option Taken → Option Taken
+with_message message None = None
+with_message message (Some head) = Some (record head { message = message })
 
 -- the head is drawn: it is still the first of those that wait, until it is settled or undone
 abbrev pub IsDrawn : Seen → Type 0
@@ -66,3 +73,7 @@ kept_of q messages = if is_ephemeral q.name then length (take (room q.backlog) m
 -- a count after so many more: counts stay at 2^64 - 1
 abbrev pub counted_by : ℕ → ℕ → ℕ
 counted_by count more = min (count + more) (2 ^ 64 - 1)
+
+-- an opening found no memory
+abbrev pub IsWant : Open → Type 0
+IsWant why = why ≡ Memory

@@ -1,16 +1,16 @@
-ghost use Rattle.std.specs.Prelude.{◌≡◌, ◌≤◌, ◌+◌, List, length, true, false, None, IsTrue, IfOk, IfErr, option_map, option_copied};
+ghost use Rattle.std.specs.Prelude.{◌≡◌, ◌≢◌, ◌≤◌, ◌<◌, ◌+◌, ◌^◌, List, [], length, true, false, None, IsTrue, IsSome, IfSome, IfOk, IfErr, option_map, option_copied};
 ghost use Rattle.nsq_base.specs.Name.{is_ephemeral};
 ghost use Rattle.nsq_outside.specs.Files.{Files};
 ghost use Rattle.queue_image.specs.FileNames.{meta_file};
 ghost use Rattle.queue_image.specs.Metas.{IsIdle};
-ghost use Rattle.disk_queue.specs.Opened.{FilesOfChange};
+ghost use Rattle.disk_queue.specs.Opened.{FilesOfChange, IsTidied};
 ghost use Rattle.queue_opening.specs.Refusals.{OpenFails};
 ghost use Rattle.v2_frame.specs.declared.message.Message.{Message};
-ghost use Rattle.backlog.specs.Seen.{ForMessages, ring_depth, disk_depth};
+ghost use Rattle.backlog.specs.Seen.{ForMessages, FitsLimit, ring_depth, disk_depth};
 ghost use Rattle.backlog.specs.Lists.{Stands, OpenRefused};
 ghost use Rattle.backlog.specs.declared.backlog.Lent.TheVariants.{Nothing};
 ghost use Rattle.broker_history.specs.State.{Topic as StateTopic, new_topic, is_empty};
-ghost use Rattle.topic_core.specs.Seen.{fresh_topic, queue_options, owed_of, IsSettled, IsOpenedTopic};
+ghost use Rattle.topic_core.specs.Seen.{fresh_topic, queue_options, owed_of, IsDrawn, IsSettled, IsOpenedTopic, IsWant};
 ghost use Rattle.topic_core.specs.Kept.{IsNamed};
 ghost use Rattle.topic_core.specs.Rows.{IsTopicOf, Becomes, FindsMessages, found_topic, paused_in};
 
@@ -75,7 +75,7 @@ impl TopicQueue {
     }
 
     /// A topic with the messages that an opening finds in its queue on disk, which all wait there. An ephemeral one is made as by
-    /// `fresh`. Errors are those of `Backlog::open`.
+    /// `fresh`, without a look at the folder. Errors are those of `Backlog::open`.
     pub fn open<F: Folder>(
         alloc: Global,
         folder: &mut F,
@@ -85,6 +85,8 @@ impl TopicQueue {
         ensures seen { IfOk result (IsOpenedTopic name options.now) }
         ensures row { IsTrue F.tells_files → IfOk result (λ q. (messages : List Message) → FindsMessages (F.files folder.old) name messages → IsTopicOf q (F.files folder.new) (found_topic name messages)) }
         ensures stands { IsTrue F.tells_files → IfOk result (λ q. Stands q.backlog.queue (F.files folder.new)) }
+        ensures tidied { IsTrue F.tells_files → IfOk result (λ q. IfSome q.backlog.queue (λ disk. IsTidied disk (F.files folder.old) (F.files folder.new))) }
+        ensures ephemeral { is_ephemeral name ≡ true → (folder.new ≡ folder.old) × IfErr result IsWant }
         ensures refused { IsTrue F.tells_files → IfErr result (λ e. OpenRefused name (F.files folder.old) (F.files folder.new) e) }
         ensures others { IsTrue F.tells_files → FilesOfChange name (F.files folder.old) (F.files folder.new) }
         ensures faults { F.folder_faults folder.old ≤ F.folder_faults folder.new }
@@ -151,11 +153,12 @@ impl TopicQueue {
     }
 
     /// How many messages wait, and where: the taken one isn't among them, one that is only drawn is. The ring has at most
-    /// `mem_queue_size` of them, and an ephemeral topic none on disk.
+    /// `mem_queue_size` of them, and an ephemeral topic none on disk. Their sum stays below 2^128.
     pub fn depths(&self) -> Depths
         ensures ring { result.ring ≡ ring_depth self.now.backlog }
         ensures disk { result.disk ≡ disk_depth self.now.backlog.queue }
         ensures within { result.ring ≤ self.now.backlog.capacity }
+        ensures fits { result.ring + result.disk < 2 ^ 128 }
         ensures ephemeral { is_ephemeral self.now.name ≡ true → result.disk ≡ 0 }
         ensures row { (files : Files) (t : StateTopic) → IsTopicOf self.now files t → result.ring + result.disk ≡ length t.waiting }
     {
@@ -173,16 +176,19 @@ impl TopicQueue {
         depths.disk == 0
     }
 
-    /// The message that is drawn or taken.
+    /// The message that is drawn or taken. Its body has at most 16,777,216 bytes.
     pub fn head(&self) -> Option<&Message>
-        ensures { option_copied result ≡ option_map (λ head. head.message) self.now.head }
+        ensures value { option_copied result ≡ option_map (λ head. head.message) self.now.head }
+        ensures short { IfSome self.now.head (λ head. FitsLimit head.message) }
+        ensures drawn { IsDrawn self.now → IsSome self.now.head }
     {
         self.head.as_ref()
     }
 
-    /// The channels that are owed a copy of it, in the order in which `take_head` was given them.
+    /// The channels that are owed a copy of it, in the order in which `take_head` was given them: at least one where there is a head.
     pub fn owed(&self) -> &[Chan]
-        ensures { result.now ≡ owed_of self.now.head }
+        ensures value { result.now ≡ owed_of self.now.head }
+        ensures some { IfSome self.now.head (λ head. head.owed ≢ []) }
     {
         &self.owed
     }

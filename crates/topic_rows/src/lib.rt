@@ -7,3 +7,5 @@ mod plain;
 mod random;
 #[cfg(test)]
 mod script;
+#[cfg(test)]
+mod wanting;

@@ -1,12 +1,13 @@
 //! Random calls of a topic's queue, beside the plain list: after each call what it answers and what it shows is what the list says.
 
-ghost use Rattle.std.specs.Prelude.{◌≡◌, ◌≤◌, All, length, IfOk, OnOk};
+ghost use Rattle.std.specs.Prelude.{◌≡◌, ◌≤◌, All, length, IfOk};
 ghost use Rattle.backlog.specs.Seen.{FitsLimit};
 ghost use Rattle.topic_core.specs.Seen.{IsSettled};
 
 use crate::plain::Plain;
+use crate::script::{forget, open, pay, scratch, take, undo};
 use backlog::{Flushed, PutAll};
-use disk_queue::{Emptied, Open};
+use disk_queue::Emptied;
 use nsq_base::{Body, Chan, Memory, MsgId, Options, Topic};
 use nsq_fakes::{Failing, FolderCall, MemFolder};
 use std::alloc::Global;
@@ -106,9 +107,9 @@ impl Pair {
             0..=11 => self.put(alloc, scratch)?,
             12..=17 => self.take(alloc, scratch)?,
             18..=19 => self.undo(alloc, scratch)?,
-            20..=27 => self.pay()?,
-            28..=29 => self.forget()?,
-            30 => self.empty()?,
+            20..=27 => self.pay(),
+            28..=29 => self.forget(),
+            30 => self.empty(),
             _ => self.restart(alloc, scratch)?,
         };
         Ok(right && self.agrees())
@@ -143,25 +144,25 @@ impl Pair {
         ensures settled_now { IsSettled self.new.topic }
     {
         let letters = self.letters(alloc)?;
-        let channels = channels_of(alloc, &letters)?;
-        if channels.is_empty() || self.topic.head().is_some() {
-            return Ok(self.plain.taken.is_some());
+        match take(alloc, &mut self.topic, &mut self.folder, scratch, &letters)? {
+            None => Ok(self.plain.taken.is_some()),
+            Some(Head::Ready) => self.took(&letters),
+            Some(Head::Empty) => Ok(self.plain.waiting.is_empty()),
+            Some(Head::Fault) => Ok(self.fails && !self.plain.waiting.is_empty()),
+            Some(Head::Damaged) => Ok(false),
+            Some(Head::Memory) => Err(Memory),
         }
-        match self.topic.take_head(&mut self.folder, scratch, &channels) {
-            Head::Ready => {
-                let drawn = head_of(&self.topic);
-                self.topic.settle_head(&mut self.folder);
-                let Some((number, delay)) = drawn else {
-                    return Ok(false);
-                };
-                self.plain.take(number, delay, &letters)?;
-                Ok(self.plain.draw(number, delay))
-            }
-            Head::Empty => Ok(self.plain.waiting.is_empty()),
-            Head::Fault => Ok(self.fails && !self.plain.waiting.is_empty()),
-            Head::Damaged => Ok(false),
-            Head::Memory => Err(Memory),
-        }
+    }
+
+    // The message that was taken, which these channels are owed, is taken from the list.
+    fn took(&mut self, letters: &[u8]) -> Result<bool, Memory>
+        ensures topic { self.new.topic ≡ self.old.topic }
+    {
+        let Some((number, delay)) = head_of(&self.topic) else {
+            return Ok(false);
+        };
+        self.plain.take(number, delay, letters)?;
+        Ok(self.plain.draw(number, delay))
     }
 
     // A message is drawn, where none is taken, and put back.
@@ -171,100 +172,78 @@ impl Pair {
         ensures settled_now { IsSettled self.new.topic }
     {
         let letters = self.letters(alloc)?;
-        let channels = channels_of(alloc, &letters)?;
-        if channels.is_empty() || self.topic.head().is_some() {
-            return Ok(self.plain.taken.is_some());
-        }
-        match self.topic.take_head(&mut self.folder, scratch, &channels) {
-            Head::Ready => {
-                self.topic.undo_head();
-                Ok(!self.plain.waiting.is_empty())
-            }
-            Head::Empty => Ok(self.plain.waiting.is_empty()),
-            Head::Fault => Ok(self.fails && !self.plain.waiting.is_empty()),
-            Head::Damaged => Ok(false),
-            Head::Memory => Err(Memory),
+        match undo(alloc, &mut self.topic, &mut self.folder, scratch, &letters)? {
+            None => Ok(self.plain.taken.is_some()),
+            Some(Head::Ready) => Ok(!self.plain.waiting.is_empty()),
+            Some(Head::Empty) => Ok(self.plain.waiting.is_empty()),
+            Some(Head::Fault) => Ok(self.fails && !self.plain.waiting.is_empty()),
+            Some(Head::Damaged) => Ok(false),
+            Some(Head::Memory) => Err(Memory),
         }
     }
 
     // A channel is paid, where it is owed a copy.
-    fn pay(&mut self) -> Result<bool, Memory>
+    fn pay(&mut self) -> bool
         requires settled { IsSettled self.old.topic }
         ensures settled_now { IsSettled self.new.topic }
     {
         let letter = self.letter();
-        let Some(channel) = Chan::read(&[letter]) else {
-            return Ok(false);
-        };
-        if self.topic.owed().contains(&channel) {
-            self.topic.paid(channel);
+        let owed = self.plain.owed.contains(&letter);
+        if owed {
             self.plain.pay(letter);
         }
-        Ok(true)
+        pay(&mut self.topic, letter) == owed
     }
 
     // A channel is gone.
-    fn forget(&mut self) -> Result<bool, Memory>
+    fn forget(&mut self) -> bool
         requires settled { IsSettled self.old.topic }
         ensures settled_now { IsSettled self.new.topic }
     {
         let letter = self.letter();
-        let Some(channel) = Chan::read(&[letter]) else {
-            return Ok(false);
-        };
-        self.topic.forget_channel(channel);
         self.plain.pay(letter);
-        Ok(true)
+        forget(&mut self.topic, letter)
     }
 
-    fn empty(&mut self) -> Result<bool, Memory>
+    fn empty(&mut self) -> bool
         requires settled { IsSettled self.old.topic }
         ensures settled_now { IsSettled self.new.topic }
     {
         match self.topic.empty(&mut self.folder) {
             Emptied::Done => {
                 self.plain.waiting.clear();
-                Ok(true)
+                true
             }
-            Emptied::Fault => Ok(self.fails),
+            Emptied::Fault => self.fails,
         }
     }
 
-    // A durable topic is flushed and opened again. Where that fails once, it is tried again.
+    // A durable topic is flushed and opened again. Where that fails it is tried again.
     fn restart(&mut self, alloc: Global, scratch: &mut [u8]) -> Result<bool, Memory>
         requires settled { IsSettled self.old.topic }
         requires scratch { 16777242 ≤ length scratch.old }
         ensures settled_now { IsSettled self.new.topic }
     {
-        let name = self.topic.name();
-        if name.ephemeral() {
+        if self.topic.name().ephemeral() {
             return Ok(true);
         }
         for _ in 0..100 {
             match self.topic.flush(&mut self.folder, scratch) {
-                Flushed::Done => {
-                    return self.reopen(alloc, name);
-                }
+                Flushed::Done => return self.reopen(alloc),
                 Flushed::Fault => {}
             }
         }
         Ok(false)
     }
 
-    fn reopen(&mut self, alloc: Global, name: Topic) -> Result<bool, Memory>
+    fn reopen(&mut self, alloc: Global) -> Result<bool, Memory>
         requires settled { IsSettled self.old.topic }
         ensures settled_now { IsSettled self.new.topic }
     {
         for _ in 0..100 {
-            match TopicQueue::open(alloc, &mut self.folder, name, &self.options) {
-                Ok(opened) => {
-                    self.topic = opened;
-                    self.plain.restart()?;
-                    return Ok(true);
-                }
-                Err(Open::Memory) => return Err(Memory),
-                Err(Open::Fault) => {}
-                Err(Open::BadMeta) => return Ok(false),
+            if open(alloc, &mut self.topic, &mut self.folder, &self.options)? {
+                self.plain.restart()?;
+                return Ok(true);
             }
         }
         Ok(false)
@@ -348,16 +327,6 @@ fn messages_of(alloc: Global, first: u64, count: u64) -> Result<Vec<Message>, Me
     Ok(messages)
 }
 
-fn channels_of(alloc: Global, letters: &[u8]) -> Result<Vec<Chan>, Memory> {
-    let mut channels = Vec::new(alloc);
-    for letter in letters {
-        if let Some(channel) = Chan::read(&[*letter]) {
-            channels.push(channel)?;
-        }
-    }
-    Ok(channels)
-}
-
 // The number and the delay of the head.
 fn head_of(topic: &TopicQueue) -> Option<(u64, u64)> {
     let message = topic.head()?;
@@ -400,13 +369,6 @@ fn holds(alloc: Global, scratch: &mut [u8], run: &Run) -> Result<bool, Memory>
         }
     }
     Ok(true)
-}
-
-// Room for the longest message.
-fn scratch(alloc: Global) -> Result<Vec<u8>, Memory>
-    ensures { IfOk result (λ bytes. length bytes.items ≡ 16777242) }
-{
-    Ok(vec![in alloc; 0; 16_777_242]?)
 }
 
 #[test]

@@ -410,7 +410,7 @@ fn message(alloc: Global, letter: u8) -> Result<Message, Memory>
     })
 }
 
-fn all_of(alloc: Global, letters: &[u8]) -> Result<Vec<Message>, Memory>
+pub fn all_of(alloc: Global, letters: &[u8]) -> Result<Vec<Message>, Memory>
     ensures { IfOk result (λ messages. All FitsLimit messages.items) }
 {
     let mut messages = Vec::new(alloc);
@@ -448,7 +448,7 @@ fn put(
 }
 
 // The answer, where no message is taken.
-fn take(
+pub fn take(
     alloc: Global,
     topic: &mut TopicQueue,
     folder: &mut MemFolder,
@@ -471,7 +471,7 @@ fn take(
     Ok(Some(answer))
 }
 
-fn undo(
+pub fn undo(
     alloc: Global,
     topic: &mut TopicQueue,
     folder: &mut MemFolder,
@@ -504,7 +504,7 @@ fn head(topic: &TopicQueue) -> Option<(u8, u64)> {
 }
 
 // Whether the channel was owed a copy. Then it is paid.
-fn pay(topic: &mut TopicQueue, letter: u8) -> bool
+pub fn pay(topic: &mut TopicQueue, letter: u8) -> bool
     requires settled { IsSettled topic.old }
     ensures settled_now { IsSettled topic.new }
 {
@@ -518,7 +518,7 @@ fn pay(topic: &mut TopicQueue, letter: u8) -> bool
     true
 }
 
-fn forget(topic: &mut TopicQueue, letter: u8) -> bool
+pub fn forget(topic: &mut TopicQueue, letter: u8) -> bool
     requires settled { IsSettled topic.old }
     ensures settled_now { IsSettled topic.new }
 {
@@ -529,7 +529,7 @@ fn forget(topic: &mut TopicQueue, letter: u8) -> bool
     true
 }
 
-fn open(
+pub fn open(
     alloc: Global,
     topic: &mut TopicQueue,
     folder: &mut MemFolder,
@@ -566,7 +566,7 @@ fn delete(
 }
 
 // Room for the longest message.
-fn scratch(alloc: Global) -> Result<Vec<u8>, Memory>
+pub fn scratch(alloc: Global) -> Result<Vec<u8>, Memory>
     ensures { IfOk result (λ bytes. length bytes.items ≡ 16777242) }
 {
     Ok(vec![in alloc; 0; 16_777_242]?)

@@ -1,12 +1,12 @@
-ghost use Rattle.std.specs.Prelude.{◌≡◌, ◌≢◌, ◌≤◌, [], List, true, length, IsTrue, IfSome, None};
+ghost use Rattle.std.specs.Prelude.{◌≡◌, ◌≢◌, ◌≤◌, [], List, true, length, IsTrue, IsSome, IfSome, Some, None, option_map};
 ghost use Rattle.nsq_outside.specs.Files.{Files, SameFiles};
-ghost use Rattle.backlog.specs.Seen.{SameQueue, SettleSeen, undone};
+ghost use Rattle.backlog.specs.Seen.{SameQueue, SettleSeen, FitsLimit, undone};
 ghost use Rattle.backlog.specs.Lists.{Stands, DiskChanges};
 ghost use Rattle.backlog.specs.declared.backlog.Lent.TheVariants.{OfRing};
 ghost use Rattle.broker_history.specs.State.{Topic as StateTopic};
 ghost use Rattle.broker_history.specs.Topics.{owed_no_more, is_owed};
-ghost use Rattle.topic_core.specs.Seen.{IsDrawn, IsSettled};
-ghost use Rattle.topic_core.specs.Answers.{HeadSeen, HeadLends, HeadFails};
+ghost use Rattle.topic_core.specs.Seen.{IsDrawn, IsSettled, with_message};
+ghost use Rattle.topic_core.specs.Answers.{HeadSeen, HeadLends, HeadFails, HeadCounts};
 ghost use Rattle.topic_core.specs.Rows.{IsTopicOf, Becomes, Stays, HeadGives, TakesHead, Took, MayTake, paid_in};
 
 use super::TopicQueue;
@@ -40,6 +40,7 @@ impl TopicQueue {
         ensures same { IsTrue F.tells_files → SameFiles (F.files folder.old) (F.files folder.new) }
         ensures faults { F.folder_faults folder.old ≤ F.folder_faults folder.new }
         ensures cause { HeadFails (F.folder_faults folder.old) (F.folder_faults folder.new) result }
+        ensures exact { IsTrue F.counts_exactly → HeadCounts (F.folder_faults folder.old) (F.folder_faults folder.new) result }
     {
         if self.is_empty() {
             return Head::Empty;
@@ -92,6 +93,21 @@ impl TopicQueue {
         };
         self.owed.clear();
         self.backlog.undo(message);
+    }
+
+    /// Exchanges the head's message with this one, so that it can be lent without a copy of its body. Requires a head, and a body of at
+    /// most 16,777,216 bytes.
+    pub fn swap_head(&mut self, message: &mut Message)
+        requires head { IsSome self.old.head }
+        requires short { FitsLimit message.old }
+        ensures out { option_map (λ head. head.message) self.old.head ≡ Some message.new }
+        ensures into { self.new ≡ record self.old { head = with_message message.old self.old.head } }
+        ensures short_now { FitsLimit message.new }
+    {
+        let Some(head) = &mut self.head else {
+            unreachable!()
+        };
+        std::mem::swap(head, message);
     }
 
     /// The channel got its copy: it is owed none any more, and with the last owed channel the head goes. Requires that it is owed one,

@@ -1,10 +1,12 @@
-ghost use Rattle.std.specs.Prelude.{◌≡◌, ◌≤◌, List, [], length, IsTrue, IsSome};
-ghost use Rattle.disk_queue.specs.Answers.{SyncFails};
+ghost use Rattle.std.specs.Prelude.{◌≡◌, ◌≤◌, List, [], length, true, IsTrue, IsSome};
+ghost use Rattle.nsq_base.specs.Name.{is_ephemeral};
+ghost use Rattle.disk_queue.specs.Answers.{SyncFails, SyncCounts};
 ghost use Rattle.v2_frame.specs.declared.message.Message.{Message};
 ghost use Rattle.backlog.specs.Seen.{SyncSeen, EmptySeen, SameQueue};
 ghost use Rattle.backlog.specs.Lists.{OnDisk, Stands, DiskChanges, SyncFinds, EmptyFinds};
-ghost use Rattle.backlog.specs.Answers.{FlushFails, EmptyFails};
-ghost use Rattle.backlog.specs.Deleting.{DeleteStands, DeleteFinds, DeleteGone, DeleteFails};
+ghost use Rattle.backlog.specs.Answers.{FlushFails, EmptyFails, EmptyCounts};
+ghost use Rattle.backlog.specs.Deleting.{DeleteStands, DeleteFinds, DeleteGone, DeleteFails, DeleteCounts};
+ghost use Rattle.backlog.specs.declared.answers.Flushed.TheVariants.{Done as FlushDone};
 ghost use Rattle.broker_history.specs.State.{Topic as StateTopic};
 ghost use Rattle.topic_core.specs.Seen.{IsSettled};
 ghost use Rattle.topic_core.specs.Answers.{FlushFindsAll, DurableFindsAll, FlushesTopic, FlushesHead};
@@ -33,6 +35,7 @@ impl TopicQueue {
         ensures others { IsTrue F.tells_files → DiskChanges self.old.backlog.queue (F.files folder.old) (F.files folder.new) }
         ensures faults { F.folder_faults folder.old ≤ F.folder_faults folder.new }
         ensures cause { EmptyFails (F.folder_faults folder.old) (F.folder_faults folder.new) self.new.backlog.queue result }
+        ensures exact { IsTrue F.counts_exactly → EmptyCounts (F.folder_faults folder.old) (F.folder_faults folder.new) self.new.backlog.queue result }
     {
         self.backlog.empty(folder)
     }
@@ -50,13 +53,14 @@ impl TopicQueue {
         ensures others { IsTrue F.tells_files → DiskChanges self.old.backlog.queue (F.files folder.old) (F.files folder.new) }
         ensures faults { F.folder_faults folder.old ≤ F.folder_faults folder.new }
         ensures cause { SyncFails (F.folder_faults folder.old) (F.folder_faults folder.new) result }
+        ensures exact { IsTrue F.counts_exactly → SyncCounts (F.folder_faults folder.old) (F.folder_faults folder.new) result }
     {
         self.backlog.sync(folder)
     }
 
     /// Writes what a durable topic has in memory behind what is on disk, and saves: first the messages that wait, in their order, then a
-    /// head that is owed, which is taken no more. Delays are not written. Nothing changes in an ephemeral topic. After a fault a part of
-    /// them may be on disk. They are written by way of `scratch`. Requires that nothing is drawn, and 16,777,242
+    /// head that is owed, which is taken no more. Delays are not written. In an ephemeral topic nothing changes, and nothing fails. After a
+    /// fault a part of them may be on disk. They are written by way of `scratch`. Requires that nothing is drawn, and 16,777,242
     /// bytes of `scratch`.
     pub fn flush<F: Folder>(&mut self, folder: &mut F, scratch: &mut [u8]) -> Flushed
         requires settled { IsSettled self.old }
@@ -64,6 +68,7 @@ impl TopicQueue {
         ensures settled_now { IsSettled self.new }
         ensures queue { SameQueue self.old.backlog.queue self.new.backlog.queue }
         ensures seen { FlushesTopic self.old self.new result }
+        ensures ephemeral { is_ephemeral self.old.name ≡ true → (folder.new ≡ folder.old) × (result ≡ FlushDone) }
         ensures row { IsTrue F.tells_files → (t : StateTopic) → IsTopicOf self.old (F.files folder.old) t → Stands self.old.backlog.queue (F.files folder.old) → FlushLeaves (F.files folder.new) t result }
         ensures found { IsTrue F.tells_files → (disk : List Message) → OnDisk self.old.backlog.queue (F.files folder.old) disk → Stands self.old.backlog.queue (F.files folder.old) → DurableFindsAll self.old self.new (F.files folder.new) disk result }
         ensures stands { IsTrue F.tells_files → Stands self.old.backlog.queue (F.files folder.old) → Stands self.new.backlog.queue (F.files folder.new) }
@@ -126,6 +131,7 @@ impl TopicQueue {
         ensures others { IsTrue F.tells_files → DiskChanges self.backlog.queue (F.files folder.old) (F.files folder.new) }
         ensures faults { F.folder_faults folder.old ≤ F.folder_faults folder.new }
         ensures cause { DeleteFails (F.folder_faults folder.old) (F.folder_faults folder.new) (backlog_gone result) }
+        ensures exact { IsTrue F.counts_exactly → DeleteCounts (F.folder_faults folder.old) (F.folder_faults folder.new) (backlog_gone result) }
     {
         let TopicQueue {
             name,

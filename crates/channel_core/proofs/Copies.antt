@@ -1,10 +1,9 @@
 -- How a channel's copies are counted, by where they are.
-use Rattle.std.proofs.Common.{◌≡◌, ℕ, ◌+◌, ◌≤◌, ◌<◌, Bool, true, false, nat_eq, nat_le, ◌&&◌, List, [], ◌∷◌, ◌++◌, map, length, refl, sym, ap, ◌∙◌, subst, arith}
+use Rattle.std.proofs.Common.{◌≡◌, ℕ, ◌+◌, Bool, nat_le, ◌&&◌, List, ◌++◌, map, length, arith}
 use Rattle.std.specs.List.{count_by}
 use Rattle.std.specs.Str.{bytes_eq}
 use Rattle.v2_frame.specs.declared.message.Message.{Message}
-use Rattle.broker_history.specs.State.{Copy, Place, Queued, InFlight, Deferred, is_queued, is_in_flight, is_deferred, is_with, is_due, queued, in_flight, deferred, flying, flying_of, flying_with}
-use Rattle.broker_history.specs.Channels.{one}
+use Rattle.broker_history.specs.State.{Copy, is_queued, is_in_flight, is_deferred, is_with, is_due, queued, in_flight, deferred, flying, flying_of, flying_with}
 use Rattle.channel_copies.specs.declared.flight.Flight.{Flight}
 use Rattle.channel_copies.specs.Flights.{flights_of_id, flights_with, has_id, has_client}
 use Rattle.channel_copies.specs.Deferred.{Waiting}

@@ -1,5 +1,5 @@
 -- What putting a message into the backlog makes of the queued copies.
-use Rattle.std.proofs.Common.{◌≡◌, ℕ, ◌+◌, ◌≤◌, ◌<◌, Bool, true, false, nat_le, ◌&&◌, if◌then◌else◌, List, [], ◌∷◌, ◌++◌, length, Option, Some, None, IsSome, IsTrue, refl, sym, ap, ◌∙◌, subst, arith, length-append}
+use Rattle.std.proofs.Common.{◌≡◌, ℕ, ◌+◌, ◌≤◌, ◌<◌, Bool, true, false, ◌&&◌, if◌then◌else◌, List, [], ◌∷◌, ◌++◌, length, Option, Some, None, IsSome, IsTrue, refl, ap, ◌∙◌, arith, length-append}
 use Rattle.std.specs.List.{count_by}
 use Rattle.nsq_outside.specs.Files.{Files}
 use Rattle.v2_frame.specs.declared.message.Message.{Message}
@@ -13,7 +13,11 @@ use Rattle.broker_history.specs.Channels.{one, copy_at, put_back}
 use Rattle.channel_copies.specs.Putting.{Around, Puts, IsTaken}
 use Rattle.channel_copies.proofs.Counts.{count-cons, count-append}
 use Rattle.channel_copies.proofs.Soonest.{not_due, is_due}
-use Rattle.channel_core.specs.Seen.{queued_copy, has_no_disk}
+use Rattle.channel_core.specs.Seen.{queued_copy}
+
+abbrev pub has_no_disk : Option Queue → Bool
+has_no_disk None = true
+has_no_disk (Some q) = false
 
 -- where a copy goes that is put back into this backlog, with these on disk
 abbrev pub back_place : Option Queue → (capacity : ℕ) → (ring disk : List Message) → Place

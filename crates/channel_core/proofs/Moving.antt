@@ -1,32 +1,45 @@
 -- What is put back, as a row.
-use Rattle.std.proofs.Common.{◌≡◌, ℕ, ◌+◌, ◌≤◌, ◌<◌, Bool, true, false, nat_eq, nat_le, ◌&&◌, if◌then◌else◌, List, [], ◌∷◌, ◌++◌, map, length, IsTrue, refl, sym, ap, ◌∙◌, subst, arith}
+use Rattle.std.proofs.Common.{◌≡◌, ℕ, ◌+◌, ◌≤◌, Bool, true, false, not, nat_eq, ◌&&◌, if◌then◌else◌, List, length, Option, Some, None, IsTrue, refl, sym, ap, ◌∙◌, subst, arith}
 use Rattle.std.specs.List.{count_by}
+use Rattle.std.specs.Prelude.{is_some}
 use Rattle.nsq_outside.specs.Files.{Files}
 use Rattle.v2_frame.specs.declared.message.Message.{Message}
+use Rattle.disk_queue.specs.Seen.{Seen as Queue}
 use Rattle.backlog.specs.Lists.{OnDisk}
-use Rattle.broker_history.specs.State.{Copy, Channel, Place, InFlight, Deferred, counted, is_live, queued}
-use Rattle.broker_history.specs.Channels.{MovesLive, GivesBack, TimesOut, ComesDue, AsOften, one, copy_at, put_off, put_back, back_in}
+use Rattle.broker_history.specs.State.{Copy, InFlight, Deferred, counted, is_live}
+use Rattle.broker_history.specs.Channels.{MovesLive, GivesBack, TimesOut, ComesDue, one, copy_at, put_off, put_back, back_in}
 use Rattle.channel_copies.specs.declared.flight.Flight.{Flight}
 use Rattle.channel_copies.specs.Flights.{Leaves, WentBack, CameAgain, flights_of_id}
-use Rattle.channel_copies.specs.Deferred.{Waiting, FirstWentBack, WaitsAgain}
+use Rattle.channel_copies.specs.Deferred.{FirstWentBack, WaitsAgain}
 use Rattle.channel_copies.specs.Putting.{around}
 use Rattle.channel_core.specs.Seen.{Seen, queued_copy, flying_copy, deferred_copy, copies_of, channel_with, queued_in, room_of}
 use Rattle.channel_core.specs.Answers.{IsYours}
 use Rattle.channel_core.specs.Drawing.{Leads, IsAsBefore}
+use Rattle.channel_core.specs.Kept.{IsBacklogOf}
 use Rattle.channel_core.proofs.Copies.{copies-count, queued_is}
-use Rattle.channel_core.proofs.Joining.{PutIn, back_place, put_in, put_none, waits_count}
+use Rattle.channel_core.proofs.Joining.{back_place, has_no_disk, put_in, put_none, waits_count}
 use Rattle.channel_core.proofs.Rows.{is_mine}
 
--- where a copy of this channel is put back
-pub back_is : (v : Seen) (disk : List Message) → back_in (room_of v) (channel_with v (queued_in v disk)) ≡ back_place v.backlog.queue v.backlog.capacity v.backlog.ring disk
-back_is v disk = ap (λ n. put_back (room_of v).ephemeral v.backlog.capacity n) (queued_is (queued_in v disk) v.flights v.deferred)
+-- an ephemeral channel has no queue on disk
+no_disk : (queue : Option Queue) (e : Bool) → is_some queue ≡ not e → e ≡ has_no_disk queue
+no_disk None true is = refl
+no_disk None false is = absurd (let no : ⊥ = cc in no)
+no_disk (Some q) true is = absurd (let no : ⊥ = cc in no)
+no_disk (Some q) false is = refl
 
-joins_back : (p : Copy → Bool) (m : Message) (v : Seen) (disk : List Message)
+-- where a copy of this channel is put back
+pub back_is : (v : Seen) (disk : List Message) → IsBacklogOf v.about v.backlog → back_in (room_of v) (channel_with v (queued_in v disk)) ≡ back_place v.backlog.queue v.backlog.capacity v.backlog.ring disk
+back_is v disk named =
+    ap (λ n. put_back (room_of v).ephemeral v.about.mem_queue_size n) (queued_is (queued_in v disk) v.flights v.deferred)
+    ∙ (ap (λ e. put_back e v.about.mem_queue_size (length (queued_in v disk))) (no_disk v.backlog.queue (room_of v).ephemeral named.durable)
+    ∙ ap (λ mem. put_back (has_no_disk v.backlog.queue) mem (length (queued_in v disk))) (sym named.capacity))
+
+joins_back : (p : Copy → Bool) (m : Message) (v : Seen) (disk : List Message) → IsBacklogOf v.about v.backlog
     → one (is_live (back_in (room_of v) (channel_with v (queued_in v disk))) && p (copy_at m (back_in (room_of v) (channel_with v (queued_in v disk))))) ≡ one (is_live (back_place v.backlog.queue v.backlog.capacity v.backlog.ring disk) && p (copy_at m (back_place v.backlog.queue v.backlog.capacity v.backlog.ring disk)))
-joins_back p m v disk = ap (λ x. one (is_live x && p (copy_at m x))) (back_is v disk)
+joins_back p m v disk named = ap (λ x. one (is_live x && p (copy_at m x))) (back_is v disk named)
 
 -- a flight was put back, whatever it is called
-module _ (f : Flight) (v w : Seen) (disk to : List Message) (leaves : Leaves f v.flights w.flights) (joins : (p : Copy → Bool) → waits_count p v.backlog.ring disk + one (is_live (back_place v.backlog.queue v.backlog.capacity v.backlog.ring disk) && p (copy_at f.message (back_place v.backlog.queue v.backlog.capacity v.backlog.ring disk))) ≡ waits_count p w.backlog.ring to) (same : w.deferred ≡ v.deferred) where
+module _ (f : Flight) (v w : Seen) (disk to : List Message) (named : IsBacklogOf v.about v.backlog) (leaves : Leaves f v.flights w.flights) (joins : (p : Copy → Bool) → waits_count p v.backlog.ring disk + one (is_live (back_place v.backlog.queue v.backlog.capacity v.backlog.ring disk) && p (copy_at f.message (back_place v.backlog.queue v.backlog.capacity v.backlog.ring disk))) ≡ waits_count p w.backlog.ring to) (same : w.deferred ≡ v.deferred) where
   flight_there : (p : Copy → Bool) → one (p (flying_copy f)) ≤ count_by p (copies_of (queued_in v disk) v.flights v.deferred)
   flight_there p = omega (arith, copies-count p (queued_in v disk) v.flights v.deferred, leaves (λ f. p (flying_copy f)))
 
@@ -37,13 +50,13 @@ module _ (f : Flight) (v w : Seen) (disk to : List Message) (leaves : Leaves f v
     copies-count p (queued_in w to) w.flights w.deferred,
     leaves (λ f. p (flying_copy f)),
     joins p,
-    joins_back p f.message v disk,
+    joins_back p f.message v disk named,
     ap (count_by (λ w. p (deferred_copy w))) same,
   )
 
 -- REQ with no delay
-pub gave_back : {tells : Bool} {client : ℕ} {id : List ℕ} {now delay : ℕ} (files files' : Files) (faults faults' : ℕ) (disk : List Message) {v0 v w : Seen} → v0 ≡ v → IsTrue tells → delay ≡ 0 → IsYours client id v → WentBack tells id v0.flights w.flights (around v0.backlog files faults) (around w.backlog files' faults') → OnDisk v0.backlog.queue files disk → w.requeue_count ≡ counted v0.requeue_count → w ≡ record v0 { requeue_count = w.requeue_count; backlog = w.backlog; flights = w.flights; spare = w.spare } → Leads (GivesBack MovesLive (room_of v) client id now delay) v (queued_in v disk) w files'
-gave_back {tells} {client} {id} {now} {delay} files files' faults faults' disk {v0} {v} {w} is told none y b on count rest =
+pub gave_back : {tells : Bool} {client : ℕ} {id : List ℕ} {now delay : ℕ} (files files' : Files) (faults faults' : ℕ) (disk : List Message) {v0 v w : Seen} → v0 ≡ v → IsBacklogOf v0.about v0.backlog → IsTrue tells → delay ≡ 0 → IsYours client id v → WentBack tells id v0.flights w.flights (around v0.backlog files faults) (around w.backlog files' faults') → OnDisk v0.backlog.queue files disk → w.requeue_count ≡ counted v0.requeue_count → w ≡ record v0 { requeue_count = w.requeue_count; backlog = w.backlog; flights = w.flights; spare = w.spare } → Leads (GivesBack MovesLive (room_of v) client id now delay) v (queued_in v disk) w files'
+gave_back {tells} {client} {id} {now} {delay} files files' faults faults' disk {v0} {v} {w} is named told none y b on count rest =
     subst (λ n. Leads (GivesBack MovesLive (room_of v) client id now n) v (queued_in v disk) w files') (sym none) (subst (λ v. Leads (GivesBack MovesLive (room_of v) client id now 0) v (queued_in v disk) w files') is (
     let f = b.flight in
     let i = put_in tells f.message b.answer (around v0.backlog files faults) (around w.backlog files' faults') disk told b.taken b.puts on in
@@ -61,18 +74,18 @@ gave_back {tells} {client} {id} {now} {delay} files files' faults faults' disk {
             flight = record { of = b.of; flies = ap (λ n. InFlight n f.due f.sent) (is_mine client id f v0 w.flights (subst (IsYours client id) (sym is) y) b.of b.leaves b.none) };
             goes = refl;
           };
-          there = flight_there f v0 w disk i.to b.leaves i.counts same;
-          each = flight_each f v0 w disk i.to b.leaves i.counts same;
+          there = flight_there f v0 w disk i.to named b.leaves i.counts same;
+          each = flight_each f v0 w disk i.to named b.leaves i.counts same;
         };
         is =
-              ap (λ (u : Seen). record (channel_with u (queued_in w i.to)) { requeue_count = w.requeue_count; copies = copies_of (queued_in w i.to) w.flights w.deferred }) rest
-              ∙ ap (λ n. record (channel_with v0 (queued_in w i.to)) { requeue_count = n; copies = copies_of (queued_in w i.to) w.flights w.deferred }) count;
+            ap (λ (u : Seen). record (channel_with u (queued_in w i.to)) { requeue_count = w.requeue_count; copies = copies_of (queued_in w i.to) w.flights w.deferred }) rest
+            ∙ ap (λ n. record (channel_with v0 (queued_in w i.to)) { requeue_count = n; copies = copies_of (queued_in w i.to) w.flights w.deferred }) count;
       };
     }))
 
 -- TimedOut
-pub timed_out : {tells : Bool} {id : List ℕ} {now : ℕ} (files files' : Files) (faults faults' : ℕ) (disk : List Message) {v0 v w : Seen} → v0 ≡ v → IsTrue tells → (b : WentBack tells id v0.flights w.flights (around v0.backlog files faults) (around w.backlog files' faults')) → b.flight.due ≤ now → OnDisk v0.backlog.queue files disk → w.timeout_count ≡ counted v0.timeout_count → w ≡ record v0 { timeout_count = w.timeout_count; backlog = w.backlog; flights = w.flights; spare = w.spare } → Leads (TimesOut MovesLive (room_of v) id now) v (queued_in v disk) w files'
-timed_out {tells} {id} {now} files files' faults faults' disk {v0} {v} {w} is told b due on count rest =
+pub timed_out : {tells : Bool} {id : List ℕ} {now : ℕ} (files files' : Files) (faults faults' : ℕ) (disk : List Message) {v0 v w : Seen} → v0 ≡ v → IsBacklogOf v0.about v0.backlog → IsTrue tells → (b : WentBack tells id v0.flights w.flights (around v0.backlog files faults) (around w.backlog files' faults')) → b.flight.due ≤ now → OnDisk v0.backlog.queue files disk → w.timeout_count ≡ counted v0.timeout_count → w ≡ record v0 { timeout_count = w.timeout_count; backlog = w.backlog; flights = w.flights; spare = w.spare } → Leads (TimesOut MovesLive (room_of v) id now) v (queued_in v disk) w files'
+timed_out {tells} {id} {now} files files' faults faults' disk {v0} {v} {w} is named told b due on count rest =
     subst (λ v. Leads (TimesOut MovesLive (room_of v) id now) v (queued_in v disk) w files') is (
     let f = b.flight in
     let i = put_in tells f.message b.answer (around v0.backlog files faults) (around w.backlog files' faults') disk told b.taken b.puts on in
@@ -85,18 +98,18 @@ timed_out {tells} {id} {now} files files' faults faults' disk {v0} {v} {w} is to
           from = flying_copy f;
           to = copy_at f.message (back_in (room_of v0) (channel_with v0 (queued_in v0 disk)));
           row = record { client = f.client; due = f.due; sent = f.sent; flight = record { of = b.of; flies = refl }; came = due; goes = refl };
-          there = flight_there f v0 w disk i.to b.leaves i.counts same;
-          each = flight_each f v0 w disk i.to b.leaves i.counts same;
+          there = flight_there f v0 w disk i.to named b.leaves i.counts same;
+          each = flight_each f v0 w disk i.to named b.leaves i.counts same;
         };
         is =
-              ap (λ (u : Seen). record (channel_with u (queued_in w i.to)) { timeout_count = w.timeout_count; copies = copies_of (queued_in w i.to) w.flights w.deferred }) rest
-              ∙ ap (λ n. record (channel_with v0 (queued_in w i.to)) { timeout_count = n; copies = copies_of (queued_in w i.to) w.flights w.deferred }) count;
+            ap (λ (u : Seen). record (channel_with u (queued_in w i.to)) { timeout_count = w.timeout_count; copies = copies_of (queued_in w i.to) w.flights w.deferred }) rest
+            ∙ ap (λ n. record (channel_with v0 (queued_in w i.to)) { timeout_count = n; copies = copies_of (queued_in w i.to) w.flights w.deferred }) count;
       };
     })
 
 -- CameDue
-pub came_due : {tells : Bool} {id : List ℕ} {now : ℕ} (files files' : Files) (faults faults' : ℕ) (disk : List Message) {v0 v w : Seen} → v0 ≡ v → IsTrue tells → (b : FirstWentBack tells v0.deferred w.deferred (around v0.backlog files faults) (around w.backlog files' faults')) → b.waiting.message.id ≡ id → b.waiting.due ≤ now → OnDisk v0.backlog.queue files disk → w ≡ record v0 { backlog = w.backlog; deferred = w.deferred; deferred_spare = w.deferred_spare } → Leads (ComesDue MovesLive (room_of v) id now) v (queued_in v disk) w files'
-came_due {tells} {id} {now} files files' faults faults' disk {v0} {v} {w} is told b of due on rest =
+pub came_due : {tells : Bool} {id : List ℕ} {now : ℕ} (files files' : Files) (faults faults' : ℕ) (disk : List Message) {v0 v w : Seen} → v0 ≡ v → IsBacklogOf v0.about v0.backlog → IsTrue tells → (b : FirstWentBack tells v0.deferred w.deferred (around v0.backlog files faults) (around w.backlog files' faults')) → b.waiting.message.id ≡ id → b.waiting.due ≤ now → OnDisk v0.backlog.queue files disk → w ≡ record v0 { backlog = w.backlog; deferred = w.deferred; deferred_spare = w.deferred_spare } → Leads (ComesDue MovesLive (room_of v) id now) v (queued_in v disk) w files'
+came_due {tells} {id} {now} files files' faults faults' disk {v0} {v} {w} is named told b of due on rest =
     subst (λ v. Leads (ComesDue MovesLive (room_of v) id now) v (queued_in v disk) w files') is (
     let m = b.waiting in
     let i = put_in tells m.message b.answer (around v0.backlog files faults) (around w.backlog files' faults') disk told b.taken b.puts on in
@@ -115,7 +128,7 @@ came_due {tells} {id} {now} files files' faults faults' disk {v0} {v} {w} is tol
             copies-count p (queued_in w i.to) w.flights w.deferred,
             b.leaves (λ w. p (deferred_copy w)),
             i.counts p,
-            joins_back p m.message v0 disk,
+            joins_back p m.message v0 disk named,
             ap (λ (u : Seen). count_by (λ f. p (flying_copy f)) u.flights) rest,
           );
         };
@@ -154,8 +167,8 @@ was_deferred {client} {id} {now} {delay} files disk f {v0} {v} {w} is some y of 
           );
         };
         is =
-              ap (λ (u : Seen). record (channel_with u (queued_in w disk)) { requeue_count = w.requeue_count; copies = copies_of (queued_in w disk) w.flights w.deferred }) rest
-              ∙ ap (λ n. record (channel_with v0 (queued_in w disk)) { requeue_count = n; copies = copies_of (queued_in w disk) w.flights w.deferred }) count;
+            ap (λ (u : Seen). record (channel_with u (queued_in w disk)) { requeue_count = w.requeue_count; copies = copies_of (queued_in w disk) w.flights w.deferred }) rest
+            ∙ ap (λ n. record (channel_with v0 (queued_in w disk)) { requeue_count = n; copies = copies_of (queued_in w disk) w.flights w.deferred }) count;
       };
     })
 

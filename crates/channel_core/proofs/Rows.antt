@@ -1,18 +1,16 @@
 -- What a call makes of a channel's copies, as a row.
-use Rattle.std.proofs.Common.{◌≡◌, ◌≢◌, ℕ, ◌+◌, ◌≤◌, ◌<◌, min, Bool, true, false, nat_eq, nat_le, ◌&&◌, if◌then◌else◌, List, [], ◌∷◌, ◌++◌, map, drop, length, Some, refl, sym, ap, ◌∙◌, subst, arith}
+use Rattle.std.proofs.Common.{◌≡◌, ℕ, ◌+◌, ◌<◌, min, Bool, true, false, ◌&&◌, List, [], ◌∷◌, ◌++◌, drop, length, Some, refl, sym, ap, ◌∙◌, subst, arith}
 use Rattle.std.specs.List.{count_by}
-use Rattle.std.specs.Str.{bytes_eq}
-use Rattle.std.proofs.lemmas.Bool.{eqb-true, ne_eqb}
+use Rattle.std.proofs.lemmas.Bool.{eqb-true}
 use Rattle.nsq_outside.specs.Files.{Files}
 use Rattle.v2_frame.specs.declared.message.Message.{Message}
 use Rattle.backlog.specs.Lists.{OnDisk, IsFirstMessage, list_with, disk_settled}
-use Rattle.broker_history.specs.State.{Copy, Channel, Place, Queued, InFlight, Deferred, Finished, compared, raised, is_live, flying_with}
-use Rattle.broker_history.specs.Channels.{MovesLive, Finishes, Touches, Sends, HoldsBack, GivesBack, one, copy_at, put_off, back_in, AsOften, is_free}
+use Rattle.broker_history.specs.State.{Copy, Place, InFlight, Deferred, Finished, compared, raised}
+use Rattle.broker_history.specs.Channels.{MovesLive, Finishes, Touches, Sends, HoldsBack, one, copy_at, is_free}
 use Rattle.channel_copies.specs.declared.clients.Client.{Client}
 use Rattle.channel_copies.specs.declared.flight.Flight.{Flight}
 use Rattle.channel_copies.specs.Clients.{client_of}
 use Rattle.channel_copies.specs.Flights.{Leaves, Prolongs, flights_of_id, has_id, has_client, touched}
-use Rattle.channel_copies.specs.Deferred.{Waiting}
 use Rattle.channel_copies.proofs.Counts.{count-cons, count-and, and_true, shorter}
 use Rattle.channel_copies.proofs.Indexing.{same_ids}
 use Rattle.channel_core.specs.Seen.{Seen, queued_copy, flying_copy, deferred_copy, copies_of, channel_with, queued_in, drawn_in}
@@ -177,3 +175,9 @@ pub held_row : {files : Files} {until : ℕ} (disk : List Message) (held : Messa
 held_row {files} {until} disk held {v0} {v} {w} is flies top settles on joins rest =
     let gone = first_went held (drawn_in held v disk) (queued_in w (disk_settled v0.backlog.lent disk)) top (settles held ∙ ap (λ (v : Seen). drop 1 (list_with v.backlog held disk)) is) in
     was_held (disk_settled v0.backlog.lent disk) held is (isn't_free held.id v0 (drawn_in held v disk) flies) gone on joins rest
+
+-- until the time for a message of the options has passed
+pub held_now : {files : Files} (now : ℕ) (disk : List Message) (held : Message) {v0 v w : Seen} → v0 ≡ v → flights_of_id held.id v0.flights ≡ 1 → IsFirstDrawn held v disk → ((first : Message) → w.backlog.ring ++ disk_settled v0.backlog.lent disk ≡ drop 1 (list_with v0.backlog first disk)) → OnDisk w.backlog.queue files (disk_settled v0.backlog.lent disk) → Leaves (record { due = now + v0.about.msg_timeout; message = held }) w.deferred v0.deferred → w ≡ record v0 { backlog = w.backlog; deferred = w.deferred; drawn = w.drawn; deferred_spare = w.deferred_spare } → Leads (HoldsBack MovesLive held.id (now + v.about.msg_timeout)) v (drawn_in held v disk) w files
+held_now {files} now disk held {v0} {v} {w} is flies top settles on joins rest =
+    subst (λ (v : Seen). Leads (HoldsBack MovesLive held.id (now + v.about.msg_timeout)) v (drawn_in held v disk) w files) is
+    (held_row {until = now + v0.about.msg_timeout} disk held {v0 = v0} {v = v0} refl flies (subst (λ (v : Seen). IsFirstDrawn held v disk) (sym is) top) settles on joins rest)

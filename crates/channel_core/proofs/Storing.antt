@@ -1,32 +1,34 @@
 -- What joins a channel, and what a flush leaves, as rows.
-use Rattle.std.proofs.Common.{◌≡◌, ◌≢◌, ◌⊎◌, inl, inr, ℕ, ◌+◌, ◌≤◌, ◌<◌, Bool, true, false, ◌&&◌, ◌==◌, nat_eq, if◌then◌else◌, IsTrue, List, [], ◌∷◌, ◌++◌, map, filter, length, Option, Some, None, refl, sym, ap, ◌∙◌, subst, arith}
+use Rattle.std.proofs.Common.{◌≡◌, ◌≢◌, ◌⊎◌, inl, inr, ℕ, ◌+◌, Bool, true, false, ◌&&◌, ◌==◌, if◌then◌else◌, IsTrue, List, [], ◌∷◌, ◌++◌, map, filter, Option, Some, None, refl, sym, ap, ◌∙◌, subst, arith}
 use Rattle.std.specs.List.{count_by}
+use Rattle.std.specs.Prelude.{IsSome, IfSome}
 use Rattle.std.proofs.lemmas.Bool.{ne_eqb}
 use Rattle.nsq_outside.specs.Files.{Files}
 use Rattle.v2_frame.specs.Written.{message_bytes}
 use Rattle.v2_frame.specs.declared.message.Message.{Message}
 use Rattle.queue_image.specs.Finds.{IsFound, Records}
 use Rattle.disk_queue.specs.Seen.{Seen as Queue}
-use Rattle.backlog.specs.Seen.{Seen as Backlog, SameQueue, longest_body}
-use Rattle.backlog.specs.Lists.{OnDisk, Stands, QueueFinds, FlushFinds, stored}
+use Rattle.backlog.specs.Seen.{longest_body}
+use Rattle.backlog.specs.Lists.{OnDisk, QueueFinds, FlushFinds, stored}
 use Rattle.backlog.specs.declared.answers.PutOne.{PutOne}
 use Rattle.backlog.specs.declared.answers.PutOne.TheVariants.{Kept, Dropped as WasDropped, Spilled, Fault}
 use Rattle.backlog.specs.declared.answers.Flushed.{Flushed}
 use Rattle.backlog.specs.declared.answers.Flushed.TheVariants.{Done as FlushDone, Fault as FlushFault}
-use Rattle.broker_history.specs.State.{Copy, Place, Queued, Deferred, Dropped, compared, counted, is_live}
-use Rattle.broker_history.specs.Channels.{JoinsLive, Gets, AsOften, one, copy_at, put_back, put_off, back_in, joins_at, is_dropped}
-use Rattle.broker_history.specs.Left.{SameMessages, left_in_channel}
+use Rattle.broker_history.specs.State.{Copy, Place, Deferred, compared, counted, is_live}
+use Rattle.broker_history.specs.Channels.{JoinsLive, Gets, one, copy_at, put_off, back_in, joins_at, is_dropped}
+use Rattle.broker_history.specs.Left.{left_in_channel}
 use Rattle.channel_copies.specs.declared.flight.Flight.{Flight}
 use Rattle.channel_copies.specs.Deferred.{Waiting}
 use Rattle.channel_copies.specs.Putting.{Around, Puts, IsTaken, around}
 use Rattle.channel_copies.proofs.Counts.{count-cons, count-append, count-map}
-use Rattle.channel_core.specs.Seen.{Seen, queued_copy, flying_copy, deferred_copy, copies_of, channel_with, seen_channel, queued_in, room_of}
+use Rattle.channel_core.specs.Seen.{Seen, queue_name, queued_copy, flying_copy, deferred_copy, copies_of, channel_with, seen_channel, queued_in, room_of}
+use Rattle.channel_core.specs.Kept.{IsBacklogOf}
 use Rattle.channel_core.specs.Drawing.{Leads, IsAsBefore}
 use Rattle.channel_core.specs.declared.answers.Offer.{Offer}
 use Rattle.channel_core.specs.declared.answers.Offer.TheVariants.{Done, Fault as CameBack, Memory as WantsMemory}
 use Rattle.channel_core.specs.Storing.{Defers, Offers, Joined, Stores, FindsAll, FlushLeaves, flying_messages, deferred_messages}
 use Rattle.channel_core.proofs.Copies.{copies-count}
-use Rattle.channel_core.proofs.Joining.{back_place, kept_place, dropped_place, spilled_place, put_in, put_none, waits_count}
+use Rattle.channel_core.proofs.Joining.{back_place, kept_place, dropped_place, spilled_place, put_in, put_none}
 use Rattle.channel_core.proofs.Moving.{back_is}
 use Rattle.channel_core.proofs.Wrote.{count-waits, count-stored}
 
@@ -38,8 +40,8 @@ count_after Spilled n = counted n
 count_after (Fault back) n = n
 
 -- where a message without a delay goes
-joins_back : (v : Seen) (disk : List Message) (now : ℕ) (m : Message) → m.delay ≡ 0 → joins_at (room_of v) now m (channel_with v (queued_in v disk)) ≡ back_place v.backlog.queue v.backlog.capacity v.backlog.ring disk
-joins_back v disk now m none = ap (λ n. put_off now n (back_in (room_of v) (channel_with v (queued_in v disk)))) none ∙ back_is v disk
+joins_back : (v : Seen) (disk : List Message) (now : ℕ) (m : Message) → IsBacklogOf v.about v.backlog → m.delay ≡ 0 → joins_at (room_of v) now m (channel_with v (queued_in v disk)) ≡ back_place v.backlog.queue v.backlog.capacity v.backlog.ring disk
+joins_back v disk now m named none = ap (λ n. put_off now n (back_in (room_of v) (channel_with v (queued_in v disk)))) none ∙ back_is v disk named
 
 -- and one that has a delay
 joins_later : (v : Seen) (disk : List Message) (now : ℕ) (m : Message) → (m.delay == 0) ≡ false → joins_at (room_of v) now m (channel_with v (queued_in v disk)) ≡ Deferred (now + m.delay)
@@ -60,14 +62,14 @@ pub taken_so : (answer : PutOne) → (answer ≡ Kept) ⊎ (answer ≡ Spilled) 
 taken_so answer so = elim so [ inl e ↦ subst IsTaken (sym e) tt | inr e ↦ subst IsTaken (sym e) tt ]
 
 -- Copied, of a message without a delay
-pub was_put : {tells : Bool} {now : ℕ} {m : Message} (answer : PutOne) (files files' : Files) (faults faults' : ℕ) (disk : List Message) {v0 v w : Seen} → v0 ≡ v → IsTrue tells → m.delay ≡ 0 → IsTaken answer
+pub was_put : {tells : Bool} {now : ℕ} {m : Message} (answer : PutOne) (files files' : Files) (faults faults' : ℕ) (disk : List Message) {v0 v w : Seen} → v0 ≡ v → IsBacklogOf v0.about v0.backlog → IsTrue tells → m.delay ≡ 0 → IsTaken answer
     → Puts tells m answer (around v0.backlog files faults) (around w.backlog files' faults') → OnDisk v.backlog.queue files disk → w ≡ record v0 { message_count = w.message_count; backlog = w.backlog }
     → w.message_count ≡ count_after answer v0.message_count → Leads (Gets JoinsLive (room_of v) now m) v (queued_in v disk) w files'
-was_put {tells} {now} {m} answer files files' faults faults' disk {v0} {v} {w} is told none taken p on' rest count =
+was_put {tells} {now} {m} answer files files' faults faults' disk {v0} {v} {w} is named told none taken p on' rest count =
     subst (λ v. Leads (Gets JoinsLive (room_of v) now m) v (queued_in v disk) w files') is (
     let on : OnDisk v0.backlog.queue files disk = subst (λ (u : Seen). OnDisk u.backlog.queue files disk) (sym is) on' in
     let i = put_in tells m answer (around v0.backlog files faults) (around w.backlog files' faults') disk told taken p on in
-    let place = joins_back v0 disk now m none in
+    let place = joins_back v0 disk now m named none in
     record {
       disk = i.to;
       on_disk = i.on_disk;
@@ -170,24 +172,23 @@ left_count p v waits =
     ∙ (count-map (λ m. p (compared m)) (λ (x : Copy). x.message) (filter (λ (x : Copy). is_live x.place) copies)
     ∙ (count-filter (λ (x : Copy). is_live x.place) (λ (x : Copy). p (compared x.message)) copies ∙ copies-count (λ x. is_live x.place && p (compared x.message)) waits v.flights v.deferred))
 
--- a queue of the same name is found alike
-same_finds : (q r : Option Queue) (files : Files) (ms : List Message) → SameQueue q r → QueueFinds r files ms → QueueFinds q files ms
-same_finds None r files ms same found = tt
-same_finds (Some q) None files ms same found = absurd same
-same_finds (Some q) (Some r) files ms same found = subst (λ (name : List ℕ). IsFound 26 (26 + longest_body) files name (Records (map message_bytes ms) [])) same.name found
+-- a queue that is there is found by its name
+named_finds : (q : Option Queue) (name : List ℕ) (files : Files) (ms : List Message) → IsSome q → IfSome q (λ q. q.name ≡ name) → QueueFinds q files ms → IsFound 26 (26 + longest_body) files name (Records (map message_bytes ms) [])
+named_finds None name files ms there named found = absurd (let no : ⊥ = cc in no)
+named_finds (Some q) name files ms there named found = subst (λ (name : List ℕ). IsFound 26 (26 + longest_body) files name (Records (map message_bytes ms) [])) named found
 
 -- an opening finds all that was left, where all was written
 pub found_all : {tells : Bool} (files : Files) (faults : ℕ) (b c : Around) (after : Files) (disk : List Message) {v0 v : Seen} → v0 ≡ v → IsTrue tells → OnDisk v.backlog.queue files disk
-    → Stores tells (flying_messages v0.flights) [] (around v0.backlog files faults) b → Stores tells (deferred_messages v0.deferred) [] b c → SameQueue v0.backlog.queue c.backlog.queue
-    → ((disk : List Message) → OnDisk c.backlog.queue c.files disk → FlushFinds c.backlog after disk FlushDone) → FindsAll (left_in_channel (seen_channel v disk)) v.backlog.queue after
-found_all {tells} files faults b c after disk {v0} {v} is told on flew waited same finds =
-    subst (λ (v : Seen). FindsAll (left_in_channel (seen_channel v disk)) v.backlog.queue after) is (
+    → Stores tells (flying_messages v0.flights) [] (around v0.backlog files faults) b → Stores tells (deferred_messages v0.deferred) [] b c → IsSome c.backlog.queue → IsBacklogOf v0.about c.backlog
+    → ((disk : List Message) → OnDisk c.backlog.queue c.files disk → FlushFinds c.backlog after disk FlushDone) → FindsAll (left_in_channel (seen_channel v disk)) (queue_name v.about.topic v.about.name) after
+found_all {tells} files faults b c after disk {v0} {v} is told on flew waited there named finds =
+    subst (λ (v : Seen). FindsAll (left_in_channel (seen_channel v disk)) (queue_name v.about.topic v.about.name) after) is (
     let first = flew.list told disk (subst (λ (u : Seen). OnDisk u.backlog.queue files disk) (sym is) on) in
     let next = waited.list told first.to first.on_disk in
     let all = next.to ++ map stored c.backlog.ring in
     record {
       messages = all;
-      found = same_finds v0.backlog.queue c.backlog.queue after all same (finds next.to next.on_disk);
+      found = named_finds c.backlog.queue _ after all there named.queue (finds next.to next.on_disk);
       same = λ p. omega (
         arith,
         left_count p v0 (queued_in v0 disk),
@@ -206,10 +207,10 @@ found_all {tells} files faults b c after disk {v0} {v} is told on flew waited sa
     })
 
 pub flush_leaves : {tells : Bool} (files : Files) (faults : ℕ) (b c : Around) (after : Files) (disk : List Message) (answer : Flushed) {v0 v : Seen} → v0 ≡ v → IsTrue tells → OnDisk v.backlog.queue files disk
-    → Stores tells (flying_messages v0.flights) [] (around v0.backlog files faults) b → Stores tells (deferred_messages v0.deferred) [] b c → SameQueue v0.backlog.queue c.backlog.queue
-    → ((disk : List Message) → OnDisk c.backlog.queue c.files disk → FlushFinds c.backlog after disk answer) → FlushLeaves (left_in_channel (seen_channel v disk)) v.backlog.queue after answer
-flush_leaves files faults b c after disk FlushDone is told on flew waited same finds = found_all files faults b c after disk is told on flew waited same finds
-flush_leaves files faults b c after disk FlushFault is told on flew waited same finds = tt
+    → Stores tells (flying_messages v0.flights) [] (around v0.backlog files faults) b → Stores tells (deferred_messages v0.deferred) [] b c → IsSome c.backlog.queue → IsBacklogOf v0.about c.backlog
+    → ((disk : List Message) → OnDisk c.backlog.queue c.files disk → FlushFinds c.backlog after disk answer) → FlushLeaves (left_in_channel (seen_channel v disk)) v.about after answer
+flush_leaves files faults b c after disk FlushDone is told on flew waited there named finds = λ durable. found_all files faults b c after disk is told on flew waited there named finds
+flush_leaves files faults b c after disk FlushFault is told on flew waited there named finds = tt
 
 -- all copies are gone
 pub was_emptied : {files' : Files} (waits : List Message) {v0 v w : Seen} → v0 ≡ v → OnDisk w.backlog.queue files' [] → w.backlog.ring ≡ [] → w.flights ≡ [] → w.deferred ≡ []

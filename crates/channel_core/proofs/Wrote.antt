@@ -10,8 +10,8 @@ use Rattle.v2_frame.specs.declared.message.Message.{Message}
 use Rattle.disk_queue.specs.Seen.{Seen as Queue}
 use Rattle.disk_queue.specs.Holding.{OwnChange}
 use Rattle.disk_queue.proofs.Kept.{own_join}
-use Rattle.backlog.specs.Seen.{Seen as Backlog, IsSameQueue, SameQueue, FlushSeen}
-use Rattle.backlog.specs.Lists.{OnDisk, DiskChanges, PutChanges, stored, disk_flushed}
+use Rattle.backlog.specs.Seen.{Seen as Backlog, SameQueue, FlushSeen}
+use Rattle.backlog.specs.Lists.{OnDisk, Stands, DiskChanges, PutChanges, stored, disk_flushed}
 use Rattle.backlog.specs.declared.answers.PutOne.{PutOne}
 use Rattle.backlog.specs.declared.answers.PutOne.TheVariants.{Kept, Dropped, Spilled, Fault}
 use Rattle.backlog.specs.declared.answers.Flushed.{Flushed}
@@ -24,7 +24,7 @@ use Rattle.channel_copies.specs.Deferred.{Waiting}
 use Rattle.channel_copies.specs.Putting.{Around, Puts, IsTaken, KeepsDisk, around}
 use Rattle.channel_copies.proofs.Counts.{count-cons, count-append, count-map}
 use Rattle.channel_core.specs.Seen.{Seen}
-use Rattle.channel_core.specs.Storing.{Stored, Stores, StoresWhere, flying_messages, deferred_messages}
+use Rattle.channel_core.specs.Storing.{Stores, StoresWhere, flying_messages, deferred_messages}
 
 -- a queue of the same name, once more
 pub same_kept : (q : Option Queue) → SameQueue q q
@@ -64,6 +64,9 @@ keeps_none tells a = record {
   faults = omega arith;
 }
 
+pub keeps_same : (tells : Bool) (files : Files) (faults : ℕ) (b b' : Backlog) → b' ≡ b → KeepsDisk tells (around b files faults) (around b' files faults)
+keeps_same tells files faults b b' is = subst (λ (c : Backlog). KeepsDisk tells (around b files faults) (around c files faults)) (sym is) (keeps_none tells (around b files faults))
+
 -- one call after another
 pub keeps_joined : {tells : Bool} (a b c : Around) → KeepsDisk tells a b → KeepsDisk tells b c → KeepsDisk tells a c
 keeps_joined a b c f s = record {
@@ -91,6 +94,10 @@ keeps_put answer a b p = record {
   others = λ told. put_changed a.backlog.queue a.files b.files answer (p.others told);
   faults = p.faults;
 }
+
+-- drawing changes no file
+pub keeps_drawn : {tells : Bool} (a b : Around) → SameQueue a.backlog.queue b.backlog.queue → (IsTrue tells → Stands a.backlog.queue a.files → Stands b.backlog.queue b.files) → (IsTrue tells → SameFiles a.files b.files) → a.faults ≤ b.faults → KeepsDisk tells a b
+keeps_drawn a b queue stands same faults = record { queue = queue; stands = stands; others = λ told. unchanged a.backlog.queue a.files b.files (same told); faults = faults }
 
 -- how often a message is among those that wait
 pub count-waits : (p : Message → Bool) (ring disk : List Message) → count_by p (map compared (ring ++ disk)) ≡ count_by (λ m. p (compared m)) ring + count_by (λ m. p (compared m)) disk

@@ -1,10 +1,9 @@
 -- What is told of a channel.
-use Rattle.std.specs.Prelude.{◌≡◌, ℕ, ◌≤◌, ◌<◌, ◌-◌, Bool, true, false, ◌&&◌, ◌==◌, List, Option, Some, None, count_by}
+use Rattle.std.specs.Prelude.{◌≡◌, ℕ, ◌≤◌, ◌<◌, ◌-◌, min, Bool, true, false, ◌&&◌, List, Option, Some, None, count_by}
 use Rattle.std.specs.Str.{bytes_eq}
 use Rattle.nsq_outside.specs.Causes.{Rose}
 use Rattle.v2_frame.specs.declared.message.Message.{Message}
 use Rattle.broker_history.specs.State.{Channel, queued, in_flight, deferred, flying_of, flying_with, is_due, is_in_flight, is_deferred}
-use Rattle.disk_queue.specs.Seen.{Seen as Queue}
 use Rattle.channel_core.specs.declared.answers.Counts.{Counts}
 use Rattle.channel_core.specs.declared.answers.Look.{Look}
 use Rattle.channel_core.specs.declared.answers.Look.TheVariants.{Yours, NotYours, NotInFlight}
@@ -42,8 +41,19 @@ TellsDue now k None = all_due now k ≡ 0
 TellsDue now k (Some (id, true)) = 0 < flying_due now id k
 TellsDue now k (Some (id, false)) = (all_flying_due now k ≡ 0) × (0 < deferred_due now id k)
 
--- what a channel counts; of the queued copies those beyond the ring are on disk
-pub record Tells (k : Channel) (mem : ℕ) (counts : Counts) : Type 0 where
+-- of two moments the sooner one, where there are two
+abbrev pub sooner_of : Option ℕ → Option ℕ → Option ℕ
+sooner_of None b = b
+sooner_of (Some a) None = Some a
+sooner_of (Some a) (Some b) = Some (min a b)
+
+-- no copy is due before the moment, and one is from then on; none ever is where there is no moment
+abbrev pub IsNextDue : Channel → Option ℕ → Type 0
+IsNextDue k None = (now : ℕ) → all_due now k ≡ 0
+IsNextDue k (Some moment) = ((now : ℕ) → now < moment → all_due now k ≡ 0) × (0 < all_due moment k)
+
+-- what a channel counts, of which so many queued copies find room in memory: those beyond are on disk
+pub record Tells (mem : ℕ) (k : Channel) (counts : Counts) : Type 0 where
   pub depth : counts.depth ≡ queued k.copies
   pub least : counts.depth - mem ≤ counts.backend_depth
   pub most : counts.backend_depth ≤ counts.depth
@@ -52,11 +62,6 @@ pub record Tells (k : Channel) (mem : ℕ) (counts : Counts) : Type 0 where
   pub message_count : counts.message_count ≡ k.message_count
   pub requeue_count : counts.requeue_count ≡ k.requeue_count
   pub timeout_count : counts.timeout_count ≡ k.timeout_count
-
--- without a disk none is on disk
-abbrev pub NoneBehind : Option Queue → Counts → Type 0
-NoneBehind None counts = counts.backend_depth ≡ 0
-NoneBehind (Some q) counts = Unit {0}
 
 -- a fault comes only with a rise, and only where the copy is to be queued at once
 abbrev pub RequeueFails : (delay before now : ℕ) → Requeue → Type 0

@@ -1,5 +1,5 @@
 -- What is drawn for a client.
-use Rattle.std.specs.Prelude.{◌≡◌, ◌≢◌, ℕ, ◌+◌, ◌≤◌, ◌<◌, min, Bool, true, false, List, Option, Some, None, option_map, unwrap_or}
+use Rattle.std.specs.Prelude.{◌≡◌, ℕ, ◌+◌, ◌≤◌, ◌<◌, min, true, false, List, option_map, unwrap_or}
 use Rattle.nsq_outside.specs.Files.{Files}
 use Rattle.nsq_outside.specs.Causes.{Rose}
 use Rattle.v2_frame.specs.declared.message.Message.{Message}
@@ -92,16 +92,31 @@ pub record DrawsToHold (old new : Seen) (disk : List Message) (id : List ℕ) : 
   pub flies : is_free id (seen_channel old disk).copies ≡ false
   pub same : drawn_in held new disk ≡ queued_in old disk
 
--- what `next` gives of the channel of which these messages are on disk. NoneQueued exactly where none is queued; no file is damaged
+-- an answer of a drawing, which credit and pause don't keep from it
+abbrev pub IsOfDrawing : Next → Type 0
+IsOfDrawing next.NoCredit = ⊥
+IsOfDrawing next.Paused = ⊥
+IsOfDrawing answer = Unit {0}
+
+-- what a drawing gives of the channel of which these messages are on disk; no file is damaged
+abbrev pub Drew : (old new : Seen) → (disk : List Message) → Next → Type 0
+Drew old new disk (next.Send message) = DrawsToSend old new disk message
+Drew old new disk (next.Held id) = DrawsToHold old new disk id
+Drew old new disk next.NoneQueued = (queued (seen_channel old disk).copies ≡ 0) × (queued_in new disk ≡ queued_in old disk)
+Drew old new disk next.Damaged = ⊥
+Drew old new disk answer = queued_in new disk ≡ queued_in old disk
+
+-- what `next` gives of the channel of which these messages are on disk. NoneQueued exactly where none is queued; a fault or want of memory only
+-- where one is; no file is damaged
 abbrev pub Draws : (old new : Seen) → (disk : List Message) → Next → Type 0
 Draws old new disk (next.Send message) = DrawsToSend old new disk message
 Draws old new disk (next.Held id) = DrawsToHold old new disk id
 Draws old new disk next.NoCredit = queued_in new disk ≡ queued_in old disk
 Draws old new disk next.Paused = queued_in new disk ≡ queued_in old disk
 Draws old new disk next.NoneQueued = (queued (seen_channel old disk).copies ≡ 0) × (queued_in new disk ≡ queued_in old disk)
-Draws old new disk next.Fault = queued_in new disk ≡ queued_in old disk
+Draws old new disk next.Fault = (0 < queued (seen_channel old disk).copies) × (queued_in new disk ≡ queued_in old disk)
 Draws old new disk next.Damaged = ⊥
-Draws old new disk next.Memory = queued_in new disk ≡ queued_in old disk
+Draws old new disk next.Memory = (0 < queued (seen_channel old disk).copies) × (queued_in new disk ≡ queued_in old disk)
 
 -- a fault comes only with a rise
 abbrev pub DrawFails : (before now : ℕ) → Next → Type 0

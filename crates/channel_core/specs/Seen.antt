@@ -1,10 +1,9 @@
 -- What is seen of a channel, and which channel of the broker's state that is.
-use Rattle.std.specs.Prelude.{◌≡◌, ℕ, ◌+◌, ◌≤◌, Bool, true, false, List, ◌++◌, map, length, Option, Some, None}
+use Rattle.std.specs.Prelude.{ℕ, ◌+◌, ◌≤◌, Bool, List, ◌++◌, map, length, codes}
 use Rattle.v2_frame.specs.declared.message.Message.{Message}
-use Rattle.disk_queue.specs.Seen.{Seen as Queue}
 use Rattle.backlog.specs.Seen.{Seen as Backlog}
 use Rattle.backlog.specs.Lists.{list_with}
-use Rattle.broker_history.specs.State.{Place, Queued, InFlight, Deferred, Copy, Channel}
+use Rattle.broker_history.specs.State.{Queued, InFlight, Deferred, Copy, Channel, is_ephemeral_channel}
 use Rattle.broker_history.specs.Channels.{Room, copy_at}
 use Rattle.channel_copies.specs.declared.clients.Client.{Client}
 use Rattle.channel_copies.specs.declared.flight.Flight.{Flight}
@@ -64,13 +63,13 @@ drawn_in first v disk = list_with v.backlog first disk
 abbrev pub seen_channel : Seen → (disk : List Message) → Channel
 seen_channel v disk = channel_with v (queued_in v disk)
 
-abbrev pub has_no_disk : Option Queue → Bool
-has_no_disk None = true
-has_no_disk (Some q) = false
-
--- how much room the channel has: what finds the ring full is dropped where there is no disk
+-- how much room the channel has, by what it was told at its making: what finds it full is dropped where the channel is ephemeral
 abbrev pub room_of : Seen → Room
-room_of v = record { ephemeral = has_no_disk v.backlog.queue; mem = v.backlog.capacity }
+room_of v = record { ephemeral = is_ephemeral_channel v.about.topic v.about.name; mem = v.about.mem_queue_size }
+
+-- the name of a channel's queue: the topic, a colon and the channel
+abbrev pub queue_name : (topic name : List ℕ) → List ℕ
+queue_name topic name = topic ++ (codes ":" ++ name)
 
 -- how many copies are in flight or deferred
 abbrev pub items : Seen → ℕ

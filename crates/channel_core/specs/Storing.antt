@@ -1,16 +1,17 @@
 -- What joins a channel, and what becomes of all its copies.
-use Rattle.std.specs.Prelude.{◌≡◌, ℕ, ◌+◌, ◌<◌, Bool, ◌≤◌, List, [], ◌++◌, map, length, count_by, Option, Some, None, IsTrue}
+use Rattle.std.specs.Prelude.{◌≡◌, ℕ, ◌+◌, ◌<◌, Bool, false, ◌≤◌, List, [], ◌++◌, map, length, count_by, IsTrue}
 use Rattle.nsq_outside.specs.Files.{Files}
 use Rattle.nsq_outside.specs.Causes.{Rose}
+use Rattle.v2_frame.specs.Written.{message_bytes}
 use Rattle.v2_frame.specs.declared.message.Message.{Message}
-use Rattle.disk_queue.specs.Seen.{Seen as Queue}
+use Rattle.queue_image.specs.Finds.{IsFound, Records}
 use Rattle.disk_queue.specs.declared.answers.Emptied.{Emptied}
 use Rattle.disk_queue.specs.declared.answers.Emptied.TheVariants as emptying
-use Rattle.backlog.specs.Seen.{Seen as Backlog}
-use Rattle.backlog.specs.Lists.{OnDisk, QueueFinds}
+use Rattle.backlog.specs.Seen.{Seen as Backlog, longest_body}
+use Rattle.backlog.specs.Lists.{OnDisk}
 use Rattle.backlog.specs.declared.answers.Flushed.{Flushed}
 use Rattle.backlog.specs.declared.answers.Flushed.TheVariants as flushing
-use Rattle.broker_history.specs.State.{compared, counted}
+use Rattle.broker_history.specs.State.{compared, counted, is_ephemeral_channel}
 use Rattle.broker_history.specs.Channels.{JoinsLive, Gets}
 use Rattle.broker_history.specs.Left.{SameMessages}
 use Rattle.channel_copies.specs.declared.flight.Flight.{Flight}
@@ -20,7 +21,8 @@ use Rattle.channel_copies.specs.Putting.{Around}
 use Rattle.channel_core.specs.declared.answers.Offer.{Offer}
 use Rattle.channel_core.specs.declared.answers.Offer.TheVariants.{Done, Fault, Memory as WantsMemory}
 use Rattle.channel_core.specs.Drawing.{Leads, IsAsBefore}
-use Rattle.channel_core.specs.Seen.{Seen, queued_in, room_of}
+use Rattle.channel_core.specs.declared.about.About.{About}
+use Rattle.channel_core.specs.Seen.{Seen, queue_name, queued_in, room_of}
 
 -- a copy of the message joined the channel, or all is as it was
 abbrev pub Offers : (now : ℕ) → Message → (old : Seen) → (disk : List Message) → Seen → Files → Offer → Type 0
@@ -55,15 +57,15 @@ abbrev pub Empties : (old : Seen) → (disk : List Message) → Seen → Files �
 Empties old disk new files emptying.Done = Leads (λ k k'. k' ≡ record k { copies = [] }) old (queued_in old disk) new files
 Empties old disk new files emptying.Fault = Leads (λ k k'. k' ≡ k) old (queued_in old disk) new files
 
--- these messages are what an opening finds, each as often
-pub record FindsAll (left : List Message) (queue : Option Queue) (files : Files) : Type 0 where
+-- these messages are what an opening of the queue of this name finds, each as often, and no bad file
+pub record FindsAll (left : List Message) (name : List ℕ) (files : Files) : Type 0 where
   pub messages : List Message
-  pub found : QueueFinds queue files messages
+  pub found : IsFound 26 (26 + longest_body) files name (Records (map message_bytes messages) [])
   pub same : SameMessages left messages
 
-abbrev pub FlushLeaves : (left : List Message) → Option Queue → Files → Flushed → Type 0
-FlushLeaves left queue files flushing.Done = FindsAll left queue files
-FlushLeaves left queue files flushing.Fault = Unit {0}
+abbrev pub FlushLeaves : (left : List Message) → About → Files → Flushed → Type 0
+FlushLeaves left about files flushing.Done = is_ephemeral_channel about.topic about.name ≡ false → FindsAll left (queue_name about.topic about.name) files
+FlushLeaves left about files flushing.Fault = Unit {0}
 
 -- the messages of copies in flight, and of deferred ones
 abbrev pub flying_messages : List Flight → List Message

@@ -1,4 +1,4 @@
-ghost use Rattle.std.specs.Prelude.{◌≡◌, ◌≤◌, ◌^◌, ℕ, List, [], IsTrue, IsSome, IfOk, IfErr, OnOk, OnErr, Some, None};
+ghost use Rattle.std.specs.Prelude.{◌≡◌, ◌≤◌, ◌^◌, ℕ, List, [], true, false, not, IsTrue, IsSome, IfOk, IfErr, OnOk, OnErr, Some, None};
 ghost use Rattle.nsq_outside.specs.Files.{Files};
 ghost use Rattle.queue_image.specs.FileNames.{meta_file};
 ghost use Rattle.queue_image.specs.Metas.{IsIdle};
@@ -6,10 +6,12 @@ ghost use Rattle.queue_opening.specs.Refusals.{OpenFails};
 ghost use Rattle.disk_queue.specs.Opened.{IsOpened, IsTidied, FilesOfChange};
 ghost use Rattle.v2_frame.specs.declared.message.Message.{Message};
 ghost use Rattle.backlog.specs.Lists.{OnDisk, Stands, WasFound, OpenRefused};
+ghost use Rattle.broker_history.specs.State.{is_empty, is_ephemeral_channel};
 ghost use Rattle.channel_copies.specs.Clients.{PutsClient, client_of, now_ready};
-ghost use Rattle.channel_core.specs.Seen.{channel_with, seen_channel};
-ghost use Rattle.channel_core.specs.Made.{IsFresh, IsOpenedAs, FitsRun, queue_name};
-ghost use Rattle.channel_core.specs.Answers.{Looks, NoneBehind, Tells, TellsDue};
+ghost use Rattle.channel_core.specs.Seen.{channel_with, queue_name, seen_channel};
+ghost use Rattle.channel_core.specs.Kept.{IsBacklogOf};
+ghost use Rattle.channel_core.specs.Made.{IsFresh, IsOpenedAs, FitsRun};
+ghost use Rattle.channel_core.specs.Answers.{IsNextDue, Looks, Tells, TellsDue, sooner_of};
 ghost use Rattle.channel_core.specs.declared.drawn.Drawn.TheVariants as drawn;
 ghost use Rattle.channel_core.specs.Moves.{due_in};
 
@@ -22,7 +24,7 @@ mod storing;
 use crate::{About, Counts, Drawn, Look};
 use backlog::Backlog;
 use channel_copies::{Clients, Deferred, Flights};
-use making::{backlog_options, queue_name};
+use making::{backlog_options, is_ephemeral, queue_name};
 use nsq_base::{Chan, Memory, MsgId, Options, Topic};
 use nsq_outside::Folder;
 use queue_opening::Open;
@@ -70,7 +72,7 @@ impl Model for Channel {
       drawn = c.drawn;
     } };
 
-    ghost invariant = { λ c. IsWhole c.about c.backlog.lent c.flights c.deferred c.drawn };
+    ghost invariant = { λ c. IsWhole c.about c.backlog c.flights c.deferred c.drawn };
 }
 
 impl Channel {
@@ -88,7 +90,7 @@ impl Channel {
         ensures stands { IfOk result (λ c. (files : Files) → IsIdle (files (meta_file (queue_name topic name))) → Stands c.backlog.queue files) }
     {
         let queue = queue_name(alloc, topic, name)?;
-        let durable = !topic.ephemeral() && !name.ephemeral();
+        let durable = !is_ephemeral(topic, name);
         let backlog = Backlog::fresh(
             alloc,
             queue.as_str(),
@@ -99,8 +101,8 @@ impl Channel {
         Ok(Channel::of(alloc, topic, name, options, backlog))
     }
 
-    /// A durable channel with the copies that an opening finds in its queue: all of them are queued. Errors are as those of `Queue::open`.
-    /// Requires times of at most 2^62.
+    /// A channel with the copies that an opening finds in its queue: all of them are queued. An ephemeral one is made as by `fresh`. Errors are
+    /// those of `Backlog::open`. Requires times of at most 2^62.
     pub fn open<F: Folder>(
         alloc: Global,
         folder: &mut F,
@@ -110,13 +112,16 @@ impl Channel {
     ) -> Result<Channel, Open>
         requires { FitsRun options.now }
         ensures seen { IfOk result (IsOpenedAs topic name options.now) }
-        ensures list { IsTrue F.tells_files → IfOk result (λ c. (messages : List Message) → WasFound (queue_name topic name) (F.files folder.old) messages → OnDisk c.backlog.queue (F.files folder.new) messages) }
+        ensures list { IsTrue F.tells_files → is_ephemeral_channel topic name ≡ false → IfOk result (λ c. (messages : List Message) → WasFound (queue_name topic name) (F.files folder.old) messages → OnDisk c.backlog.queue (F.files folder.new) messages) }
         ensures stands { IsTrue F.tells_files → IfOk result (λ c. Stands c.backlog.queue (F.files folder.new)) }
         ensures refused { IsTrue F.tells_files → IfErr result (λ e. OpenRefused (queue_name topic name) (F.files folder.old) (F.files folder.new) e) }
         ensures others { IsTrue F.tells_files → FilesOfChange (queue_name topic name) (F.files folder.old) (F.files folder.new) }
         ensures faults { F.folder_faults folder.old ≤ F.folder_faults folder.new }
         ensures cause { IfErr result (λ e. OpenFails (F.folder_faults folder.old) (F.folder_faults folder.new) e) }
     {
+        if is_ephemeral(topic, name) {
+            return Ok(Channel::fresh(alloc, topic, name, options)?);
+        }
         let Ok(queue) = queue_name(alloc, topic, name) else {
             return Err(Open::Memory);
         };
@@ -128,6 +133,22 @@ impl Channel {
             backlog_options(options),
         )?;
         Ok(Channel::of(alloc, topic, name, options, backlog))
+    }
+
+    /// Its name. Exactly a durable channel has a queue on disk, which is named after its topic and it, and the ring holds as many messages as the
+    /// options of its making said.
+    pub fn name(&self) -> Chan
+        ensures value { result ≡ self.now.about.name }
+        ensures named { IsBacklogOf self.now.about self.now.backlog }
+    {
+        self.about.name
+    }
+
+    /// Whether it is paused: then no copy is sent.
+    pub fn is_paused(&self) -> bool
+        ensures { result ≡ self.now.paused }
+    {
+        self.paused
     }
 
     /// Subscribes a client, which asks for no copy yet. After Memory all is as it was. Requires that it isn't subscribed, and a time of at
@@ -149,6 +170,13 @@ impl Channel {
         ensures rest { self.new ≡ record self.old { clients = self.new.clients } }
     {
         self.clients.leave(client);
+    }
+
+    /// Whether a client is subscribed.
+    pub fn has_clients(&self) -> bool
+        ensures { result ≡ not (is_empty self.now.clients) }
+    {
+        !self.clients.is_empty()
     }
 
     /// Sets how many copies a client may have in flight.
@@ -197,10 +225,19 @@ impl Channel {
         }
     }
 
-    /// How many copies there are, and what happened to them.
+    /// When the next copy is due of those that are in flight or deferred: none is due before. None where there is none.
+    pub fn next_due(&self) -> Option<u64>
+        ensures { (queued : List Message) → IsNextDue (channel_with self.now queued) result }
+    {
+        let flight = self.flights.next_due();
+        let waiting = self.deferred.next_due();
+        sooner_of(flight, waiting)
+    }
+
+    /// How many copies there are, and what happened to them. Those of copies are told where nothing is drawn.
     pub fn counts(&self) -> Counts
-        ensures tells { self.now.drawn ≡ drawn.Nothing → (files : Files) → (disk : List Message) → OnDisk self.now.backlog.queue files disk → Tells (seen_channel self.now disk) self.now.backlog.capacity result }
-        ensures none { NoneBehind self.now.backlog.queue result }
+        ensures tells { self.now.drawn ≡ drawn.Nothing → (files : Files) → (disk : List Message) → OnDisk self.now.backlog.queue files disk → Tells self.now.about.mem_queue_size (seen_channel self.now disk) result }
+        ensures none { is_ephemeral_channel self.now.about.topic self.now.about.name ≡ true → result.backend_depth ≡ 0 }
     {
         let depths = self.backlog.depths();
         Counts {
@@ -213,4 +250,17 @@ impl Channel {
             timeout_count: self.timeout_count,
         }
     }
+}
+
+// Of two moments the sooner one, where there are two.
+fn sooner_of(a: Option<u64>, b: Option<u64>) -> Option<u64>
+    ensures { result ≡ sooner_of a b }
+{
+    let Some(first) = a else {
+        return b;
+    };
+    let Some(second) = b else {
+        return a;
+    };
+    Some(first.min(second))
 }

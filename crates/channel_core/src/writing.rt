@@ -28,6 +28,7 @@ pub(crate) fn write_flights<F: Folder, L: Ledger>(
     requires scratch { 16777242 ≤ length scratch.old }
     ensures left { LeftWhere flights.old.flights flights.new.flights result }
     ensures nothing_now { backlog.new.lent ≡ Nothing }
+    ensures capacity { backlog.new.capacity ≡ backlog.old.capacity }
     ensures stores { StoresWhere F.tells_files (flying_messages flights.old.flights) (around backlog.old (F.files folder.old) (F.folder_faults folder.old)) (around backlog.new (F.files folder.new) (F.folder_faults folder.new)) result }
     ensures disk { KeepsDisk F.tells_files (around backlog.old (F.files folder.old) (F.folder_faults folder.old)) (around backlog.new (F.files folder.new) (F.folder_faults folder.new)) }
     ensures cause { FlushFails (F.folder_faults folder.old) (F.folder_faults folder.new) result }
@@ -56,6 +57,7 @@ pub(crate) fn write_deferred<F: Folder, L: Ledger>(
     requires scratch { 16777242 ≤ length scratch.old }
     ensures left { LeftWhere deferred.old.waiting deferred.new.waiting result }
     ensures nothing_now { backlog.new.lent ≡ Nothing }
+    ensures capacity { backlog.new.capacity ≡ backlog.old.capacity }
     ensures stores { StoresWhere F.tells_files (deferred_messages deferred.old.waiting) (around backlog.old (F.files folder.old) (F.folder_faults folder.old)) (around backlog.new (F.files folder.new) (F.folder_faults folder.new)) result }
     ensures disk { KeepsDisk F.tells_files (around backlog.old (F.files folder.old) (F.folder_faults folder.old)) (around backlog.new (F.files folder.new) (F.folder_faults folder.new)) }
     ensures cause { FlushFails (F.folder_faults folder.old) (F.folder_faults folder.new) result }
@@ -83,6 +85,7 @@ fn write_one<F: Folder>(
     requires short { FitsLimit message }
     requires scratch { 16777242 ≤ length scratch.old }
     ensures nothing_now { backlog.new.lent ≡ Nothing }
+    ensures capacity { backlog.new.capacity ≡ backlog.old.capacity }
     ensures stores { StoresWhere F.tells_files (message ∷ []) (around backlog.old (F.files folder.old) (F.folder_faults folder.old)) (around backlog.new (F.files folder.new) (F.folder_faults folder.new)) result }
     ensures disk { KeepsDisk F.tells_files (around backlog.old (F.files folder.old) (F.folder_faults folder.old)) (around backlog.new (F.files folder.new) (F.folder_faults folder.new)) }
     ensures cause { FlushFails (F.folder_faults folder.old) (F.folder_faults folder.new) result }
@@ -108,6 +111,7 @@ fn make_room<F: Folder>(
     requires nothing { backlog.old.lent ≡ Nothing }
     requires scratch { 16777242 ≤ length scratch.old }
     ensures nothing_now { backlog.new.lent ≡ Nothing }
+    ensures capacity { backlog.new.capacity ≡ backlog.old.capacity }
     ensures stores { StoresWhere F.tells_files [] (around backlog.old (F.files folder.old) (F.folder_faults folder.old)) (around backlog.new (F.files folder.new) (F.folder_faults folder.new)) result }
     ensures disk { KeepsDisk F.tells_files (around backlog.old (F.files folder.old) (F.folder_faults folder.old)) (around backlog.new (F.files folder.new) (F.folder_faults folder.new)) }
     ensures cause { FlushFails (F.folder_faults folder.old) (F.folder_faults folder.new) result }

@@ -1,8 +1,11 @@
-ghost use Rattle.std.specs.Prelude.{◌≡◌, ◌++◌, IfOk};
+ghost use Rattle.std.specs.Prelude.{◌≡◌, IfOk};
 ghost use Rattle.std.specs.String.{string_bytes};
 ghost use Rattle.backlog.specs.Seen.{ForMessages};
 ghost use Rattle.backlog.specs.declared.backlog.Lent.TheVariants.{Nothing};
-ghost use Rattle.channel_core.specs.Made.{FitsRun, made_channel, queue_name, queue_options};
+ghost use Rattle.broker_history.specs.State.{is_ephemeral_channel};
+ghost use Rattle.channel_core.specs.Kept.{IsBacklogOf};
+ghost use Rattle.channel_core.specs.Made.{FitsRun, about_of, made_channel, queue_options};
+ghost use Rattle.channel_core.specs.Seen.{queue_name};
 
 use super::Channel;
 use crate::{About, Drawn};
@@ -22,6 +25,7 @@ impl Channel {
         backlog: Backlog,
     ) -> Channel
         requires times { FitsRun options.now }
+        requires named { IsBacklogOf (about_of topic name options.now) backlog }
         requires nothing { backlog.lent ≡ Nothing }
         ensures { result ≡ record (made_channel topic name options.now backlog) { spare = result.spare; deferred_spare = result.deferred_spare } }
     {
@@ -45,6 +49,16 @@ impl Channel {
             drawn: Drawn::Nothing,
         }
     }
+}
+
+// Whether a channel is ephemeral, itself or with its topic: then nothing of it is on disk.
+pub(super) fn is_ephemeral(topic: Topic, name: Chan) -> bool
+    ensures { result ≡ is_ephemeral_channel topic name }
+{
+    if topic.ephemeral() {
+        return true;
+    }
+    name.ephemeral()
 }
 
 // The name of a channel's queue.

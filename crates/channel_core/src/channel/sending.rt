@@ -1,15 +1,16 @@
-ghost use Rattle.std.specs.Prelude.{◌≡◌, ◌+◌, ◌^◌, ◌≤◌, ℕ, List, length, IsTrue, IsSome, OnOk};
-ghost use Rattle.nsq_outside.specs.Files.{SameFiles};
+ghost use Rattle.std.specs.Prelude.{◌≡◌, ◌+◌, ◌^◌, ◌≤◌, ◌<◌, ℕ, List, length, IsTrue, IsSome, OnOk, MatchBool};
+ghost use Rattle.nsq_outside.specs.Files.{Files, SameFiles};
 ghost use Rattle.v2_frame.specs.declared.message.Message.{Message};
 ghost use Rattle.backlog.specs.Seen.{FitsLimit};
 ghost use Rattle.backlog.specs.Lists.{OnDisk};
+ghost use Rattle.broker_history.specs.State.{flying, queued};
 ghost use Rattle.broker_history.specs.Channels.{MovesLive, Sends, HoldsBack};
 ghost use Rattle.channel_copies.specs.Clients.{client_of};
 ghost use Rattle.channel_copies.specs.Flights.{CostsCalls};
 ghost use Rattle.channel_copies.specs.Putting.{KeepsDisk, around};
 ghost use Rattle.channel_core.specs.declared.drawn.Drawn.TheVariants as drawn;
-ghost use Rattle.channel_core.specs.Seen.{HasRoom, channel_with, drawn_in, items, queued_in};
-ghost use Rattle.channel_core.specs.Drawing.{Draws, DrawFails, IsDrawnFor, IsFirstDrawn, IsHeld, Leads, NextLeaves, NextWhere, first_drawn, ready_of, timeout_of};
+ghost use Rattle.channel_core.specs.Seen.{HasRoom, channel_with, drawn_in, items, queued_in, seen_channel};
+ghost use Rattle.channel_core.specs.Drawing.{Draws, DrawFails, Drew, IsDrawnFor, IsFirstDrawn, IsHeld, IsOfDrawing, Leads, NextLeaves, NextWhere, first_drawn, ready_of, timeout_of};
 
 use super::Channel;
 use crate::{Drawn, Next, Sending};
@@ -25,8 +26,8 @@ use v2_frame::Message;
 impl Channel {
     /// The next copy for a client, with one more attempt: NoCredit exactly where it has as many in flight as it asked for, else Paused exactly
     /// where the channel is, else NoneQueued exactly where no copy is queued; Held exactly where the id of the copy that comes up is in flight.
-    /// But Memory may come in place of NoneQueued and what follows. The copy stays queued until `sent` or `settle_held`. Requires that nothing
-    /// is drawn, that the client is subscribed, and 16,777,242 bytes of `scratch`.
+    /// The copy stays queued until `sent` or `settle_held`. Requires that nothing is drawn, that the client is subscribed, and 16,777,242 bytes
+    /// of `scratch`.
     pub fn next<F: Folder>(
         &mut self,
         folder: &mut F,
@@ -46,38 +47,19 @@ impl Channel {
         ensures disk { KeepsDisk F.tells_files (around self.old.backlog (F.files folder.old) (F.folder_faults folder.old)) (around self.new.backlog (F.files folder.new) (F.folder_faults folder.new)) }
         ensures fault { DrawFails (F.folder_faults folder.old) (F.folder_faults folder.new) result }
     {
-        if u64::from(self.clients.get(client).ready) <= self.flights.count(client) as u64 {
+        if self.has_no_credit(client) {
             return Next::NoCredit;
         }
-        if self.paused {
+        if self.is_paused() {
             return Next::Paused;
         }
-        let reserved: Result<_, _> = self.reserve();
-        if reserved.is_err() {
+        if self.has_none_queued() {
+            return Next::NoneQueued;
+        }
+        let Ok(()) = self.reserve() else {
             return Next::Memory;
-        }
-        let message = match self.backlog.draw(folder, scratch) {
-            FromBacklog::Got(message) => message,
-            FromBacklog::Empty => return Next::NoneQueued,
-            FromBacklog::Fault => return Next::Fault,
-            FromBacklog::Damaged => return Next::Damaged,
-            FromBacklog::Memory => return Next::Memory,
         };
-        let id = message.id;
-        if self.flights.has(id) {
-            self.drawn = Drawn::ToHold(message, now);
-            return Next::Held(id);
-        }
-        let attempts = message.attempts;
-        self.drawn = Drawn::ToSend(Sending {
-            client,
-            id,
-            attempts,
-            now,
-        });
-        let mut message = message;
-        message.attempts = attempts.saturating_add(1);
-        Next::Send(message)
+        self.draw_for(folder, scratch, client, now)
     }
 
     /// The copy that `next` gave is in flight from now on, for the client's time. It takes no memory. Requires the message, the client and the
@@ -163,8 +145,75 @@ impl Channel {
         self.backlog.undo(message);
     }
 
+    // Draws the first queued copy, for a client that has credit for it.
+    fn draw_for<F: Folder>(
+        &mut self,
+        folder: &mut F,
+        scratch: &mut [u8],
+        client: u64,
+        now: u64,
+    ) -> Next
+        requires nothing { self.old.drawn ≡ drawn.Nothing }
+        requires room { HasRoom self.old }
+        requires scratch { 16777242 ≤ length scratch.old }
+        ensures drawing { IsOfDrawing result }
+        ensures drawn { NextLeaves client now self.new.drawn result }
+        ensures gives { IsTrue F.tells_files → (disk : List Message) → OnDisk self.old.backlog.queue (F.files folder.old) disk → Drew self.old self.new disk result }
+        ensures list { IsTrue F.tells_files → (disk : List Message) → OnDisk self.old.backlog.queue (F.files folder.old) disk → OnDisk self.new.backlog.queue (F.files folder.new) disk }
+        ensures rest { self.new ≡ record self.old { backlog = self.new.backlog; drawn = self.new.drawn } }
+        ensures same { IsTrue F.tells_files → SameFiles (F.files folder.old) (F.files folder.new) }
+        ensures disk { KeepsDisk F.tells_files (around self.old.backlog (F.files folder.old) (F.folder_faults folder.old)) (around self.new.backlog (F.files folder.new) (F.folder_faults folder.new)) }
+        ensures fault { DrawFails (F.folder_faults folder.old) (F.folder_faults folder.new) result }
+    {
+        let message = match self.backlog.draw(folder, scratch) {
+            FromBacklog::Got(message) => message,
+            FromBacklog::Empty => return Next::NoneQueued,
+            FromBacklog::Fault => return Next::Fault,
+            FromBacklog::Damaged => return Next::Damaged,
+            FromBacklog::Memory => return Next::Memory,
+        };
+        let id = message.id;
+        if self.flights.has(id) {
+            self.drawn = Drawn::ToHold(message, now);
+            return Next::Held(id);
+        }
+        let attempts = message.attempts;
+        self.drawn = Drawn::ToSend(Sending {
+            client,
+            id,
+            attempts,
+            now,
+        });
+        let mut message = message;
+        message.attempts = attempts.saturating_add(1);
+        Next::Send(message)
+    }
+
+    // Whether the client has as many copies in flight as it asked for.
+    fn has_no_credit(&self, client: u64) -> bool
+        requires { IsSome (client_of self.now.clients client) }
+        ensures { (queued : List Message) → MatchBool result (ready_of client self.now ≤ flying client (channel_with self.now queued).copies) (flying client (channel_with self.now queued).copies < ready_of client self.now) }
+    {
+        let in_flight = self.flights.count(client) as u64;
+        let ready = u64::from(self.clients.get(client).ready);
+        ready <= in_flight
+    }
+
+    // Whether no copy is queued.
+    fn has_none_queued(&self) -> bool
+        requires { self.now.drawn ≡ drawn.Nothing }
+        ensures { (files : Files) (disk : List Message) → OnDisk self.now.backlog.queue files disk → MatchBool result (queued (seen_channel self.now disk).copies ≡ 0) (0 < queued (seen_channel self.now disk).copies) }
+    {
+        let depths = self.backlog.depths();
+        if depths.ring != 0 {
+            return false;
+        }
+        depths.disk == 0
+    }
+
     // Makes room for one more in flight, and for deferring it.
     fn reserve(&mut self) -> Result<(), Memory>
+        requires { self.old.drawn ≡ drawn.Nothing }
         ensures room { OnOk result (HasRoom self.new) }
         ensures rest { self.new ≡ record self.old { spare = self.new.spare; deferred_spare = self.new.deferred_spare } }
     {

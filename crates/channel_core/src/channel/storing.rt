@@ -1,18 +1,20 @@
-ghost use Rattle.std.specs.Prelude.{◌≡◌, ◌^◌, ◌≤◌, List, length, IsTrue, IsSome};
+ghost use Rattle.std.specs.Prelude.{◌≡◌, ◌^◌, ◌≤◌, List, length, true, IsTrue};
 ghost use Rattle.disk_queue.specs.Answers.{SyncFails};
 ghost use Rattle.v2_frame.specs.declared.message.Message.{Message};
 ghost use Rattle.backlog.specs.Seen.{FitsLimit, SyncSeen};
 ghost use Rattle.backlog.specs.Lists.{OnDisk, Stands, DiskChanges, SyncFinds, EmptyFinds};
 ghost use Rattle.backlog.specs.Answers.{FlushFails, EmptyFails};
+ghost use Rattle.broker_history.specs.State.{is_ephemeral_channel};
 ghost use Rattle.broker_history.specs.Left.{left_in_channel};
 ghost use Rattle.channel_copies.specs.Flights.{CostsCalls};
 ghost use Rattle.channel_copies.specs.Putting.{KeepsDisk, around};
 ghost use Rattle.channel_core.specs.declared.drawn.Drawn.TheVariants as drawn;
 ghost use Rattle.channel_core.specs.Seen.{items, queued_in, seen_channel};
 ghost use Rattle.channel_core.specs.Storing.{Defers, Offers, OfferBack, OfferFails, Empties, FlushLeaves};
-ghost use Rattle.channel_core.specs.Deleting.{Deletes, DeleteStands, DeleteFinds, DeleteGone, DeleteFails};
+ghost use Rattle.channel_core.specs.Deleting.{Deletes, DeleteSeen, DeleteStands, DeleteFinds, DeleteGone, DeleteFails};
 
 use super::Channel;
+use super::making::is_ephemeral;
 use crate::writing::{write_deferred, write_flights};
 use crate::{DropChannel, Offer};
 use backlog::{Flushed, Gone, PutOne};
@@ -79,24 +81,28 @@ impl Channel {
         Emptied::Done
     }
 
-    /// Writes all copies behind those on disk, the ring's, those in flight and the deferred ones, each of the two by due moment, and saves: an
-    /// opening finds them all. After a fault nothing is claimed of where the copies are. It takes no memory. Requires a durable channel, that
-    /// nothing is drawn, and 16,777,242 bytes of `scratch`.
+    /// Writes all copies of a durable channel behind those on disk, the ring's, those in flight and the deferred ones, each of the two by due
+    /// moment, and saves: an opening finds them all. After a fault nothing is claimed of where the copies are, and one that the folder refused is
+    /// in no place any more. An ephemeral channel stays as it is. It takes no memory. Requires that nothing is drawn, and 16,777,242 bytes of `scratch`.
     pub fn flush<F: Folder, L: Ledger>(
         &mut self,
         folder: &mut F,
         scratch: &mut [u8],
         steps: &mut Steps<L>,
     ) -> Flushed
-        requires durable { IsSome self.old.backlog.queue }
         requires nothing { self.old.drawn ≡ drawn.Nothing }
         requires scratch { 16777242 ≤ length scratch.old }
-        ensures found { IsTrue F.tells_files → (disk : List Message) → OnDisk self.old.backlog.queue (F.files folder.old) disk → Stands self.old.backlog.queue (F.files folder.old) → FlushLeaves (left_in_channel (seen_channel self.old disk)) self.old.backlog.queue (F.files folder.new) result }
+        ensures found { IsTrue F.tells_files → (disk : List Message) → OnDisk self.old.backlog.queue (F.files folder.old) disk → Stands self.old.backlog.queue (F.files folder.old) → FlushLeaves (left_in_channel (seen_channel self.old disk)) self.old.about (F.files folder.new) result }
+        ensures ephemeral { is_ephemeral_channel self.old.about.topic self.old.about.name ≡ true → self.new ≡ self.old }
+        ensures rest { self.new ≡ record self.old { backlog = self.new.backlog; flights = self.new.flights; deferred = self.new.deferred; spare = self.new.spare; deferred_spare = self.new.deferred_spare } }
         ensures nothing_now { self.new.drawn ≡ drawn.Nothing }
         ensures disk { KeepsDisk F.tells_files (around self.old.backlog (F.files folder.old) (F.folder_faults folder.old)) (around self.new.backlog (F.files folder.new) (F.folder_faults folder.new)) }
         ensures cause { FlushFails (F.folder_faults folder.old) (F.folder_faults folder.new) result }
         ensures steps { CostsCalls (items self.old) (items self.old) steps.old steps.new }
     {
+        if is_ephemeral(self.about.topic, self.about.name) {
+            return Flushed::Done;
+        }
         let ring = self.about.mem_queue_size;
         match write_flights(
             &mut self.flights,
@@ -141,6 +147,7 @@ impl Channel {
     /// in them. Requires that nothing is drawn.
     pub fn delete<F: Folder>(self, folder: &mut F) -> DropChannel
         requires nothing { self.drawn ≡ drawn.Nothing }
+        ensures seen { DeleteSeen self result }
         ensures row { IsTrue F.tells_files → (disk : List Message) → OnDisk self.backlog.queue (F.files folder.old) disk → Deletes self disk (F.files folder.new) result }
         ensures found { IsTrue F.tells_files → DeleteFinds self.backlog.queue (F.files folder.new) result }
         ensures gone { IsTrue F.tells_files → Stands self.backlog.queue (F.files folder.old) → DeleteGone self.backlog.queue (F.files folder.new) (F.folder_faults folder.old) (F.folder_faults folder.new) result }

@@ -1,9 +1,10 @@
-use Rattle.std.proofs.Common.{◌≡◌, IsTrue, List, sym, subst}
-use Rattle.v2_frame.specs.declared.message.Message.{Message}
-use Rattle.backlog.specs.declared.answers.Flushed.{Flushed}
 use Rattle.channel_copies.specs.Putting.{around}
+use Rattle.channel_core.proofs.Keeping.{flush_capacity}
 use Rattle.channel_core.proofs.Wrote.{room_made}
 use Rattle.channel_core.proofs.writing.make_room.Goals as goal
+
+pub returns-clause-capacity : goal.returns-clause-capacity
+returns-clause-capacity g c = flush_capacity _ _ _ c.flush.ensures.seen
 
 pub returns-clause-stores : goal.returns-clause-stores
 returns-clause-stores g c =

@@ -1,4 +1,4 @@
-use Rattle.std.proofs.Common.{◌≡◌, length, arith}
+use Rattle.std.proofs.Common.{◌∙◌, length, arith}
 use Rattle.channel_copies.specs.Putting.{around}
 use Rattle.channel_copies.proofs.Counts.{shorter}
 use Rattle.channel_core.proofs.Wrote.{keeps_joined, same_there, stores_next, deferred_less, spends_next, spends_all}
@@ -20,6 +20,7 @@ loop-message-preserved g c =
       fewer = omega (arith, less, kept.fewer);
       durable = same_there c.loop-message.backlog.queue c.write_one.new.backlog.queue c.write_one.ensures.disk.queue kept.durable;
       nothing = c.write_one.ensures.nothing_now;
+      capacity = c.write_one.ensures.capacity ∙ kept.capacity;
       stores = stores_next first before now (deferred_less c.in-Some.ensures.leaves.0 c.in-Some.message c.loop-message.deferred.waiting c.pop.new.self.waiting c.in-Some.ensures.leaves.1) kept.stores c.in-Done.ensures.stores;
       disk = keeps_joined first before now kept.disk c.write_one.ensures.disk;
       steps = spends_next (length c.args.deferred.now.waiting) (length c.loop-message.deferred.waiting) (length c.pop.new.self.waiting) c.args.steps.now c.loop-message.steps c.pop.new.steps kept.fewer less kept.steps c.pop.ensures.steps;

@@ -1,4 +1,4 @@
-use Rattle.std.proofs.Common.{◌≡◌, ℕ, ◌≤◌, length, IsSome}
+use Rattle.std.proofs.Common.{◌≡◌, ◌≤◌, length, IsSome}
 use Rattle.backlog.specs.declared.backlog.Lent.TheVariants.{Nothing}
 use Rattle.channel_copies.specs.Putting.{KeepsDisk, around}
 use Rattle.channel_core.specs.Storing.{Stores, deferred_messages}
@@ -18,6 +18,7 @@ invariant-loop-message g l =
       fewer : length l.deferred.waiting ≤ length l.fn.deferred.waiting;
       durable : IsSome l.backlog.queue;
       nothing : l.backlog.lent ≡ Nothing;
+      capacity : l.backlog.capacity ≡ l.fn.backlog.capacity;
       stores : Stores g.F.Folder.tells_files (deferred_messages l.fn.deferred.waiting) (deferred_messages l.deferred.waiting) before now;
       disk : KeepsDisk g.F.Folder.tells_files before now;
       steps : Spends (length l.fn.deferred.waiting) (length l.deferred.waiting) l.fn.steps l.steps;

@@ -1,4 +1,4 @@
-use Rattle.std.proofs.Common.{◌≡◌, length, arith}
+use Rattle.std.proofs.Common.{◌∙◌, length, arith}
 use Rattle.channel_copies.specs.Putting.{around}
 use Rattle.channel_copies.proofs.Counts.{shorter}
 use Rattle.channel_core.proofs.Wrote.{keeps_joined, same_there, stores_next, flying_less, spends_next, spends_all}
@@ -20,6 +20,7 @@ loop-flight-preserved g c =
       fewer = omega (arith, less, kept.fewer);
       durable = same_there c.loop-flight.backlog.queue c.write_one.new.backlog.queue c.write_one.ensures.disk.queue kept.durable;
       nothing = c.write_one.ensures.nothing_now;
+      capacity = c.write_one.ensures.capacity ∙ kept.capacity;
       stores = stores_next first before now (flying_less c.in-Some.flight c.loop-flight.flights.flights c.pop.new.self.flights c.in-Some.ensures.leaves) kept.stores c.in-Done.ensures.stores;
       disk = keeps_joined first before now kept.disk c.write_one.ensures.disk;
       steps = spends_next (length c.args.flights.now.flights) (length c.loop-flight.flights.flights) (length c.pop.new.self.flights) c.args.steps.now c.loop-flight.steps c.pop.new.steps kept.fewer less kept.steps c.pop.ensures.steps;

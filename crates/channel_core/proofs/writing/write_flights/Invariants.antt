@@ -1,4 +1,4 @@
-use Rattle.std.proofs.Common.{◌≡◌, ℕ, ◌≤◌, length, IsSome}
+use Rattle.std.proofs.Common.{◌≡◌, ◌≤◌, length, IsSome}
 use Rattle.backlog.specs.declared.backlog.Lent.TheVariants.{Nothing}
 use Rattle.channel_copies.specs.Putting.{KeepsDisk, around}
 use Rattle.channel_core.specs.Storing.{Stores, flying_messages}
@@ -18,6 +18,7 @@ invariant-loop-flight g l =
       fewer : length l.flights.flights ≤ length l.fn.flights.flights;
       durable : IsSome l.backlog.queue;
       nothing : l.backlog.lent ≡ Nothing;
+      capacity : l.backlog.capacity ≡ l.fn.backlog.capacity;
       stores : Stores g.F.Folder.tells_files (flying_messages l.fn.flights.flights) (flying_messages l.flights.flights) before now;
       disk : KeepsDisk g.F.Folder.tells_files before now;
       steps : Spends (length l.fn.flights.flights) (length l.flights.flights) l.fn.steps l.steps;

@@ -11,7 +11,7 @@ take-requires g c = asked c.self.view_is c.requires.yours
 pub invariant_of-self : goal.invariant_of-self
 invariant_of-self g c =
     let nothing = ap (λ (v : Seen). v.drawn) c.self.view_is ∙ c.requires.nothing in
-    still_whole _ _ _ _ c.self.invariant nothing (nothing_lent nothing c.self.invariant) (omega (arith, shorter c.take.result c.self.inside.flights.flights c.take.new.self.flights c.take.ensures.leaves, c.self.invariant.room))
+    still_whole _ _ _ _ c.self.invariant c.self.invariant.named nothing (nothing_lent nothing c.self.invariant) (omega (arith, shorter c.take.result c.self.inside.flights.flights c.take.new.self.flights c.take.ensures.leaves, c.self.invariant.room))
 
 pub returns-clause-row : goal.returns-clause-row
 returns-clause-row g c = finished c.take.result c.self.view_is c.requires.yours c.take.ensures.id c.take.ensures.leaves c.take.ensures.none refl

@@ -1,10 +1,10 @@
-use Rattle.std.proofs.Common.{◌∙◌, ◌+◌, sym, ap, subst, refl, arith, IsSome}
+use Rattle.std.proofs.Common.{rules, ◌∙◌, ◌+◌, sym, ap, subst, refl, arith, IsSome}
 use Rattle.backlog.specs.Lists.{OnDisk}
 use Rattle.channel_copies.specs.Clients.{client_of}
 use Rattle.channel_copies.specs.Putting.{around}
 use Rattle.channel_copies.proofs.Counts.{shorter}
 use Rattle.channel_core.specs.Seen.{Seen}
-use Rattle.channel_core.proofs.Keeping.{still_whole, to_send, costs_flights}
+use Rattle.channel_core.proofs.Keeping.{settle_capacity, still_named, still_whole, to_send, costs_flights}
 use Rattle.channel_core.proofs.Rows.{sent_row}
 use Rattle.channel_core.proofs.Wrote.{keeps_of}
 use Rattle.channel_core.proofs.channel.Channel.sent.Goals as goal
@@ -12,11 +12,11 @@ use Rattle.channel_core.proofs.channel.Channel.sent.Goals as goal
 pub get-requires : goal.get-requires
 get-requires g c = subst (λ (v : Seen). IsSome (client_of v.clients c.args.client)) (sym c.self.view_is) c.requires.client
 
-pub overflow_add-now : goal.overflow_add-now
-overflow_add-now g c = omega (arith, c.get.ensures.timeout, c.requires.now)
+pub overflow_add-due : goal.overflow_add-due
+overflow_add-due g c = omega (arith, c.get.ensures.timeout, c.requires.now)
 
 pub settle-requires : goal.settle-requires
-settle-requires g c = (to_send _ (ap (λ (v : Seen). v.drawn) c.self.view_is ∙ c.requires.drawn.is) c.self.invariant).lent
+settle-requires g c = (search rules, (to_send _ (ap (λ (v : Seen). v.drawn) c.self.view_is ∙ c.requires.drawn.is) c.self.invariant).lent)
 
 pub put-requires-clause-room : goal.put-requires-clause-room
 put-requires-clause-room g c = (to_send _ (ap (λ (v : Seen). v.drawn) c.self.view_is ∙ c.requires.drawn.is) c.self.invariant).flying
@@ -27,13 +27,13 @@ put-requires-clause-new g c = (to_send _ (ap (λ (v : Seen). v.drawn) c.self.vie
 pub invariant_of-self : goal.invariant_of-self
 invariant_of-self g c =
     let ready = to_send _ (ap (λ (v : Seen). v.drawn) c.self.view_is ∙ c.requires.drawn.is) c.self.invariant in
-    still_whole _ _ _ _ c.self.invariant refl c.settle.ensures.nothing_now (omega (arith, shorter _ c.put.new.self.flights c.self.inside.flights.flights c.put.ensures.joins, ready.deferred))
+    still_whole _ _ _ _ c.self.invariant (still_named _ _ _ c.self.invariant.named c.settle.ensures.queue (settle_capacity _ _ _ c.settle.ensures.seen)) refl c.settle.ensures.nothing_now (omega (arith, shorter _ c.put.new.self.flights c.self.inside.flights.flights c.put.ensures.joins, ready.deferred))
 
 pub returns-clause-row : goal.returns-clause-row
 returns-clause-row g c = λ told disk on top.
     let files = g.F.Folder.files in
     sent_row disk (record { message = c.args.message; client = c.args.client; due = c.args.now + c.get.result.timeout; sent = c.args.now }) c.get.result c.self.view_is c.requires.drawn c.get.ensures.value refl top
-        (c.settle.ensures.first disk) (c.settle.ensures.list told disk (subst (λ (v : Seen). OnDisk v.backlog.queue (files c.args.folder.now) disk) (sym c.self.view_is) on)) c.put.ensures.joins refl
+    (c.settle.ensures.first disk) (c.settle.ensures.list told disk (subst (λ (v : Seen). OnDisk v.backlog.queue (files c.args.folder.now) disk) (sym c.self.view_is) on)) c.put.ensures.joins refl
 
 pub returns-clause-disk : goal.returns-clause-disk
 returns-clause-disk g c =

@@ -8,8 +8,8 @@ use Rattle.channel_core.proofs.channel.Channel.touch.Goals as goal
 pub get-requires : goal.get-requires
 get-requires g c = subst (λ (v : Seen). IsSome (client_of v.clients c.args.client)) (sym c.self.view_is) c.requires.client
 
-pub overflow_add-now : goal.overflow_add-now
-overflow_add-now g c = omega (arith, c.get.ensures.timeout, c.requires.now)
+pub overflow_add-until : goal.overflow_add-until
+overflow_add-until g c = omega (arith, c.get.ensures.timeout, c.requires.now)
 
 pub touch-requires-clause-there : goal.touch-requires-clause-there
 touch-requires-clause-there g c = asked c.self.view_is c.requires.yours
@@ -20,7 +20,7 @@ touch-requires-clause-most g c = c.self.invariant.max_msg_timeout
 pub invariant_of-self : goal.invariant_of-self
 invariant_of-self g c =
     let nothing = ap (λ (v : Seen). v.drawn) c.self.view_is ∙ c.requires.nothing in
-    still_whole _ _ _ _ c.self.invariant nothing (nothing_lent nothing c.self.invariant) (omega (arith, as_many c.self.inside.flights.flights c.touch.new.self.flights c.touch.ensures.prolongs, c.self.invariant.room))
+    still_whole _ _ _ _ c.self.invariant c.self.invariant.named nothing (nothing_lent nothing c.self.invariant) (omega (arith, as_many c.self.inside.flights.flights c.touch.new.self.flights c.touch.ensures.prolongs, c.self.invariant.room))
 
 pub returns-clause-row : goal.returns-clause-row
 returns-clause-row g c = touched_now c.get.result c.self.view_is c.requires.yours c.get.ensures.value refl c.touch.ensures.prolongs refl

@@ -139,3 +139,20 @@ told_at es o first e is some at =
   where
     same : (a b : Entry Message) → Some a ≡ Some b → a ≡ b
     same a b h = cc
+
+-- when the first of a heap is due
+moment_of : {T X : Type 0} (due : X → ℕ) (g : Entry T → X) (o : Option (Entry T)) → ((e : Entry T) → o ≡ Some e → due (g e) ≡ e.due) → option_map (λ (p : ℕ × Key). p.0) (option_map told o) ≡ option_map due (option_map g o)
+moment_of due g None fits = refl
+moment_of due g (Some e) fits = ap Some (sym (fits e refl))
+
+pub next_flight : (es : List (Entry Flight)) (o : Option (ℕ × Key)) → All IsFit es → o ≡ option_map told (heap_first es) → option_map (λ (p : ℕ × Key). p.0) o ≡ option_map (λ (f : Flight). f.due) (soonest (λ f. f.due) (items_of es))
+next_flight es o fit is =
+    ap (option_map (λ (p : ℕ × Key). p.0)) is
+    ∙ (moment_of (λ (f : Flight). f.due) (λ (e : Entry Flight). e.item) (heap_first es) (λ e h. sym (first_holds IsFit es e h fit).due)
+    ∙ ap (option_map (λ (f : Flight). f.due)) (flights_first 0 es fit))
+
+pub next_waiting : (es : List (Entry Message)) (o : Option (ℕ × Key)) → o ≡ option_map told (heap_first es) → option_map (λ (p : ℕ × Key). p.0) o ≡ option_map (λ (w : Waiting). w.due) (soonest_waiting (waiting_of es))
+next_waiting es o is =
+    ap (option_map (λ (p : ℕ × Key). p.0)) is
+    ∙ (moment_of (λ (w : Waiting). w.due) waiting_in (heap_first es) (λ e h. refl)
+    ∙ ap (option_map (λ (w : Waiting). w.due)) (waiting_seen 0 es))

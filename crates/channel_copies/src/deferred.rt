@@ -2,7 +2,7 @@ ghost use Rattle.std.specs.Prelude.{◌≡◌, ◌+◌, ◌≤◌, ◌<◌, ℕ,
 ghost use Rattle.backlog.specs.declared.backlog.Lent.TheVariants.{Nothing};
 ghost use Rattle.backlog.specs.Seen.{FitsLimit};
 ghost use Rattle.channel_copies.specs.Flights.{CostsCalls, Leaves};
-ghost use Rattle.channel_copies.specs.Deferred.{Waiting, MovesFirst, RoomAfter, first_waiting};
+ghost use Rattle.channel_copies.specs.Deferred.{Waiting, MovesFirst, RoomAfter, first_waiting, soonest_waiting};
 ghost use Rattle.channel_copies.specs.Putting.{around};
 
 use crate::putting::{Back, put_back};
@@ -79,6 +79,16 @@ impl Deferred {
             return None;
         }
         self.heap.get(key)
+    }
+
+    /// When the copy is due that is due soonest. None exactly where there is none.
+    pub fn next_due(&self) -> Option<u64>
+        ensures { result ≡ option_map (λ w. w.due) (soonest_waiting self.now.waiting) }
+    {
+        match self.heap.first() {
+            Some((due, _)) => Some(due),
+            None => None,
+        }
     }
 
     /// Takes out the copy that is due soonest. None exactly where there is none.

@@ -1,8 +1,8 @@
-ghost use Rattle.std.specs.Prelude.{◌≡◌, ◌+◌, ◌*◌, ◌^◌, ◌≤◌, ◌<◌, [], length, OnOk, IfNone, IfSome, option_copied};
+ghost use Rattle.std.specs.Prelude.{◌≡◌, ◌+◌, ◌*◌, ◌^◌, ◌≤◌, ◌<◌, [], length, OnOk, IfNone, IfSome, option_copied, option_map};
 ghost use Rattle.std.specs.Bool.{MatchBool};
 ghost use Rattle.backlog.specs.declared.backlog.Lent.TheVariants.{Nothing};
 ghost use Rattle.backlog.specs.Seen.{FitsLimit};
-ghost use Rattle.channel_copies.specs.Flights.{Finds, Leaves, MovesBack, Prolongs, CostsCalls, first_due, flights_of_id, flights_with};
+ghost use Rattle.channel_copies.specs.Flights.{Finds, Leaves, MovesBack, Prolongs, CostsCalls, first_due, flights_of_id, flights_with, soonest};
 ghost use Rattle.channel_copies.specs.Putting.{around};
 
 use crate::flight::Flight;
@@ -114,6 +114,16 @@ impl Flights {
             return None;
         }
         self.heap.get(key)
+    }
+
+    /// When the copy is due that is due soonest. None exactly where there is none.
+    pub fn next_due(&self) -> Option<u64>
+        ensures { result ≡ option_map (λ f. f.due) (soonest (λ f. f.due) self.now.flights) }
+    {
+        match self.heap.first() {
+            Some((due, _)) => Some(due),
+            None => None,
+        }
     }
 
     /// Puts a copy in. It takes no memory. Requires room, a body of at most 16,777,216 bytes, and that no copy of its id is in flight.

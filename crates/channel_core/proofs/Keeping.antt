@@ -1,0 +1,149 @@
+-- What every channel keeps, through a call.
+use Rattle.std.proofs.Common.{◌≡◌, ◌≢◌, ℕ, ◌+◌, ◌≤◌, Bool, true, false, not, List, length, Option, Some, None, refl, sym, ap, ◌∙◌, subst, arith}
+use Rattle.std.specs.Prelude.{is_some, IsSome, IfSome}
+use Rattle.v2_frame.specs.declared.message.Message.{Message}
+use Rattle.disk_queue.specs.Seen.{Seen as Queue}
+use Rattle.disk_queue.specs.declared.answers.Emptied.{Emptied}
+use Rattle.disk_queue.specs.declared.answers.Emptied.TheVariants as emptying
+use Rattle.backlog.specs.Seen.{Seen as Backlog, FitsLimit, SameQueue, PutSeen, DrawSeen, DrawsOne, FindsNone, of_ring, of_disk, no_queue, no_record, SettleSeen, FlushSeen, EmptySeen, undone}
+use Rattle.backlog.specs.declared.backlog.Lent.{Lent}
+use Rattle.backlog.specs.declared.backlog.Lent.TheVariants as lending
+use Rattle.backlog.specs.declared.answers.PutOne.{PutOne}
+use Rattle.backlog.specs.declared.answers.PutOne.TheVariants.{Kept, Dropped, Spilled, Fault}
+use Rattle.backlog.specs.declared.answers.Drawn.{Drawn as FromBacklog}
+use Rattle.backlog.specs.declared.answers.Drawn.TheVariants as drawing
+use Rattle.backlog.specs.declared.answers.Flushed.{Flushed}
+use Rattle.backlog.specs.declared.answers.Flushed.TheVariants.{Done as FlushDone, Fault as FlushFault}
+use Rattle.broker_history.specs.State.{is_ephemeral_channel}
+use Rattle.channel_copies.specs.Flights.{Flying, CostsCalls, flights_of_id}
+use Rattle.channel_copies.specs.Deferred.{Deferring}
+use Rattle.channel_copies.specs.Putting.{Around, Puts}
+use Rattle.channel_core.specs.declared.about.About.{About}
+use Rattle.channel_core.specs.declared.drawn.Sending.{Sending}
+use Rattle.channel_core.specs.declared.drawn.Drawn.{Drawn}
+use Rattle.channel_core.specs.declared.drawn.Drawn.TheVariants.{Nothing, ToSend, ToHold}
+use Rattle.channel_core.specs.Kept.{CanSend, CanHold, CanSettle, IsBacklogOf, IsWhole}
+use Rattle.channel_core.specs.Seen.{Seen, items}
+
+module _ {about : About} {b : Backlog} {flying : Flying} {deferring : Deferring} {d : Drawn} where
+  -- where nothing is drawn the backlog has lent nothing
+  pub nothing_lent : d ≡ Nothing → IsWhole about b flying deferring d → b.lent ≡ lending.Nothing
+  nothing_lent is w = subst (λ d. CanSettle d b.lent flying deferring.spare) is w.settles
+
+  pub to_send : (s : Sending) → d ≡ ToSend s → IsWhole about b flying deferring d → CanSend b.lent flying deferring.spare s
+  to_send s is w = subst (λ d. CanSettle d b.lent flying deferring.spare) is w.settles
+
+  pub to_hold : (held : Message) (now : ℕ) → d ≡ ToHold held now → IsWhole about b flying deferring d → CanHold b.lent flying deferring.spare held
+  to_hold held now is w = subst (λ d. CanSettle d b.lent flying deferring.spare) is w.settles
+
+  -- a call after which nothing is drawn leaves it whole where there is room
+  pub still_whole : (b' : Backlog) (flying' : Flying) (deferring' : Deferring) (d' : Drawn) → IsWhole about b flying deferring d → IsBacklogOf about b' → d' ≡ Nothing → b'.lent ≡ lending.Nothing → length flying'.flights ≤ deferring'.spare → IsWhole about b' flying' deferring' d'
+  still_whole b' flying' deferring' d' w named is none room = record {
+    named = named;
+    room = room;
+    msg_timeout = w.msg_timeout;
+    max_msg_timeout = w.max_msg_timeout;
+    settles = subst (λ d. CanSettle d b'.lent flying' deferring'.spare) (sym is) none;
+  }
+
+  -- and so does a drawing, where there is room to settle it
+  pub ready_to_send : (b' : Backlog) (s : Sending) → IsWhole about b flying deferring d → IsBacklogOf about b' → b'.lent ≢ lending.Nothing → flights_of_id s.id flying.flights ≡ 0 → 1 ≤ flying.spare → length flying.flights + 1 ≤ deferring.spare → IsWhole about b' flying deferring (ToSend s)
+  ready_to_send b' s w named lent free flies room = record {
+    named = named;
+    room = w.room;
+    msg_timeout = w.msg_timeout;
+    max_msg_timeout = w.max_msg_timeout;
+    settles = record { lent = lent; free = free; flying = flies; deferred = room };
+  }
+
+  pub ready_to_hold : (b' : Backlog) (held : Message) (now : ℕ) → IsWhole about b flying deferring d → IsBacklogOf about b' → b'.lent ≢ lending.Nothing → flights_of_id held.id flying.flights ≡ 1 → FitsLimit held → length flying.flights + 1 ≤ deferring.spare → IsWhole about b' flying deferring (ToHold held now)
+  ready_to_hold b' held now w named lent flies short room = record {
+    named = named;
+    room = w.room;
+    msg_timeout = w.msg_timeout;
+    max_msg_timeout = w.max_msg_timeout;
+    settles = record { lent = lent; flies = flies; short = short; deferred = room };
+  }
+
+-- the backlog is the channel's still where its queue has the same name, and its ring holds as many
+same_some : (q r : Option Queue) → SameQueue q r → is_some r ≡ is_some q
+same_some None None same = refl
+same_some None (Some r) same = absurd same
+same_some (Some q) None same = absurd same
+same_some (Some q) (Some r) same = refl
+
+same_name : (q r : Option Queue) (name : List ℕ) → SameQueue q r → IfSome q (λ q. q.name ≡ name) → IfSome r (λ r. r.name ≡ name)
+same_name None None name same h = h
+same_name None (Some r) name same h = absurd same
+same_name (Some q) None name same h = absurd same
+same_name (Some q) (Some r) name same h = same.name ∙ h
+
+pub still_named : (about : About) (b b' : Backlog) → IsBacklogOf about b → SameQueue b.queue b'.queue → b'.capacity ≡ b.capacity → IsBacklogOf about b'
+still_named about b b' w same capacity = record {
+  capacity = capacity ∙ w.capacity;
+  durable = same_some b.queue b'.queue same ∙ w.durable;
+  queue = same_name b.queue b'.queue _ same w.queue;
+}
+
+-- so it is after each call of the backlog
+pub put_capacity : (old new : Backlog) (m : Message) (answer : PutOne) → PutSeen old new m answer → new.capacity ≡ old.capacity
+put_capacity old new m Kept s = ap (λ (b : Backlog). b.capacity) s
+put_capacity old new m Dropped s = ap (λ (b : Backlog). b.capacity) s
+put_capacity old new m Spilled s = ap (λ (b : Backlog). b.capacity) s.is
+put_capacity old new m (Fault back) s = ap (λ (b : Backlog). b.capacity) s.1
+
+one_capacity : (old new : Backlog) (m : Message) → DrawsOne old new m → new.capacity ≡ old.capacity
+one_capacity old new m (of_ring was is) = ap (λ (b : Backlog). b.capacity) is
+one_capacity old new m (of_disk p) = ap (λ (b : Backlog). b.capacity) p.is
+
+none_capacity : (old new : Backlog) → FindsNone old new → new.capacity ≡ old.capacity
+none_capacity old new (no_queue ring queue is) = ap (λ (b : Backlog). b.capacity) is
+none_capacity old new (no_record p) = ap (λ (b : Backlog). b.capacity) p.is
+
+pub draw_capacity : (old new : Backlog) (answer : FromBacklog) → DrawSeen old new answer → new.capacity ≡ old.capacity
+draw_capacity old new (drawing.Got m) s = one_capacity old new m s
+draw_capacity old new drawing.Empty s = none_capacity old new s
+draw_capacity old new drawing.Fault s = ap (λ (b : Backlog). b.capacity) s.is
+draw_capacity old new drawing.Damaged s = ap (λ (b : Backlog). b.capacity) s.peeks.is
+draw_capacity old new drawing.Memory s = ap (λ (b : Backlog). b.capacity) s.peeks.is
+
+pub settle_capacity : (l : Lent) (old new : Backlog) → SettleSeen l old new → new.capacity ≡ old.capacity
+settle_capacity lending.Nothing old new s = absurd s
+settle_capacity lending.OfRing old new s = ap (λ (b : Backlog). b.capacity) s
+settle_capacity lending.OfDisk old new s = ap (λ (b : Backlog). b.capacity) s.is
+
+pub flush_capacity : (old new : Backlog) (answer : Flushed) → FlushSeen old new answer → new.capacity ≡ old.capacity
+flush_capacity old new FlushDone s = ap (λ (b : Backlog). b.capacity) s.0.is
+flush_capacity old new FlushFault s = ap (λ (b : Backlog). b.capacity) s.0.is
+
+pub empty_capacity : (old new : Backlog) (answer : Emptied) → EmptySeen old new answer → new.capacity ≡ old.capacity
+empty_capacity old new emptying.Done s = ap (λ (b : Backlog). b.capacity) s.0
+empty_capacity old new emptying.Fault s = ap (λ (b : Backlog). b.capacity) s.0
+
+pub put_named : {tells : Bool} {m : Message} {answer : PutOne} {about : About} (old new : Around) → IsBacklogOf about old.backlog → Puts tells m answer old new → IsBacklogOf about new.backlog
+put_named {m = m} {answer = answer} {about = about} old new w p = still_named about old.backlog new.backlog w p.queue (put_capacity old.backlog new.backlog m answer p.seen)
+
+pub undo_named : (about : About) (b b' : Backlog) (m : Message) → IsBacklogOf about b → b' ≡ undone b m → IsBacklogOf about b'
+undo_named about b b' m w is = subst (IsBacklogOf about) (sym is) (record { capacity = w.capacity; durable = w.durable; queue = w.queue })
+
+-- a durable channel has a queue on disk
+is_durable : (queue : Option Queue) (e : Bool) → is_some queue ≡ not e → e ≡ false → IsSome queue
+is_durable (Some q) e is not_e = refl
+is_durable None true is not_e = absurd (let no : ⊥ = cc in no)
+is_durable None false is not_e = absurd (let no : ⊥ = cc in no)
+
+pub durable_queue : (about : About) (b : Backlog) → IsBacklogOf about b → is_ephemeral_channel about.topic about.name ≡ false → IsSome b.queue
+durable_queue about b w durable = is_durable b.queue (is_ephemeral_channel about.topic about.name) w.durable durable
+
+-- steps, where more items were there
+pub costs_more : (calls n m before now : ℕ) → n ≤ m → CostsCalls calls n before now → CostsCalls calls m before now
+costs_more calls n m before now less c d h = c d (omega (arith, h, less))
+
+pub costs_both : (n before mid now : ℕ) → CostsCalls 1 n before mid → CostsCalls 1 n mid now → CostsCalls 2 n before now
+costs_both n before mid now a b d h = omega (arith, a d h, b d h)
+
+pub costs_flights : (calls before now : ℕ) {v0 v : Seen} → v0 ≡ v → CostsCalls calls (length v0.flights) before now → CostsCalls calls (items v) before now
+costs_flights calls before now {v0} {v} is c = costs_more calls (length v0.flights) (items v) before now (omega (arith, ap items is)) c
+
+pub costs_deferred : (calls before now : ℕ) {v0 v : Seen} → v0 ≡ v → CostsCalls calls (length v0.deferred) before now → CostsCalls calls (items v) before now
+costs_deferred calls before now {v0} {v} is c = costs_more calls (length v0.deferred) (items v) before now (omega (arith, ap items is)) c

@@ -1,0 +1,11 @@
+pub mod Copies
+pub mod Drawings
+pub mod Dues
+pub mod Joining
+pub mod Keeping
+pub mod Looking
+pub mod Moving
+pub mod Rows
+pub mod Storing
+pub mod Telling
+pub mod Wrote

@@ -1,0 +1,71 @@
+use Rattle.std.proofs.Common.{◌∙◌, length, sym, ap, arith}
+use Rattle.channel_copies.specs.Putting.{around}
+use Rattle.channel_core.specs.Seen.{Seen}
+use Rattle.channel_core.proofs.Keeping.{durable_queue, flush_capacity, nothing_lent, still_named, still_whole}
+use Rattle.channel_core.proofs.Storing.{flush_leaves}
+use Rattle.channel_core.proofs.Wrote.{keeps_joined, keeps_of, same_there}
+use Rattle.channel_core.proofs.channel.Channel.flush.Goals as goal
+
+pub write_flights-requires-clause-durable : goal.write_flights-requires-clause-durable
+write_flights-requires-clause-durable g c κs within = durable_queue _ _ c.self.invariant.named (sym c.is_ephemeral.ensures ∙ c.if-is_ephemeral.false)
+
+pub write_flights-requires-clause-nothing : goal.write_flights-requires-clause-nothing
+write_flights-requires-clause-nothing g c κs within = nothing_lent (ap (λ (v : Seen). v.drawn) c.self.view_is ∙ c.requires.nothing) c.self.invariant
+
+pub invariant_of-self : goal.invariant_of-self
+invariant_of-self g c =
+    let named = still_named _ _ c.write_flights.new.backlog c.self.invariant.named c.write_flights.ensures.disk.queue c.write_flights.ensures.capacity in
+    still_whole c.write_flights.new.backlog c.write_flights.new.flights c.self.inside.deferred c.self.inside.drawn c.self.invariant named (ap (λ (v : Seen). v.drawn) c.self.view_is ∙ c.requires.nothing) c.write_flights.ensures.nothing_now
+    (omega (arith, c.in-Fault.ensures.left, c.self.invariant.room))
+
+pub invariant_of-self-in-Fault-write_deferred : goal.invariant_of-self-in-Fault-write_deferred
+invariant_of-self-in-Fault-write_deferred g c =
+    let flew = still_named _ _ c.write_flights.new.backlog c.self.invariant.named c.write_flights.ensures.disk.queue c.write_flights.ensures.capacity in
+    let named = still_named _ _ c.write_deferred.new.backlog flew c.write_deferred.ensures.disk.queue c.write_deferred.ensures.capacity in
+    still_whole c.write_deferred.new.backlog c.write_flights.new.flights c.write_deferred.new.deferred c.self.inside.drawn c.self.invariant named (ap (λ (v : Seen). v.drawn) c.self.view_is ∙ c.requires.nothing) c.write_deferred.ensures.nothing_now
+    (omega (arith, ap length c.in-Done.ensures.left))
+
+pub invariant_of-self-2 : goal.invariant_of-self-2
+invariant_of-self-2 g c =
+    let flew = still_named _ _ c.write_flights.new.backlog c.self.invariant.named c.write_flights.ensures.disk.queue c.write_flights.ensures.capacity in
+    let waited = still_named _ _ c.write_deferred.new.backlog flew c.write_deferred.ensures.disk.queue c.write_deferred.ensures.capacity in
+    let named = still_named _ _ c.flush.new.self waited c.flush.ensures.queue (flush_capacity _ _ _ c.flush.ensures.seen) in
+    still_whole c.flush.new.self c.write_flights.new.flights c.write_deferred.new.deferred c.self.inside.drawn c.self.invariant named (ap (λ (v : Seen). v.drawn) c.self.view_is ∙ c.requires.nothing) c.flush.ensures.nothing_now
+    (omega (arith, ap length c.in-Done.ensures.left))
+
+pub returns-in-Fault-write_deferred-clause-disk : goal.returns-in-Fault-write_deferred-clause-disk
+returns-in-Fault-write_deferred-clause-disk g c =
+    let files = g.F.Folder.files in
+    let count = g.F.Folder.folder_faults in
+    let now = around c.write_deferred.new.backlog (files c.write_deferred.new.folder) (count c.write_deferred.new.folder) in
+    keeps_of (files c.args.folder.now) (count c.args.folder.now) now c.self.view_is
+    (keeps_joined (around c.self.inside.backlog (files c.args.folder.now) (count c.args.folder.now)) (around c.write_flights.new.backlog (files c.write_flights.new.folder) (count c.write_flights.new.folder)) now
+    c.write_flights.ensures.disk c.write_deferred.ensures.disk)
+
+pub returns-clause-disk : goal.returns-clause-disk
+returns-clause-disk g c =
+    let files = g.F.Folder.files in
+    let count = g.F.Folder.folder_faults in
+    let first = around c.self.inside.backlog (files c.args.folder.now) (count c.args.folder.now) in
+    let flew = around c.write_flights.new.backlog (files c.write_flights.new.folder) (count c.write_flights.new.folder) in
+    let waited = around c.write_deferred.new.backlog (files c.write_deferred.new.folder) (count c.write_deferred.new.folder) in
+    let now = around c.flush.new.self (files c.flush.new.folder) (count c.flush.new.folder) in
+    keeps_of (files c.args.folder.now) (count c.args.folder.now) now c.self.view_is
+    (keeps_joined first waited now (keeps_joined first flew waited c.write_flights.ensures.disk c.write_deferred.ensures.disk)
+    (record { queue = c.flush.ensures.queue; stands = c.flush.ensures.stands; others = c.flush.ensures.others; faults = c.flush.ensures.faults }))
+
+pub returns-clause-found : goal.returns-clause-found
+returns-clause-found g c = λ told disk on stands.
+    let files = g.F.Folder.files in
+    let count = g.F.Folder.folder_faults in
+    let first = around c.self.inside.backlog (files c.args.folder.now) (count c.args.folder.now) in
+    let flew = around c.write_flights.new.backlog (files c.write_flights.new.folder) (count c.write_flights.new.folder) in
+    let waited = around c.write_deferred.new.backlog (files c.write_deferred.new.folder) (count c.write_deferred.new.folder) in
+    let kept = keeps_joined first flew waited c.write_flights.ensures.disk c.write_deferred.ensures.disk in
+    let stood = (keeps_of (files c.args.folder.now) (count c.args.folder.now) waited c.self.view_is kept).stands told stands in
+    let flown = still_named _ _ c.write_flights.new.backlog c.self.invariant.named c.write_flights.ensures.disk.queue c.write_flights.ensures.capacity in
+    let named = still_named _ _ c.write_deferred.new.backlog flown c.write_deferred.ensures.disk.queue c.write_deferred.ensures.capacity in
+    let durable = durable_queue _ _ c.self.invariant.named (sym c.is_ephemeral.ensures ∙ c.if-is_ephemeral.false) in
+    flush_leaves (files c.args.folder.now) (count c.args.folder.now) flew waited (files c.flush.new.folder) disk c.flush.result c.self.view_is told on c.in-Done.ensures.stores c.in-Done-write_deferred.ensures.stores
+    (same_there _ _ kept.queue durable) named
+    (λ d there. c.flush.ensures.found told d there stood)

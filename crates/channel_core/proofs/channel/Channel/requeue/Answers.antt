@@ -1,0 +1,88 @@
+use Rattle.std.proofs.Common.{◌∙◌, sym, ap, subst, refl, arith}
+use Rattle.std.proofs.lemmas.Bool.{ne_eqb}
+use Rattle.backlog.specs.Lists.{OnDisk}
+use Rattle.channel_copies.specs.Putting.{around}
+use Rattle.channel_copies.proofs.Counts.{shorter, as_long}
+use Rattle.channel_core.specs.Seen.{Seen}
+use Rattle.channel_core.proofs.Keeping.{put_named, still_whole, nothing_lent, costs_flights, costs_deferred, costs_both}
+use Rattle.channel_core.proofs.Moving.{gave_back, was_deferred, flies_again}
+use Rattle.channel_core.proofs.Rows.{asked}
+use Rattle.channel_core.proofs.Wrote.{keeps_of, keeps_put}
+use Rattle.channel_core.proofs.channel.Channel.requeue.Goals as goal
+
+pub take-flight-requires : goal.take-flight-requires
+take-flight-requires g c = asked c.self.view_is c.requires.yours
+
+pub put-requires-clause-room : goal.put-requires-clause-room
+put-requires-clause-room g c = omega (arith, shorter c.take-flight.result c.self.inside.flights.flights c.take-flight.new.self.flights c.take-flight.ensures.leaves, c.self.invariant.room)
+
+pub invariant_of-self : goal.invariant_of-self
+invariant_of-self g c =
+    let nothing = ap (λ (v : Seen). v.drawn) c.self.view_is ∙ c.requires.nothing in
+    still_whole _ _ _ _ c.self.invariant c.self.invariant.named nothing (nothing_lent nothing c.self.invariant)
+    (omega (arith, shorter c.take-flight.result c.self.inside.flights.flights c.take-flight.new.self.flights c.take-flight.ensures.leaves, c.self.invariant.room, c.put.ensures.spare))
+
+pub returns-then-delay-ne0-clause-row : goal.returns-then-delay-ne0-clause-row
+returns-then-delay-ne0-clause-row g c = λ told disk on.
+    let files = g.F.Folder.files in
+    was_deferred (files c.args.folder.now) disk c.take-flight.result c.self.view_is (ne_eqb c.args.delay 0 c.if-delay-ne0.true) c.requires.yours c.take-flight.ensures.id c.take-flight.ensures.leaves c.take-flight.ensures.none c.put.ensures.joins
+    (subst (λ (v : Seen). OnDisk v.backlog.queue (files c.args.folder.now) disk) (sym c.self.view_is) on) c.saturating_add-self-inside.ensures refl
+
+pub move_back-requires-clause-there : goal.move_back-requires-clause-there
+move_back-requires-clause-there g c κs within = asked c.self.view_is c.requires.yours
+
+pub move_back-requires-clause-nothing : goal.move_back-requires-clause-nothing
+move_back-requires-clause-nothing g c κs within = nothing_lent (ap (λ (v : Seen). v.drawn) c.self.view_is ∙ c.requires.nothing) c.self.invariant
+
+pub invariant_of-self-in-Done : goal.invariant_of-self-in-Done
+invariant_of-self-in-Done g c =
+    let nothing = ap (λ (v : Seen). v.drawn) c.self.view_is ∙ c.requires.nothing in
+    let back = c.in-Done.ensures.moves in
+    still_whole _ _ _ _ c.self.invariant (put_named _ _ c.self.invariant.named back.puts) nothing back.puts.nothing (omega (arith, shorter back.flight c.self.inside.flights.flights c.move_back.new.self.flights back.leaves, c.self.invariant.room))
+
+pub invariant_of-self-in-Fault : goal.invariant_of-self-in-Fault
+invariant_of-self-in-Fault g c =
+    let nothing = ap (λ (v : Seen). v.drawn) c.self.view_is ∙ c.requires.nothing in
+    let back = c.in-Fault.ensures.moves in
+    still_whole _ _ _ _ c.self.invariant (put_named _ _ c.self.invariant.named back.puts) nothing back.puts.nothing (omega (arith, as_long c.self.inside.flights.flights c.move_back.new.self.flights back.often, c.self.invariant.room))
+
+pub returns-in-Done-clause-row : goal.returns-in-Done-clause-row
+returns-in-Done-clause-row g c = λ told disk on.
+    let files = g.F.Folder.files in
+    let count = g.F.Folder.folder_faults in
+    gave_back (files c.args.folder.now) (files c.move_back.new.folder) (count c.args.folder.now) (count c.move_back.new.folder) disk c.self.view_is c.self.invariant.named told c.if-delay-ne0.false c.requires.yours c.in-Done.ensures.moves
+    (subst (λ (v : Seen). OnDisk v.backlog.queue (files c.args.folder.now) disk) (sym c.self.view_is) on) c.saturating_add-self-inside-in-Done.ensures refl
+
+pub returns-in-Done-clause-disk : goal.returns-in-Done-clause-disk
+returns-in-Done-clause-disk g c =
+    let files = g.F.Folder.files in
+    let count = g.F.Folder.folder_faults in
+    let after = around c.move_back.new.backlog (files c.move_back.new.folder) (count c.move_back.new.folder) in
+    keeps_of (files c.args.folder.now) (count c.args.folder.now) after c.self.view_is (keeps_put c.in-Done.ensures.moves.answer (around c.self.inside.backlog (files c.args.folder.now) (count c.args.folder.now)) after c.in-Done.ensures.moves.puts)
+
+pub returns-in-Fault-clause-row : goal.returns-in-Fault-clause-row
+returns-in-Fault-clause-row g c = λ told disk on.
+    let files = g.F.Folder.files in
+    let count = g.F.Folder.folder_faults in
+    flies_again (files c.args.folder.now) (files c.move_back.new.folder) (count c.args.folder.now) (count c.move_back.new.folder) disk c.self.view_is told c.in-Fault.ensures.moves
+    (subst (λ (v : Seen). OnDisk v.backlog.queue (files c.args.folder.now) disk) (sym c.self.view_is) on) refl
+
+pub returns-in-Fault-clause-disk : goal.returns-in-Fault-clause-disk
+returns-in-Fault-clause-disk g c =
+    let files = g.F.Folder.files in
+    let count = g.F.Folder.folder_faults in
+    let after = around c.move_back.new.backlog (files c.move_back.new.folder) (count c.move_back.new.folder) in
+    keeps_of (files c.args.folder.now) (count c.args.folder.now) after c.self.view_is (keeps_put _ (around c.self.inside.backlog (files c.args.folder.now) (count c.args.folder.now)) after c.in-Fault.ensures.moves.puts)
+
+pub returns-in-Fault-clause-cause : goal.returns-in-Fault-clause-cause
+returns-in-Fault-clause-cause g c = (c.if-delay-ne0.false, c.in-Fault.ensures.moves.puts.cause)
+
+pub returns-then-delay-ne0-clause-steps : goal.returns-then-delay-ne0-clause-steps
+returns-then-delay-ne0-clause-steps g c =
+    costs_both _ c.args.steps.now c.take-flight.new.steps c.put.new.steps (costs_flights 1 c.args.steps.now c.take-flight.new.steps c.self.view_is c.take-flight.ensures.steps) (costs_deferred 1 c.take-flight.new.steps c.put.new.steps c.self.view_is c.put.ensures.steps)
+
+pub returns-in-Done-clause-steps : goal.returns-in-Done-clause-steps
+returns-in-Done-clause-steps g c = costs_flights 2 c.args.steps.now c.move_back.new.steps c.self.view_is c.move_back.ensures.steps
+
+pub returns-in-Fault-clause-steps : goal.returns-in-Fault-clause-steps
+returns-in-Fault-clause-steps g c = costs_flights 2 c.args.steps.now c.move_back.new.steps c.self.view_is c.move_back.ensures.steps

@@ -1,0 +1,9 @@
+pub mod Answers
+pub mod Deleting
+pub mod Drawing
+pub mod Drawn
+pub mod Kept
+pub mod Made
+pub mod Moves
+pub mod Seen
+pub mod Storing

@@ -1,0 +1,94 @@
+-- What joins a channel, and what becomes of all its copies.
+use Rattle.std.specs.Prelude.{◌≡◌, ℕ, ◌+◌, ◌<◌, Bool, false, ◌≤◌, List, [], ◌++◌, map, length, count_by, IsTrue}
+use Rattle.nsq_outside.specs.Files.{Files}
+use Rattle.nsq_outside.specs.Causes.{Rose}
+use Rattle.v2_frame.specs.Written.{message_bytes}
+use Rattle.v2_frame.specs.declared.message.Message.{Message}
+use Rattle.queue_image.specs.Finds.{IsFound, Records}
+use Rattle.disk_queue.specs.declared.answers.Emptied.{Emptied}
+use Rattle.disk_queue.specs.declared.answers.Emptied.TheVariants as emptying
+use Rattle.backlog.specs.Seen.{Seen as Backlog, longest_body}
+use Rattle.backlog.specs.Lists.{OnDisk}
+use Rattle.backlog.specs.declared.answers.Flushed.{Flushed}
+use Rattle.backlog.specs.declared.answers.Flushed.TheVariants as flushing
+use Rattle.broker_history.specs.State.{compared, counted, is_ephemeral_channel}
+use Rattle.broker_history.specs.Channels.{JoinsLive, Gets}
+use Rattle.broker_history.specs.Left.{SameMessages}
+use Rattle.channel_copies.specs.declared.flight.Flight.{Flight}
+use Rattle.channel_copies.specs.Flights.{Leaves}
+use Rattle.channel_copies.specs.Deferred.{Waiting}
+use Rattle.channel_copies.specs.Putting.{Around}
+use Rattle.channel_core.specs.declared.answers.Offer.{Offer}
+use Rattle.channel_core.specs.declared.answers.Offer.TheVariants.{Done, Fault, Memory as WantsMemory}
+use Rattle.channel_core.specs.Drawing.{Leads, IsAsBefore}
+use Rattle.channel_core.specs.declared.about.About.{About}
+use Rattle.channel_core.specs.Seen.{Seen, queue_name, queued_in, room_of}
+
+-- a copy of the message joined the channel, or all is as it was
+abbrev pub Offers : (now : ℕ) → Message → (old : Seen) → (disk : List Message) → Seen → Files → Offer → Type 0
+Offers now message old disk new files Done = Leads (Gets JoinsLive (room_of old) now message) old (queued_in old disk) new files
+Offers now message old disk new files (Fault back) = Leads IsAsBefore old (queued_in old disk) new files
+Offers now message old disk new files (WantsMemory back) = Leads IsAsBefore old (queued_in old disk) new files
+
+-- a message that didn't join comes back as it was
+abbrev pub OfferBack : Message → Offer → Type 0
+OfferBack message Done = Unit {0}
+OfferBack message (Fault back) = back ≡ message
+OfferBack message (WantsMemory back) = back ≡ message
+
+-- a fault comes only with a rise, where the message has no delay; want of memory only where it has one
+abbrev pub OfferFails : (delay before now : ℕ) → Offer → Type 0
+OfferFails delay before now Done = Unit {0}
+OfferFails delay before now (Fault back) = (delay ≡ 0) × Rose before now
+OfferFails delay before now (WantsMemory back) = 0 < delay
+
+-- a copy with a delay joined those that wait, and is counted; or all is as it was but for room
+pub record Joined (now : ℕ) (message : Message) (old new : Seen) : Type 0 where
+  pub joins : Leaves (record { due = now + message.delay; message = message }) new.deferred old.deferred
+  pub count : new.message_count ≡ counted old.message_count
+
+abbrev pub Defers : (now : ℕ) → Message → (old new : Seen) → Offer → Type 0
+Defers now message old new Done = Joined now message old new
+Defers now message old new (Fault back) = ⊥
+Defers now message old new (WantsMemory back) = (back ≡ message) × (new ≡ record old { deferred_spare = new.deferred_spare })
+
+-- all copies are gone, or all is as it was
+abbrev pub Empties : (old : Seen) → (disk : List Message) → Seen → Files → Emptied → Type 0
+Empties old disk new files emptying.Done = Leads (λ k k'. k' ≡ record k { copies = [] }) old (queued_in old disk) new files
+Empties old disk new files emptying.Fault = Leads (λ k k'. k' ≡ k) old (queued_in old disk) new files
+
+-- these messages are what an opening of the queue of this name finds, each as often, and no bad file
+pub record FindsAll (left : List Message) (name : List ℕ) (files : Files) : Type 0 where
+  pub messages : List Message
+  pub found : IsFound 26 (26 + longest_body) files name (Records (map message_bytes messages) [])
+  pub same : SameMessages left messages
+
+abbrev pub FlushLeaves : (left : List Message) → About → Files → Flushed → Type 0
+FlushLeaves left about files flushing.Done = is_ephemeral_channel about.topic about.name ≡ false → FindsAll left (queue_name about.topic about.name) files
+FlushLeaves left about files flushing.Fault = Unit {0}
+
+-- the messages of copies in flight, and of deferred ones
+abbrev pub flying_messages : List Flight → List Message
+flying_messages fs = map (λ f. f.message) fs
+
+abbrev pub deferred_messages : List Waiting → List Message
+deferred_messages ws = map (λ w. w.message) ws
+
+-- of all these messages those that aren't left joined what waits, in the ring or on disk, each as often
+pub record Stored (all left disk : List Message) (old new : Backlog) (files : Files) : Type 0 where
+  pub to : List Message
+  pub on_disk : OnDisk new.queue files to
+  pub joins : (p : Message → Bool) → count_by p (map compared (old.ring ++ disk)) + count_by p (map compared all) ≡ count_by p (map compared (new.ring ++ to)) + count_by p (map compared left)
+
+pub record Stores (tells : Bool) (all left : List Message) (old new : Around) : Type 0 where
+  pub list : IsTrue tells → (disk : List Message) → OnDisk old.backlog.queue old.files disk → Stored all left disk old.backlog new.backlog new.files
+
+-- all of them did, or nothing is claimed
+abbrev pub StoresWhere : (tells : Bool) → List Message → (old new : Around) → Flushed → Type 0
+StoresWhere tells messages old new flushing.Done = Stores tells messages [] old new
+StoresWhere tells messages old new flushing.Fault = Unit {0}
+
+-- what is left: none, or no more than there were
+abbrev pub LeftWhere : {X : Type 0} → (old new : List X) → Flushed → Type 0
+LeftWhere old new flushing.Done = new ≡ []
+LeftWhere old new flushing.Fault = length new ≤ length old

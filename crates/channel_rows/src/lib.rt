@@ -1,0 +1,13 @@
+//! Rows of channels: worked examples of their calls, and random calls beside plain lists. It has nothing but tests.
+#![tactic(auto)]
+
+#[cfg(test)]
+mod calls;
+#[cfg(test)]
+mod memory;
+#[cfg(test)]
+mod plain;
+#[cfg(test)]
+mod random;
+#[cfg(test)]
+mod script;

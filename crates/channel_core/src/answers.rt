@@ -35,7 +35,7 @@ pub enum Next {
 }
 
 /// What `Channel::look` finds of an id.
-#[derive(Clone, Copy, Debug, PartialEq, Eq)]
+#[derive(Clone, Copy, PartialEq, Eq)]
 pub enum Look {
     /// The copy is in flight with the client.
     Yours,
@@ -46,7 +46,7 @@ pub enum Look {
 }
 
 /// The answer of `Channel::requeue`.
-#[derive(Clone, Copy, Debug, PartialEq, Eq)]
+#[derive(Clone, Copy, PartialEq, Eq)]
 pub enum Requeue {
     /// The copy was given back.
     Done,
@@ -55,7 +55,7 @@ pub enum Requeue {
 }
 
 /// The answer of `Channel::move_due`.
-#[derive(Clone, Copy, Debug, PartialEq, Eq)]
+#[derive(Clone, Copy, PartialEq, Eq)]
 pub enum Moved {
     /// A copy of this id was in flight and due, and is put back.
     TimedOut(MsgId),
@@ -77,7 +77,7 @@ pub enum DropChannel {
 }
 
 /// How many copies a channel has, and what happened to them in this run; the latter counts stay at 2^64 - 1.
-#[derive(Clone, Copy, Debug, PartialEq, Eq)]
+#[derive(Clone, Copy, PartialEq, Eq)]
 pub struct Counts {
     /// How many of the queued copies are on disk.
     pub backend_depth: u128,

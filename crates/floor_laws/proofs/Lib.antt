@@ -1,0 +1,3 @@
+pub mod Lifting
+pub mod Counting
+pub mod Paying

@@ -1,3 +1,4 @@
 pub mod Lifting
 pub mod Counting
 pub mod Paying
+pub mod Pairs

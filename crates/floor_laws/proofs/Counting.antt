@@ -1,11 +1,11 @@
 -- What is counted of the live copies alone.
-use Rattle.std.proofs.Common.{◌≡◌, ℕ, ◌+◌, ◌≤◌, ◌<◌, Bool, true, false, ◌&&◌, ◌||◌, not, ◌==◌, nat_lt, if◌then◌else◌, List, [], ◌∷◌, ◌++◌, map, refl, sym, ap, subst, ◌∙◌, arith}
+use Rattle.std.proofs.Common.{◌≡◌, ℕ, ◌≤◌, Bool, true, false, ◌&&◌, ◌||◌, not, ◌==◌, nat_lt, if◌then◌else◌, List, [], ◌∷◌, map, refl, sym, ap, ◌∙◌, arith}
 use Rattle.std.specs.List.{count_by, list_any, filter}
 use Rattle.std.specs.Str.{bytes_eq}
 use Rattle.std.proofs.lemmas.Bool.{false≢true, lt-ltb}
 use Rattle.v2_frame.specs.declared.message.Message.{Message}
-use Rattle.broker_history.specs.State.{Place, Queued, InFlight, Deferred, Finished, Emptied, Dropped, Copy, Channel, compared, is_live, is_queued, is_in_flight, is_with, is_deferred, is_due, queued, in_flight, deferred, flying, flying_of, flying_with}
-use Rattle.broker_history.specs.Channels.{HasLive, IsKept, one, has_credit, can_send, is_free}
+use Rattle.broker_history.specs.State.{Place, Queued, InFlight, Deferred, Copy, Channel, compared, is_live, is_queued, is_in_flight, is_with, is_deferred, is_due, queued, flying, flying_of}
+use Rattle.broker_history.specs.Channels.{IsKept, one, can_send, is_free}
 use Rattle.broker_history.specs.Left.{SameMessages, left_in_channel}
 use Rattle.broker_history.proofs.Counting.{count-cons}
 use Rattle.floor_laws.specs.Counts.{CountsAlike}

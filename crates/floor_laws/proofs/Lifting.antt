@@ -1,11 +1,11 @@
 -- Rows over what is kept are rows over the state's copies.
-use Rattle.std.proofs.Common.{◌≡◌, ℕ, ◌+◌, ◌<◌, Bool, true, false, ◌&&◌, not, nat_le, if◌then◌else◌, ◌==◌, List, [], ◌∷◌, ◌++◌, map, refl, sym, ap, subst, ◌∙◌, arith}
+use Rattle.std.proofs.Common.{◌≡◌, ℕ, ◌<◌, Bool, true, false, ◌&&◌, nat_le, if◌then◌else◌, ◌==◌, List, [], ◌∷◌, ◌++◌, refl, sym, ap, subst, ◌∙◌, arith}
 use Rattle.std.specs.List.{count_by}
 use Rattle.std.specs.Str.{bytes_eq}
 use Rattle.std.proofs.lemmas.Bool.{false≢true, leb-true}
 use Rattle.v2_frame.specs.declared.message.Message.{Message}
-use Rattle.broker_history.specs.State.{Place, Queued, InFlight, Deferred, Finished, Emptied, Dropped, Copy, Channel, counted, is_live, is_in_flight, is_deferred, is_due, queued}
-use Rattle.broker_history.specs.Channels.{one, Room, Moves, MovesLive, Joins, JoinsLive, AsOften, HasLive, IsKept, IsFlight, IsSent, IsFinished, IsTouched, IsGivenBack, IsTimedOut, IsCameDue, IsHeldBack, Sends, Finishes, Touches, GivesBack, TimesOut, ComesDue, HoldsBack, Gets, put_back, put_off, back_in, joins_at, copy_at, is_dropped, is_free, emptied_copy, emptied_all}
+use Rattle.broker_history.specs.State.{Place, Queued, InFlight, Deferred, Finished, Emptied, Dropped, Copy, Channel, counted, is_live, is_in_flight, is_deferred, is_due}
+use Rattle.broker_history.specs.Channels.{one, Room, Moves, MovesLive, Joins, JoinsLive, AsOften, IsKept, IsFlight, IsSent, IsFinished, IsTouched, IsGivenBack, IsTimedOut, IsCameDue, IsHeldBack, Sends, Finishes, Touches, GivesBack, TimesOut, ComesDue, HoldsBack, Gets, put_back, put_off, back_in, joins_at, copy_at, is_dropped, is_free, emptied_copy, emptied_all}
 use Rattle.broker_history.proofs.Lists.{exact_bytes}
 use Rattle.broker_history.proofs.Counting.{live_moves, live_joins, live_counts, count-cons}
 use Rattle.floor_laws.proofs.Counting.{parts, tests_alike}

@@ -1,5 +1,5 @@
 -- Two lists that belong together pair by pair, as items are put in, go, are found and are looked through.
-use Rattle.std.proofs.Common.{◌≡◌, ℕ, Bool, true, false, not, ◌||◌, if◌then◌else◌, List, [], ◌∷◌, ◌++◌, map, Option, Some, None, refl, sym, ap, subst, ◌∙◌}
+use Rattle.std.proofs.Common.{◌≡◌, ℕ, Bool, true, false, not, ◌||◌, if◌then◌else◌, List, [], ◌∷◌, ◌++◌, map, Option, Some, None, refl, sym, ap, ◌∙◌}
 use Rattle.std.specs.List.{All, filter, find, list_any}
 use Rattle.std.specs.Str.{bytes_eq}
 use Rattle.std.proofs.lemmas.Bool.{false≢true}
@@ -7,7 +7,6 @@ use Rattle.std.proofs.lemmas.List.Elements.{All-head, All-tail, All-weaker, filt
 use Rattle.nsq_base.specs.Names.{is_before, byte_order, put_by}
 use Rattle.nsq_base.proofs.PutBy.{other_from_order, Less-from_before, byte_order-flip}
 use Rattle.history.specs.Found.{Pairwise}
-use Rattle.broker_history.proofs.Lists.{same_bytes}
 
 -- a name that comes before another, or behind it, is another one
 before_apart : (a b : List ℕ) → is_before a b ≡ true → bytes_eq b a ≡ false

@@ -1,5 +1,5 @@
 -- What stands in a turn before its act.
-use Rattle.std.proofs.Common.{◌≡◌, ℕ, ◌+◌, ◌==◌, Bool, true, false, if◌then◌else◌, [], ◌∷◌, ◌++◌, length, refl, sym, ap, subst, ◌∙◌, append_assoc, arith}
+use Rattle.std.proofs.Common.{◌≡◌, ℕ, ◌+◌, ◌==◌, Bool, true, false, if◌then◌else◌, [], ◌∷◌, ◌++◌, length, refl, sym, ap, ◌∙◌, append_assoc, arith}
 use Rattle.std.specs.Prelude.{reverse}
 use Rattle.std.proofs.lemmas.Bool.{false≢true}
 use Rattle.std.proofs.lemmas.List.{append-nil, reverse-append}
@@ -8,7 +8,7 @@ use Rattle.broker_history.specs.declared.entry.Act.{Act}
 use Rattle.broker_history.specs.declared.entry.Act.TheVariants.{HeldBack}
 use Rattle.broker_history.specs.declared.entry.Entry.{Entry}
 use Rattle.broker_history.specs.Entries.{History, is_held, is_due_move}
-use Rattle.broker_history.specs.Before.{is_moved_at, moves_at_front, moves_in, moves_before, is_stuck_at, stuck_in, stuck_before, first_stuck, stuck_last}
+use Rattle.broker_history.specs.Before.{moves_at_front, moves_in, moves_before, is_stuck_at, stuck_in, stuck_before, first_stuck, stuck_last}
 use Rattle.floor_laws.specs.Paying.{AreMoves, AreHeld}
 use Rattle.floor_laws.proofs.Counting.{parts}
 

@@ -1,8 +1,8 @@
 -- What is counted of a state's copies is counted of those that the program keeps.
-use Rattle.std.specs.Prelude.{◌≡◌, ◌≤◌, ◌<◌, ℕ, zero, Bool, true, false, List, count_by}
+use Rattle.std.specs.Prelude.{◌≡◌, ℕ, Bool, true, false, List, count_by}
 use Rattle.std.specs.List.{list_any}
 use Rattle.broker_history.specs.State.{Copy, Channel, is_live, is_due, queued, in_flight, deferred, flying, flying_of, flying_with}
-use Rattle.broker_history.specs.Channels.{IsKept, has_credit, can_send, is_free}
+use Rattle.broker_history.specs.Channels.{IsKept, has_credit, can_send}
 use Rattle.broker_history.specs.Left.{SameMessages, left_in_channel}
 
 -- what is told of a channel, and of what may be sent of it, is told of what is kept

@@ -18,10 +18,7 @@ is_same : {X : Type 0} (good : Bool) (x y : X) → Some y ≡ where_true good x 
 is_same true x y e = e
 is_same false x y e = absurd (false≢true (sym (ap is_some e)))
 
--- whether all three are good
-all_good : Bool → Bool → Bool → Bool
-all_good texts flags numbers = texts && flags && numbers
-
+-- three are good where each is
 no_second : (a b c : Bool) → b ≡ false → (a && b && c) ≡ false
 no_second true b c e = ap (λ x. x && c) e
 no_second false b c e = refl
@@ -31,16 +28,13 @@ no_third true true c e = e
 no_third true false c e = refl
 no_third false b c e = refl
 
-no_first : (a b c : Bool) → a ≡ false → (a && b && c) ≡ false
-no_first a b c e = ap (λ x. x && b && c) e
-
 all_three : (a b c : Bool) → a ≡ true → b ≡ true → c ≡ true → (a && b && c) ≡ true
 all_three a b c e f g = ap (λ x. x && b && c) e ∙ ap (λ x. x && c) f ∙ g
 
 refused : (o : Options) (ms : Members) → accepts o ms ≡ false → None ≡ accepted o ms
 refused o ms e = sym (ap (λ (b : Bool). if b then Some (said_by o ms) else None) e)
 
--- one that isn't good
+-- where one isn't good, all are refused
 pub no_flags : (o : Options) (d : Data) (flag : Option Bool) → ((ms : Members) → d ≡ object ms → flag ≡ where_true (has_flags ms) (negotiates_in ms)) → is_some flag ≡ false → None ≡ option_and_then (accepted o) (as_object d)
 no_flags o (object ms) flag is none =
     refused o ms (no_second (has_texts ms) (has_flags ms) (has_numbers o ms) (sym (is_good (has_flags ms) (negotiates_in ms) flag (is ms refl)) ∙ none))
@@ -58,15 +52,6 @@ no_times o (boolean b) times is none = refl
 no_times o (number n) times is none = refl
 no_times o (string s) times is none = refl
 no_times o (array ds) times is none = refl
-
-pub no_texts : (o : Options) (d : Data) (texts : Option Texts) → ((ms : Members) → d ≡ object ms → texts ≡ where_true (has_texts ms) (texts_in ms)) → is_some texts ≡ false → None ≡ option_and_then (accepted o) (as_object d)
-no_texts o (object ms) texts is none =
-    refused o ms (no_first (has_texts ms) (has_flags ms) (has_numbers o ms) (sym (is_good (has_texts ms) (texts_in ms) texts (is ms refl)) ∙ none))
-no_texts o null texts is none = refl
-no_texts o (boolean b) texts is none = refl
-no_texts o (number n) texts is none = refl
-no_texts o (string s) texts is none = refl
-no_texts o (array ds) texts is none = refl
 
 -- what these parts say together
 abbrev pub joined : Option Bool → Option Times → Option Texts → Option Meant

@@ -1,0 +1,12 @@
+//! Rows of IDENTIFY: what its body is read as and what it is answered, as tables. The plain program of the definitions answers
+//! each as well. There is nothing here but tests.
+#![tactic(auto)]
+
+#[cfg(test)]
+mod held;
+#[cfg(test)]
+mod read;
+#[cfg(test)]
+mod refused;
+#[cfg(test)]
+mod shapes;

@@ -1,0 +1,105 @@
+//! Members of a wrong kind or out of their range.
+
+use crate::held::{Gets, Row, holds};
+use nsq_base::Memory;
+
+// Texts and truth values of another kind.
+const KINDS: [&'static str; 20] = [
+    r#"{"client_id":1}"#,
+    r#"{"client_id":true}"#,
+    r#"{"client_id":["c"]}"#,
+    r#"{"client_id":{}}"#,
+    r#"{"hostname":0}"#,
+    r#"{"hostname":false}"#,
+    r#"{"user_agent":[]}"#,
+    r#"{"user_agent":-1}"#,
+    r#"{"feature_negotiation":"true"}"#,
+    r#"{"feature_negotiation":1}"#,
+    r#"{"feature_negotiation":[true]}"#,
+    r#"{"tls_v1":0}"#,
+    r#"{"tls_v1":"false"}"#,
+    r#"{"snappy":1}"#,
+    r#"{"snappy":{}}"#,
+    r#"{"deflate":0}"#,
+    r#"{"deflate":""}"#,
+    r#"{"feature_negotiation":true,"client_id":1}"#,
+    r#"{"feature_negotiation":true,"deflate":1}"#,
+    r#"{"feature_negotiation":true,"deflate_level":"6"}"#,
+];
+
+// Heartbeat intervals and times for a message.
+const TIMES: [&'static str; 21] = [
+    r#"{"heartbeat_interval":-2}"#,
+    r#"{"heartbeat_interval":1}"#,
+    r#"{"heartbeat_interval":999}"#,
+    r#"{"heartbeat_interval":60001}"#,
+    r#"{"heartbeat_interval":18446744073709551615}"#,
+    r#"{"heartbeat_interval":18446744073709551616}"#,
+    r#"{"heartbeat_interval":-9223372036854775808}"#,
+    r#"{"heartbeat_interval":1000.0}"#,
+    r#"{"heartbeat_interval":1e3}"#,
+    r#"{"heartbeat_interval":-0}"#,
+    r#"{"heartbeat_interval":"1000"}"#,
+    r#"{"heartbeat_interval":false}"#,
+    r#"{"msg_timeout":-1}"#,
+    r#"{"msg_timeout":1}"#,
+    r#"{"msg_timeout":999}"#,
+    r#"{"msg_timeout":900001}"#,
+    r#"{"msg_timeout":9223372036854775807}"#,
+    r#"{"msg_timeout":1000.5}"#,
+    r#"{"msg_timeout":{}}"#,
+    r#"{"msg_timeout":"0"}"#,
+    r#"{"feature_negotiation":true,"msg_timeout":-1}"#,
+];
+
+// Rates, buffers and levels.
+const NUMBERS: [&'static str; 18] = [
+    r#"{"sample_rate":-1}"#,
+    r#"{"sample_rate":100}"#,
+    r#"{"sample_rate":18446744073709551615}"#,
+    r#"{"sample_rate":0.5}"#,
+    r#"{"sample_rate":"0"}"#,
+    r#"{"sample_rate":true}"#,
+    r#"{"output_buffer_size":"x"}"#,
+    r#"{"output_buffer_size":18446744073709551616}"#,
+    r#"{"output_buffer_size":-9223372036854775809}"#,
+    r#"{"output_buffer_size":1.0}"#,
+    r#"{"output_buffer_timeout":true}"#,
+    r#"{"output_buffer_timeout":18446744073709551616}"#,
+    r#"{"output_buffer_timeout":[]}"#,
+    r#"{"deflate_level":[]}"#,
+    r#"{"deflate_level":0.0}"#,
+    r#"{"deflate_level":{}}"#,
+    r#"{"sample_rate":5,"sample_rate":100}"#,
+    r#"{"feature_negotiation":true,"sample_rate":100}"#,
+];
+
+#[test]
+fn kinds(rt: HostRuntime) -> Result<(), Memory> {
+    for body in KINDS {
+        let gets = Gets::Refused;
+        let holds = holds(rt.alloc(), &Row { body, gets })?;
+        assert!(rt; holds, "{}", body);
+    }
+    Ok(())
+}
+
+#[test]
+fn times(rt: HostRuntime) -> Result<(), Memory> {
+    for body in TIMES {
+        let gets = Gets::Refused;
+        let holds = holds(rt.alloc(), &Row { body, gets })?;
+        assert!(rt; holds, "{}", body);
+    }
+    Ok(())
+}
+
+#[test]
+fn numbers(rt: HostRuntime) -> Result<(), Memory> {
+    for body in NUMBERS {
+        let gets = Gets::Refused;
+        let holds = holds(rt.alloc(), &Row { body, gets })?;
+        assert!(rt; holds, "{}", body);
+    }
+    Ok(())
+}

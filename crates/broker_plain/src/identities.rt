@@ -6,8 +6,11 @@ ghost use Rattle.broker_history.specs.Identify.{accepted, accepts, flag_in, has_
 ghost use Rattle.broker_history.specs.Reply.{error, identified, response};
 ghost use Rattle.broker_plain.specs.Features.{features_by, timeout_ms};
 
+mod known;
+
 use crate::replies::{frame, ok_frame};
 use itoa::Buffer;
+pub use known::{Identity, default_heartbeat, identity_of};
 use nsq_base::{Body, Memory, Options};
 use serde_json::Value;
 use std::alloc::Global;

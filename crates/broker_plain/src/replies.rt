@@ -1,4 +1,4 @@
-ghost use Rattle.std.specs.Prelude.{◌≡◌, ◌++◌, if◌then◌else◌, codes, IfOk};
+ghost use Rattle.std.specs.Prelude.{◌≡◌, ◌↔◌, ◌++◌, if◌then◌else◌, codes, IfOk, IsTrue};
 ghost use Rattle.broker_history.specs.Identify.{identity_of};
 ghost use Rattle.broker_history.specs.Reply.{are_left, delayed_reply, error, flight_reply, identified, ok_frame, publish_reply, ready_reply, reply_by, response, wrong_state};
 ghost use Rattle.broker_history.specs.State.{is_fresh, is_subscribed};
@@ -156,8 +156,8 @@ fn is_fresh(phase: Phase) -> bool
     }
 }
 
-// Whether so many ids are left.
-fn are_left(used: u64, count: u64) -> bool
+/// Whether so many ids are left, where so many were used.
+pub fn are_left(used: u64, count: u64) -> bool
     ensures { result ≡ are_left used count }
 {
     match used.checked_add(count) {
@@ -180,8 +180,8 @@ fn is_ready_count(most: u32, count: i64) -> bool
     count >= 0 && count <= i64::from(most)
 }
 
-// The frame that says that a command was carried out.
-pub(crate) fn ok_frame(alloc: Global) -> Result<Frame, Memory>
+/// The frame that says that a command was carried out. Want of memory is the only error.
+pub fn ok_frame(alloc: Global) -> Result<Frame, Memory>
     ensures { IfOk result (λ frame. frame ≡ ok_frame) }
 {
     frame(alloc, FrameKind::Response, b"OK")
@@ -212,4 +212,22 @@ pub(crate) fn frame(alloc: Global, kind: FrameKind, text: &[u8]) -> Result<Frame
 {
     let body = Body::copy(alloc, text)?;
     Ok(Frame { kind, body })
+}
+
+/// Whether two frames are equal.
+pub fn same_frame(a: &Frame, b: &Frame) -> bool
+    ensures { IsTrue result ↔ (a.now ≡ b.now) }
+{
+    a.kind == b.kind && a.body.bytes() == b.body.bytes()
+}
+
+/// Whether two replies are equal.
+pub fn same_reply(a: &Option<Frame>, b: &Option<Frame>) -> bool
+    ensures { IsTrue result ↔ (a.now ≡ b.now) }
+{
+    match (a, b) {
+        (Some(a), Some(b)) => same_frame(a, b),
+        (None, None) => true,
+        (Some(_), None) | (None, Some(_)) => false,
+    }
 }

@@ -1,4 +1,4 @@
-//! Rows of the broker's definitions, as tables over the plain program that computes them. There is nothing here but tests.
+//! Rows of what a command is answered, as tables over the plain program that computes it. There is nothing here but tests.
 #![tactic(auto)]
 
 #[cfg(test)]

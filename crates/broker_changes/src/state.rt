@@ -1,0 +1,322 @@
+ghost use Rattle.std.specs.Prelude.{◌≤◌, ◌+◌, ◌^◌, length};
+
+use crate::channels;
+use crate::topics::{Publishing, channel_names, owed_no_more, put_bodies};
+use broker_plain::Phase;
+use broker_state::{ChannelState, Client, Route, State, TopicState, copy_route};
+use nsq_base::{Body, Chan, Memory, Topic};
+use std::alloc::Global;
+
+// A copy of the topic of this name, as it is made where there is none.
+fn topic_or_new(alloc: Global, state: &State, name: &Topic) -> Result<TopicState, Memory> {
+    match state.topic_of(name) {
+        Some(topic) => topic.copy(alloc),
+        None => Ok(TopicState::new(alloc, *name)),
+    }
+}
+
+// A copy of the channel of this name, as it is made where there is none.
+fn channel_or_new(alloc: Global, topic: &TopicState, name: &Chan) -> Result<ChannelState, Memory> {
+    match topic.channel_of(name) {
+        Some(channel) => channel.copy(alloc),
+        None => Ok(ChannelState::new(alloc, *name)),
+    }
+}
+
+/// The state after messages of these bodies were published (`published`); each uses an id, also one that an ephemeral topic drops. Want of
+/// memory is the only error, here and below.
+pub fn published(
+    alloc: Global,
+    mut state: State,
+    at: u64,
+    delay: u64,
+    name: &Topic,
+    bodies: &[Body],
+) -> Result<State, Memory>
+    requires { state.ids_used + length bodies.now ≤ 2 ^ 40 }
+{
+    let publishing = Publishing {
+        mem: state.options.mem_queue_size,
+        epoch: state.epoch,
+        used: state.ids_used,
+        at,
+        delay,
+    };
+    let topic = topic_or_new(alloc, &state, name)?;
+    let topic = put_bodies(alloc, topic, publishing, bodies)?;
+    state.ids_used += bodies.len() as u64;
+    state.with_topic(alloc, topic)
+}
+
+/// The state with this topic, or with this channel in it (`made`); what isn't there yet is made.
+pub fn made(
+    alloc: Global,
+    state: State,
+    name: &Topic,
+    channel: &Option<Chan>,
+) -> Result<State, Memory> {
+    match channel {
+        None => {
+            let topic = topic_or_new(alloc, &state, name)?;
+            state.with_topic(alloc, topic)
+        }
+        Some(channel) => made_channel(alloc, state, name, channel),
+    }
+}
+
+/// The state with this topic, and with this channel in it (`made_channel`).
+pub fn made_channel(
+    alloc: Global,
+    state: State,
+    name: &Topic,
+    channel: &Chan,
+) -> Result<State, Memory> {
+    let topic = topic_or_new(alloc, &state, name)?;
+    let channel = channel_or_new(alloc, &topic, channel)?;
+    let topic = topic.with_channel(alloc, channel)?;
+    state.with_topic(alloc, topic)
+}
+
+// The state without the topic of this name (`without_topic`), its messages and what is left of its channels.
+fn without_topic(alloc: Global, mut state: State, name: &Topic) -> Result<State, Memory> {
+    let mut topics = Vec::new(alloc);
+    for topic in state.topics {
+        if !topic.is_named(name) {
+            topics.push(topic)?;
+        }
+    }
+    state.topics = topics;
+    Ok(state)
+}
+
+// The topic without the channel of this name (`without_channel`), which is owed nothing any more.
+fn without_channel(alloc: Global, topic: &TopicState, name: &Chan) -> Result<TopicState, Memory> {
+    let mut fewer = topic.copy(alloc)?;
+    fewer.taken = owed_no_more(alloc, &topic.taken, name)?;
+    let mut channels = Vec::new(alloc);
+    for channel in &topic.channels {
+        if !channel.is_named(name) {
+            channels.push(channel.copy(alloc)?)?;
+        }
+    }
+    fewer.channels = channels;
+    Ok(fewer)
+}
+
+// The state with this topic, one of whose channels went (`with_fewer`): an ephemeral topic goes with its last channel.
+fn with_fewer(alloc: Global, state: State, topic: TopicState) -> Result<State, Memory> {
+    if topic.name.ephemeral() && topic.channels.is_empty() {
+        without_topic(alloc, state, &topic.name)
+    } else {
+        state.with_topic(alloc, topic)
+    }
+}
+
+// The clients after this channel was deleted (`lost`): those that had it are lost.
+fn lost(
+    alloc: Global,
+    clients: Vec<Client>,
+    topic: &Topic,
+    channel: &Chan,
+) -> Result<Vec<Client>, Memory> {
+    let mut others = Vec::new(alloc);
+    for mut client in clients {
+        if client.has_channel(topic, channel) {
+            client.phase = Phase::Lost;
+        }
+        others.push(client)?;
+    }
+    Ok(others)
+}
+
+// The state after the channel was deleted (`deleted_channel`): its copies, its clients' part in it and what it was owed are gone.
+fn deleted_channel(
+    alloc: Global,
+    mut state: State,
+    name: &Topic,
+    channel: &Chan,
+) -> Result<State, Memory> {
+    let Some(topic) = state.topic_of(name) else {
+        return Ok(state);
+    };
+    if topic.channel_of(channel).is_none() {
+        return Ok(state);
+    }
+    let fewer = without_channel(alloc, topic, channel)?;
+    state.clients = lost(alloc, state.clients, name, channel)?;
+    with_fewer(alloc, state, fewer)
+}
+
+/// The names of a topic's channels (`channels_in`), none where it isn't there.
+pub fn channels_in(alloc: Global, state: &State, name: &Topic) -> Result<Vec<Chan>, Memory> {
+    match state.topic_of(name) {
+        None => Ok(Vec::new(alloc)),
+        Some(topic) => channel_names(alloc, &topic.channels),
+    }
+}
+
+/// The state after so many channels of a topic were deleted (`deleted_first`), in byte order of their names.
+pub fn deleted_first(
+    alloc: Global,
+    state: State,
+    name: &Topic,
+    count: u64,
+) -> Result<State, Memory> {
+    let channels = channels_in(alloc, &state, name)?;
+    let mut state = state;
+    let mut deleted = 0;
+    for channel in &channels {
+        if deleted < count {
+            state = deleted_channel(alloc, state, name, channel)?;
+            deleted += 1;
+        }
+    }
+    Ok(state)
+}
+
+/// The state after a topic was deleted, its channels first, or a channel of it (`deleted`).
+pub fn deleted(
+    alloc: Global,
+    state: State,
+    name: &Topic,
+    channel: &Option<Chan>,
+) -> Result<State, Memory> {
+    match channel {
+        None => {
+            let state = deleted_first(alloc, state, name, u64::MAX)?;
+            without_topic(alloc, state, name)
+        }
+        Some(channel) => deleted_channel(alloc, state, name, channel),
+    }
+}
+
+// The state after a topic, or a channel of it, was changed.
+fn with_changed(
+    alloc: Global,
+    state: State,
+    topic: TopicState,
+    channel: Option<ChannelState>,
+) -> Result<State, Memory> {
+    match channel {
+        None => state.with_topic(alloc, topic),
+        Some(channel) => {
+            let topic = topic.with_channel(alloc, channel)?;
+            state.with_topic(alloc, topic)
+        }
+    }
+}
+
+/// The state after a topic or a channel was emptied (`emptied`): what waits in a topic goes, and what it took stays; or all of a channel's
+/// copies that aren't done with are emptied out.
+pub fn emptied(
+    alloc: Global,
+    state: State,
+    name: &Topic,
+    channel: &Option<Chan>,
+) -> Result<State, Memory> {
+    let Some(topic) = state.topic_of(name) else {
+        return Ok(state);
+    };
+    let mut topic = topic.copy(alloc)?;
+    match channel {
+        None => {
+            topic.waiting = Vec::new(alloc);
+            with_changed(alloc, state, topic, None)
+        }
+        Some(channel) => {
+            let Some(channel) = topic.channel_of(channel) else {
+                return Ok(state);
+            };
+            let channel = channels::emptied(alloc, channel)?;
+            with_changed(alloc, state, topic, Some(channel))
+        }
+    }
+}
+
+/// The state after a topic or a channel was paused, or is not any more (`set_paused`).
+pub fn set_paused(
+    alloc: Global,
+    state: State,
+    on: bool,
+    name: &Topic,
+    channel: &Option<Chan>,
+) -> Result<State, Memory> {
+    let Some(topic) = state.topic_of(name) else {
+        return Ok(state);
+    };
+    let mut topic = topic.copy(alloc)?;
+    match channel {
+        None => {
+            topic.paused = on;
+            with_changed(alloc, state, topic, None)
+        }
+        Some(channel) => {
+            let Some(channel) = topic.channel_of(channel) else {
+                return Ok(state);
+            };
+            let mut channel = channel.copy(alloc)?;
+            channel.paused = on;
+            with_changed(alloc, state, topic, Some(channel))
+        }
+    }
+}
+
+// The clients without the one of this number.
+fn without_client(alloc: Global, clients: Vec<Client>, number: u64) -> Result<Vec<Client>, Memory> {
+    let mut others = Vec::new(alloc);
+    for client in clients {
+        if client.number != number {
+            others.push(client)?;
+        }
+    }
+    Ok(others)
+}
+
+// Whether a client goes with a channel of its own that it still has.
+fn left_route(client: &Client) -> Option<Route> {
+    if client.phase == Phase::Lost {
+        return None;
+    }
+    copy_route(&client.route)
+}
+
+/// The state after a client went (`gone`), whose copies in flight stay there until they are due: an ephemeral channel goes with its last
+/// client.
+pub fn gone(alloc: Global, mut state: State, number: u64) -> Result<State, Memory> {
+    let Some(client) = state.client_of(number) else {
+        return Ok(state);
+    };
+    let route = left_route(client);
+    state.clients = without_client(alloc, state.clients, number)?;
+    match route {
+        None => Ok(state),
+        Some(route) => left_channel(alloc, state, &route),
+    }
+}
+
+// The state after a client left its channel (`left_channel`).
+fn left_channel(alloc: Global, state: State, route: &Route) -> Result<State, Memory> {
+    let Route { topic, channel } = route;
+    if !is_ephemeral(topic, channel) {
+        return Ok(state);
+    }
+    if has_clients(&state, topic, channel) {
+        return Ok(state);
+    }
+    deleted_channel(alloc, state, topic, channel)
+}
+
+// Whether a client has the channel.
+fn has_clients(state: &State, topic: &Topic, channel: &Chan) -> bool {
+    for client in &state.clients {
+        if client.has_channel(topic, channel) {
+            return true;
+        }
+    }
+    false
+}
+
+/// Whether a channel is ephemeral (`is_ephemeral_channel`): its name or its topic's name is.
+pub fn is_ephemeral(topic: &Topic, channel: &Chan) -> bool {
+    topic.ephemeral() || channel.ephemeral()
+}

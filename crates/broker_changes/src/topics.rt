@@ -1,0 +1,266 @@
+ghost use Rattle.std.specs.Prelude.{◌<◌, ◌≤◌, ◌+◌, ◌^◌, length};
+
+use crate::channels::{Room, counted, gets, has_due};
+use crate::rows::is_same;
+use broker_state::{ChannelState, TakenMessage, TopicState, Waiting};
+use nsq_base::{Body, Chan, Memory, MsgId, Names};
+use std::alloc::Global;
+use v2_frame::Message;
+
+// The topic after a message was put (`put_message`), where so many messages find room in memory: an ephemeral topic drops what finds no room.
+fn put_message(mut topic: TopicState, mem: u64, message: Message) -> Result<TopicState, Memory> {
+    let loose = mem <= topic.waiting.len() as u64;
+    if topic.name.ephemeral() && loose {
+        return Ok(topic);
+    }
+    topic.message_count = counted(topic.message_count);
+    topic.waiting.push(Waiting { message, loose })?;
+    Ok(topic)
+}
+
+// What is the same of all messages of a publish.
+#[derive(Clone, Copy)]
+pub(crate) struct Publishing {
+    // How many messages find room in memory.
+    pub mem: u64,
+    // The run's epoch.
+    pub epoch: u32,
+    // How many ids were used before.
+    pub used: u64,
+    // The moment.
+    pub at: u64,
+    // The delay.
+    pub delay: u64,
+}
+
+// The topic after messages of these bodies were put in order (`put_bodies`), with the ids from the first one on that wasn't used.
+pub(crate) fn put_bodies(
+    alloc: Global,
+    topic: TopicState,
+    publishing: Publishing,
+    bodies: &[Body],
+) -> Result<TopicState, Memory>
+    requires epoch { publishing.epoch < 2 ^ 24 }
+    requires ids { publishing.used + length bodies.now ≤ 2 ^ 40 }
+{
+    let mut topic = topic;
+    for i in 0..bodies.len() {
+        let message = Message {
+            stamp: publishing.at,
+            attempts: 0,
+            id: MsgId::make(publishing.epoch, publishing.used + i as u64),
+            body: Body::copy(alloc, bodies[i].bytes())?,
+            delay: publishing.delay,
+        };
+        topic = put_message(topic, publishing.mem, message)?;
+    }
+    Ok(topic)
+}
+
+/// Whether a Took is due (`takes`): the topic isn't paused, has a channel and a waiting message, and has taken none.
+pub fn takes(topic: &TopicState) -> bool {
+    if topic.paused {
+        return false;
+    }
+    if topic.channels.is_empty() {
+        return false;
+    }
+    if topic.waiting.is_empty() {
+        return false;
+    }
+    topic.taken.is_none()
+}
+
+/// Whether a Copied is due (`owes`): a channel is owed a copy.
+pub fn owes(taken: &Option<TakenMessage>) -> bool {
+    match taken {
+        None => false,
+        Some(taken) => !taken.owed.is_empty(),
+    }
+}
+
+/// Whether a TimedOut or a CameDue is due at a moment in one of these channels (`has_due`).
+pub fn any_due(at: u64, channels: &[ChannelState]) -> bool {
+    for channel in channels {
+        if has_due(at, &channel.copies) {
+            return true;
+        }
+    }
+    false
+}
+
+// Whether the message may be taken for the one that waits (`Fits`): the same, with its delay; where that is loose its delay may be
+// forgotten.
+fn fits(waiting: &Waiting, message: &Message) -> bool {
+    if !is_same(&waiting.message, message) {
+        return false;
+    }
+    if message.delay == waiting.message.delay {
+        return true;
+    }
+    waiting.loose && message.delay == 0
+}
+
+/// The topics that Took makes of one (`Takes`): one for each waiting message that this may be, where the names list the topic. Want of
+/// memory is the only error, here and below.
+pub fn took(
+    alloc: Global,
+    topic: &TopicState,
+    message: &Message,
+    names: &Names,
+) -> Result<Vec<TopicState>, Memory> {
+    let mut topics = Vec::new(alloc);
+    if !takes(topic) {
+        return Ok(topics);
+    }
+    if !is_listed(topic, names) {
+        return Ok(topics);
+    }
+    for i in 0..topic.waiting.len() {
+        if fits(&topic.waiting[i], message) {
+            topics.push(took_at(alloc, topic, i, message)?)?;
+        }
+    }
+    Ok(topics)
+}
+
+// The topic after the message that waits at a place was taken.
+fn took_at(
+    alloc: Global,
+    topic: &TopicState,
+    i: usize,
+    message: &Message,
+) -> Result<TopicState, Memory>
+    requires { i < length topic.now.waiting }
+{
+    let mut taken = topic.copy(alloc)?;
+    let mut waiting = Vec::new(alloc);
+    for before in &topic.waiting[..i] {
+        waiting.push(before.copy(alloc)?)?;
+    }
+    for after in &topic.waiting[i + 1..] {
+        waiting.push(after.copy(alloc)?)?;
+    }
+    taken.waiting = waiting;
+    taken.taken = Some(TakenMessage {
+        message: message.copy(alloc)?,
+        owed: channel_names(alloc, &topic.channels)?,
+    });
+    Ok(taken)
+}
+
+// The names of channels.
+pub(crate) fn channel_names(alloc: Global, channels: &[ChannelState]) -> Result<Vec<Chan>, Memory> {
+    let mut names = Vec::new(alloc);
+    for channel in channels {
+        names.push(channel.name)?;
+    }
+    Ok(names)
+}
+
+// Whether the names list the topic with its channels, and nothing else.
+fn is_listed(topic: &TopicState, names: &Names) -> bool {
+    if names.count() != 1 {
+        return false;
+    }
+    is_topic_at(topic, names, 0)
+}
+
+/// Whether at a place of the names the topic stands with its channels.
+pub fn is_topic_at(topic: &TopicState, names: &Names, i: usize) -> bool
+    requires { i < length names.now }
+{
+    if names.topic(i).bytes() != topic.name.bytes() {
+        return false;
+    }
+    are_named(&topic.channels, names.channels(i))
+}
+
+// Whether the channels have these names, in this order.
+fn are_named(channels: &[ChannelState], names: &[Chan]) -> bool {
+    if channels.len() != names.len() {
+        return false;
+    }
+    for (channel, name) in channels.iter().zip(names) {
+        if !channel.is_named(name) {
+            return false;
+        }
+    }
+    true
+}
+
+// What is taken after a channel is owed no more (`owed_no_more`): with the last owed channel it goes.
+pub(crate) fn owed_no_more(
+    alloc: Global,
+    taken: &Option<TakenMessage>,
+    name: &Chan,
+) -> Result<Option<TakenMessage>, Memory> {
+    let Some(taken) = taken else {
+        return Ok(None);
+    };
+    let owed = without_name(alloc, &taken.owed, name)?;
+    if owed.is_empty() {
+        return Ok(None);
+    }
+    Ok(Some(TakenMessage {
+        message: taken.message.copy(alloc)?,
+        owed,
+    }))
+}
+
+// The others of these names.
+fn without_name(alloc: Global, names: &[Chan], name: &Chan) -> Result<Vec<Chan>, Memory> {
+    let mut others = Vec::new(alloc);
+    for other in names {
+        if other.bytes() != name.bytes() {
+            others.push(*other)?;
+        }
+    }
+    Ok(others)
+}
+
+// Whether the channel of this name is owed a copy of this very message.
+fn is_owed(taken: &Option<TakenMessage>, name: &Chan, message: &Message) -> bool {
+    let Some(taken) = taken else {
+        return false;
+    };
+    if message.delay != taken.message.delay {
+        return false;
+    }
+    if !is_same(message, &taken.message) {
+        return false;
+    }
+    is_among(&taken.owed, name)
+}
+
+// Whether a name is among these.
+fn is_among(names: &[Chan], name: &Chan) -> bool {
+    for other in names {
+        if other.bytes() == name.bytes() {
+            return true;
+        }
+    }
+    false
+}
+
+/// The topic that Copied makes of one (`Copies`): the channel gets the message, which its topic owes it no more. None where it doesn't
+/// owe it.
+pub fn copied(
+    alloc: Global,
+    topic: &TopicState,
+    name: &Chan,
+    room: Room,
+    at: u64,
+    message: &Message,
+) -> Result<Option<TopicState>, Memory> {
+    let Some(channel) = topic.channel_of(name) else {
+        return Ok(None);
+    };
+    if !is_owed(&topic.taken, name, message) {
+        return Ok(None);
+    }
+    let channel = gets(alloc, channel, room, at, message)?;
+    let mut paid = topic.copy(alloc)?.with_channel(alloc, channel)?;
+    paid.taken = owed_no_more(alloc, &topic.taken, name)?;
+    Ok(Some(paid))
+}

@@ -1,0 +1,199 @@
+ghost use Rattle.std.specs.Prelude.{◌≡◌, IfOk};
+ghost use Rattle.std.specs.List.{find};
+ghost use Rattle.std.specs.Option.{option_copied};
+ghost use Rattle.std.specs.Str.{bytes_eq};
+ghost use Rattle.broker_history.specs.State.{channel_in, new_topic, with_channel};
+
+use crate::by_name::{Named, put};
+use crate::channel::ChannelState;
+use nsq_base::{Chan, Memory, Topic};
+use std::alloc::Global;
+use std::marker::Model;
+use v2_frame::Message;
+
+/// A message that waits in its topic.
+#[derive(Drop)]
+pub struct Waiting {
+    /// The message.
+    pub message: Message,
+    /// Whether at least mem-queue-size messages were waiting as it was put.
+    pub loose: bool,
+}
+
+impl Model for Waiting {
+    ghost use Rattle.broker_history.specs.State.{Waiting};
+
+    ghost Value = { Waiting };
+
+    ghost view = { λ w. record { message = w.message; loose = w.loose } };
+}
+
+/// A message that its topic took.
+#[derive(Drop)]
+pub struct TakenMessage {
+    /// The message.
+    pub message: Message,
+    /// The channels that are owed a copy of it.
+    pub owed: Vec<Chan>,
+}
+
+impl Model for TakenMessage {
+    ghost use Rattle.broker_history.specs.State.{Taken};
+
+    ghost Value = { Taken };
+
+    ghost view = { λ t. record { message = t.message; owed = t.owed.items } };
+}
+
+/// A topic. Its count begins with the run and stays at 2^64 - 1.
+#[derive(Drop)]
+pub struct TopicState {
+    /// Its name.
+    pub name: Topic,
+    /// Whether it is paused.
+    pub paused: bool,
+    /// How many messages were put into it and not dropped.
+    pub message_count: u64,
+    /// The messages that wait, in order.
+    pub waiting: Vec<Waiting>,
+    /// The message that it took, if there is one.
+    pub taken: Option<TakenMessage>,
+    /// Its channels in byte order, each once.
+    pub channels: Vec<ChannelState>,
+}
+
+impl Model for TopicState {
+    ghost use Rattle.broker_history.specs.State.{Topic};
+
+    ghost Value = { Topic };
+
+    ghost view = { λ t. record { name = t.name; paused = t.paused; message_count = t.message_count; waiting = t.waiting.items; taken = t.taken; channels = t.channels.items } };
+}
+
+impl Named for TopicState {
+    ghost name_of = { λ t. t.name };
+
+    fn name(&self) -> &[u8] {
+        self.name.bytes()
+    }
+}
+
+impl Waiting {
+    /// A copy of it. Want of memory is the only error.
+    pub fn copy(&self, alloc: Global) -> Result<Waiting, Memory>
+        ensures { IfOk result (λ waiting. waiting ≡ self.now) }
+    {
+        Ok(Waiting {
+            message: self.message.copy(alloc)?,
+            loose: self.loose,
+        })
+    }
+}
+
+impl TakenMessage {
+    /// A copy of it. Want of memory is the only error.
+    pub fn copy(&self, alloc: Global) -> Result<TakenMessage, Memory>
+        ensures { IfOk result (λ taken. taken ≡ self.now) }
+    {
+        Ok(TakenMessage {
+            message: self.message.copy(alloc)?,
+            owed: Vec::from_slice(alloc, &self.owed)?,
+        })
+    }
+}
+
+impl TopicState {
+    /// A topic as it is made.
+    pub fn new(alloc: Global, name: Topic) -> TopicState
+        ensures { result ≡ new_topic name }
+    {
+        TopicState {
+            name,
+            paused: false,
+            message_count: 0,
+            waiting: Vec::new(alloc),
+            taken: None,
+            channels: Vec::new(alloc),
+        }
+    }
+
+    /// Whether it has this name.
+    pub fn is_named(&self, name: &Topic) -> bool
+        ensures { result ≡ bytes_eq name.now self.now.name }
+    {
+        name.bytes() == self.name.bytes()
+    }
+
+    /// The channel of this name, where there is one.
+    pub fn channel_of(&self, name: &Chan) -> Option<&ChannelState>
+        ensures { option_copied result ≡ channel_in self.now.channels name.now }
+    {
+        find_channel(&self.channels, name)
+    }
+
+    /// The topic with this channel at its place in byte order, in place of the one of its name.
+    pub fn with_channel(self, alloc: Global, channel: ChannelState) -> Result<TopicState, Memory>
+        ensures { IfOk result (λ topic. topic ≡ with_channel self channel) }
+    {
+        let channels = put(alloc, self.channels, channel)?;
+        Ok(TopicState { channels, ..self })
+    }
+
+    /// A copy of it. Want of memory is the only error.
+    pub fn copy(&self, alloc: Global) -> Result<TopicState, Memory>
+        ensures { IfOk result (λ topic. topic ≡ self.now) }
+    {
+        Ok(TopicState {
+            name: self.name,
+            paused: self.paused,
+            message_count: self.message_count,
+            waiting: copy_waiting(alloc, &self.waiting)?,
+            taken: copy_taken(alloc, &self.taken)?,
+            channels: copy_channels(alloc, &self.channels)?,
+        })
+    }
+}
+
+// The first of these channels that has this name.
+fn find_channel<'a>(channels: &'a [ChannelState], name: &Chan) -> Option<&'a ChannelState>
+    ensures { option_copied result ≡ find (λ channel. bytes_eq name.now channel.name) channels.now }
+{
+    for channel in channels {
+        if channel.is_named(name) {
+            return Some(channel);
+        }
+    }
+    None
+}
+
+// Copies of messages that wait.
+fn copy_waiting(alloc: Global, waiting: &[Waiting]) -> Result<Vec<Waiting>, Memory>
+    ensures { IfOk result (λ copies. copies.items ≡ waiting.now) }
+{
+    let mut copies = Vec::new(alloc);
+    for message in waiting {
+        copies.push(message.copy(alloc)?)?;
+    }
+    Ok(copies)
+}
+
+// A copy of a taken message, if there is one.
+fn copy_taken(alloc: Global, taken: &Option<TakenMessage>) -> Result<Option<TakenMessage>, Memory>
+    ensures { IfOk result (λ copy. copy ≡ taken.now) }
+{
+    match taken {
+        Some(taken) => Ok(Some(taken.copy(alloc)?)),
+        None => Ok(None),
+    }
+}
+
+// Copies of channels.
+fn copy_channels(alloc: Global, channels: &[ChannelState]) -> Result<Vec<ChannelState>, Memory>
+    ensures { IfOk result (λ copies. copies.items ≡ channels.now) }
+{
+    let mut copies = Vec::new(alloc);
+    for channel in channels {
+        copies.push(channel.copy(alloc)?)?;
+    }
+    Ok(copies)
+}

@@ -1,0 +1,56 @@
+use broker_history::Act;
+use v2_frame::{Command, Fault, Frame, Message};
+
+/// What an act is in the conversation of its connection.
+#[derive(Clone, Copy)]
+pub enum Part<'a> {
+    /// The connection began.
+    Began,
+    /// This command was taken, with its reply if it has one.
+    Took(&'a Command, &'a Option<Frame>),
+    /// The bytes had this fault, which was answered with this frame.
+    Refused(Fault, &'a Frame),
+    /// This message was sent.
+    Sent(&'a Message),
+    /// A heartbeat was sent.
+    Beat,
+    /// Nothing was to be sent, or a disk fault kept it off.
+    Rested,
+    /// The client was silent for too long.
+    Silent,
+    /// The client's channel was deleted.
+    Dropped,
+    /// The connection ended.
+    Gone,
+    /// The daemon stopped: no part of a conversation.
+    Stop,
+    /// Nor is what names the daemon and stands in turns of any connection: a move, the daemon's Stuck, or a Ticked (`is_common`).
+    Common,
+    /// Nor any other.
+    Other,
+}
+
+/// What the act is in the conversation of its connection.
+pub fn part_of(act: &Act) -> Part<'_> {
+    match act {
+        Act::Began => Part::Began,
+        Act::Did(command, reply) => Part::Took(command, reply),
+        Act::Refused(fault, frame) => Part::Refused(*fault, frame),
+        Act::Sent(message) => Part::Sent(message),
+        Act::Beat => Part::Beat,
+        Act::Idle => Part::Rested,
+        Act::Silent => Part::Silent,
+        Act::Dropped => Part::Dropped,
+        Act::Gone => Part::Gone,
+        Act::Stuck(_, Some(_)) => Part::Rested,
+        Act::Stop => Part::Stop,
+        Act::Asked(_, _) | Act::Listed(_) => Part::Other,
+        Act::Stuck(_, None)
+        | Act::Ticked
+        | Act::Took(_, _, _)
+        | Act::Copied(_, _, _)
+        | Act::TimedOut(_, _, _)
+        | Act::CameDue(_, _, _)
+        | Act::HeldBack(_, _, _) => Part::Common,
+    }
+}

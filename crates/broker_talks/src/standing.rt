@@ -1,0 +1,170 @@
+use nsq_base::{Body, Memory};
+use std::alloc::Global;
+use v2_frame::{Found, Limits, judge_front};
+
+/// The four bytes that a stream begins with.
+const MAGIC: &[u8] = b"  V2";
+
+/// The most bytes that one read gives.
+const LONGEST_PIECE: usize = 16384;
+
+/// The most that is sent in a round.
+pub const MOST_SENT: u64 = 64;
+
+/// Where a round stands.
+#[derive(Clone, Copy, PartialEq, Eq)]
+pub enum Round {
+    /// So many were sent in it.
+    Sending(u64),
+    /// It is to read.
+    Reading,
+    /// It does what was read.
+    Doing,
+}
+
+/// Where a conversation may stand behind its entries.
+#[derive(Clone, Copy, PartialEq, Eq)]
+pub struct Standing {
+    /// How many pieces were read.
+    pub read: usize,
+    /// Whether the magic was read.
+    pub greeted: bool,
+    /// How many bytes of the stream are done, the magic among them.
+    pub done: usize,
+    /// Where its round stands.
+    pub round: Round,
+}
+
+impl Standing {
+    /// Where a conversation stands that began.
+    pub fn first() -> Standing {
+        Standing {
+            read: 0,
+            greeted: false,
+            done: 0,
+            round: Round::Sending(0),
+        }
+    }
+
+    /// The same, but for its round.
+    pub fn at(self, round: Round) -> Standing {
+        Standing { round, ..self }
+    }
+
+    /// The bytes of the pieces read that aren't done.
+    pub fn pending(&self, alloc: Global, pieces: &[Body]) -> Result<Vec<u8>, Memory> {
+        let mut bytes = Vec::new(alloc);
+        for piece in pieces.iter().take(self.read) {
+            bytes.extend_from_slice(piece.bytes())?;
+        }
+        match bytes.get(self.done..) {
+            Some(pending) => Ok(Vec::from_slice(alloc, pending)?),
+            None => Ok(Vec::new(alloc)),
+        }
+    }
+}
+
+/// Adds to the standings one that isn't among them, and those to which it leads without an entry: 64 sent are followed by a read; a
+/// read gives nothing or the next piece; the magic is done; and where nothing more can be done, a new round begins.
+pub fn settle(
+    alloc: Global,
+    limits: Limits,
+    pieces: &[Body],
+    standings: &mut Vec<Standing>,
+    standing: Standing,
+) -> Result<(), Memory> {
+    match standing.round {
+        Round::Sending(sent) => {
+            add(standings, standing)?;
+            if sent == MOST_SENT {
+                settle_reading(
+                    alloc,
+                    limits,
+                    pieces,
+                    standings,
+                    standing.at(Round::Reading),
+                )?;
+            }
+            Ok(())
+        }
+        Round::Reading => settle_reading(alloc, limits, pieces, standings, standing),
+        Round::Doing => settle_doing(alloc, limits, pieces, standings, standing),
+    }
+}
+
+// The same of one that is to read.
+fn settle_reading(
+    alloc: Global,
+    limits: Limits,
+    pieces: &[Body],
+    standings: &mut Vec<Standing>,
+    standing: Standing,
+) -> Result<(), Memory> {
+    add(standings, standing)?;
+    add(standings, standing.at(Round::Sending(0)))?;
+    let Some(piece) = pieces.get(standing.read) else {
+        return Ok(());
+    };
+    let size = piece.bytes().len();
+    if size == 0 || size > LONGEST_PIECE {
+        return Ok(());
+    }
+    let read = Standing {
+        read: standing.read + 1,
+        round: Round::Doing,
+        ..standing
+    };
+    settle_doing(alloc, limits, pieces, standings, read)
+}
+
+// The same of one that does what was read.
+fn settle_doing(
+    alloc: Global,
+    limits: Limits,
+    pieces: &[Body],
+    standings: &mut Vec<Standing>,
+    standing: Standing,
+) -> Result<(), Memory> {
+    add(standings, standing)?;
+    if standing.greeted {
+        return settle_greeted(alloc, limits, pieces, standings, standing);
+    }
+    let pending = standing.pending(alloc, pieces)?;
+    if pending.len() < MAGIC.len() {
+        return add(standings, standing.at(Round::Sending(0)));
+    }
+    if !pending.starts_with(MAGIC) {
+        return Ok(());
+    }
+    let greeted = Standing {
+        greeted: true,
+        done: standing.done.saturating_add(MAGIC.len()),
+        ..standing
+    };
+    add(standings, greeted)?;
+    settle_greeted(alloc, limits, pieces, standings, greeted)
+}
+
+// The same of one that stands among the standings, behind the magic.
+fn settle_greeted(
+    alloc: Global,
+    limits: Limits,
+    pieces: &[Body],
+    standings: &mut Vec<Standing>,
+    standing: Standing,
+) -> Result<(), Memory> {
+    let pending = standing.pending(alloc, pieces)?;
+    match judge_front(alloc, limits, &pending)? {
+        Found::Unfinished => add(standings, standing.at(Round::Sending(0))),
+        Found::Whole(_, _) => Ok(()),
+        Found::Faulty(_, _) => Ok(()),
+    }
+}
+
+// Adds one that isn't among the standings.
+fn add(standings: &mut Vec<Standing>, standing: Standing) -> Result<(), Memory> {
+    if !standings.contains(&standing) {
+        standings.push(standing)?;
+    }
+    Ok(())
+}

@@ -1,0 +1,290 @@
+ghost use Rattle.std.specs.Prelude.{◌↔◌, ◌+◌, ◌≤◌, ◌^◌, IsTrue};
+
+use crate::moves::{at_channel, room_of};
+use broker_changes::channels::{counted, finishes, gives_back, sends, touches};
+use broker_changes::state::{made_channel, published};
+use broker_plain::{Phase, identity_of};
+use broker_state::{ChannelState, Client, Route, State, TopicState};
+use nsq_base::{Body, Chan, Memory, MsgId, Topic};
+use std::alloc::Global;
+use v2_frame::{Command, Message};
+
+// The states that a command leads to that its client of this number gave (`DoesDid`): one that was refused or met a disk fault changes nothing but
+// the moment of the client's last command.
+pub(crate) fn did(
+    alloc: Global,
+    state: &State,
+    at: u64,
+    number: u64,
+    command: &Command,
+    kept_off: bool,
+) -> Result<Vec<State>, Memory> {
+    let Some(client) = state.client_of(number) else {
+        return Ok(Vec::new(alloc));
+    };
+    let client = spoke(alloc, at, client)?;
+    let state = state.copy(alloc)?.with_client(alloc, client.copy(alloc)?)?;
+    if kept_off {
+        return one(alloc, state);
+    }
+    carried_out(alloc, state, at, client, command)
+}
+
+// A client that just gave a command.
+fn spoke(alloc: Global, at: u64, client: &Client) -> Result<Client, Memory> {
+    let mut spoke = client.copy(alloc)?;
+    spoke.last_command = at;
+    Ok(spoke)
+}
+
+// One state.
+pub(crate) fn one(alloc: Global, state: State) -> Result<Vec<State>, Memory> {
+    let mut states = Vec::new(alloc);
+    states.push(state)?;
+    Ok(states)
+}
+
+// The states that a command leads to that succeeds (`CarriesOut`), in which its client stands as its last command leaves it.
+fn carried_out(
+    alloc: Global,
+    state: State,
+    at: u64,
+    client: Client,
+    command: &Command,
+) -> Result<Vec<State>, Memory> {
+    match command {
+        Command::Identify(body) => {
+            let state = identified(alloc, state, at, client, body)?;
+            one(alloc, state)
+        }
+        Command::Sub(topic, channel) => {
+            let state = subscribed(alloc, state, client, topic, channel)?;
+            one(alloc, state)
+        }
+        Command::Pub(topic, body) => publish_one(alloc, state, at, 0, topic, body),
+        Command::Mpub(topic, bodies) => publish(alloc, state, at, 0, topic, bodies.as_slice()),
+        Command::Dpub(topic, delay, body) => {
+            publish_one(alloc, state, at, span_of(*delay), topic, body)
+        }
+        Command::Rdy(count) => readied(alloc, state, client, *count),
+        Command::Fin(id) => finished(alloc, &state, &client, id),
+        Command::Req(id, delay) => given_back(alloc, &state, at, &client, id, *delay),
+        Command::Touch(id) => touched(alloc, &state, at, &client, id),
+        Command::Cls => closing(alloc, state, client),
+        Command::Nop => one(alloc, state),
+    }
+}
+
+// A delay that a client gives in milliseconds, in nanoseconds, at most 2^64 - 1; one below 0 counts as 0.
+fn span_of(delay: i64) -> u64 {
+    if delay < 0 {
+        return 0;
+    }
+    (delay as u64).saturating_mul(1_000_000)
+}
+
+// The state after an accepted IDENTIFY, which sets all members anew; the client's next heartbeat counts from here.
+fn identified(
+    alloc: Global,
+    state: State,
+    at: u64,
+    client: Client,
+    body: &Body,
+) -> Result<State, Memory> {
+    let Some(identity) = identity_of(alloc, &state.options, body.bytes())? else {
+        return Ok(state);
+    };
+    let known = Client {
+        heartbeat: identity.heartbeat,
+        timeout: identity.timeout,
+        client_id: identity.client_id,
+        hostname: identity.hostname,
+        user_agent: identity.user_agent,
+        beat_from: at,
+        ..client
+    };
+    state.with_client(alloc, known)
+}
+
+// The state after SUB.
+fn subscribed(
+    alloc: Global,
+    state: State,
+    mut client: Client,
+    topic: &Topic,
+    channel: &Chan,
+) -> Result<State, Memory> {
+    client.phase = Phase::Subscribed;
+    client.route = Some(Route {
+        topic: *topic,
+        channel: *channel,
+    });
+    made_channel(alloc, state, topic, channel)?.with_client(alloc, client)
+}
+
+// The state after a message was published, none where the ids are spent.
+fn publish_one(
+    alloc: Global,
+    state: State,
+    at: u64,
+    delay: u64,
+    topic: &Topic,
+    body: &Body,
+) -> Result<Vec<State>, Memory> {
+    let mut bodies = Vec::new(alloc);
+    bodies.push(Body::copy(alloc, body.bytes())?)?;
+    publish(alloc, state, at, delay, topic, &bodies)
+}
+
+// The state after messages were published, none where the ids are spent.
+pub(crate) fn publish(
+    alloc: Global,
+    state: State,
+    at: u64,
+    delay: u64,
+    topic: &Topic,
+    bodies: &[Body],
+) -> Result<Vec<State>, Memory> {
+    if !has_ids(state.ids_used, bodies.len() as u64) {
+        return Ok(Vec::new(alloc));
+    }
+    let state = published(alloc, state, at, delay, topic, bodies)?;
+    one(alloc, state)
+}
+
+// Whether so many further ids are left.
+fn has_ids(used: u64, count: u64) -> bool
+    ensures { IsTrue result ↔ used + count ≤ 2 ^ 40 }
+{
+    used <= 1 << 40 && count <= (1 << 40) - used
+}
+
+// The state after RDY, which a closing client gives in vain.
+fn readied(
+    alloc: Global,
+    state: State,
+    mut client: Client,
+    count: i64,
+) -> Result<Vec<State>, Memory> {
+    if client.phase == Phase::Subscribed {
+        client.ready = count_of(count);
+    }
+    let state = state.with_client(alloc, client)?;
+    one(alloc, state)
+}
+
+// How many messages RDY asks for.
+fn count_of(count: i64) -> u64 {
+    if count < 0 { 0 } else { count as u64 }
+}
+
+// The state after CLS.
+fn closing(alloc: Global, state: State, mut client: Client) -> Result<Vec<State>, Memory> {
+    client.phase = Phase::Closing;
+    let state = state.with_client(alloc, client)?;
+    one(alloc, state)
+}
+
+// The states after FIN.
+fn finished(
+    alloc: Global,
+    state: &State,
+    client: &Client,
+    id: &MsgId,
+) -> Result<Vec<State>, Memory> {
+    let Some((topic, channel)) = own_channel(state, client) else {
+        return Ok(Vec::new(alloc));
+    };
+    let channels = finishes(alloc, channel, client.number, id)?;
+    let mut client = client.copy(alloc)?;
+    client.finish_count = counted(client.finish_count);
+    at_own(alloc, state, topic, channels, &client)
+}
+
+// The states after REQ: the delay is brought into the range of 0 to the longest one.
+fn given_back(
+    alloc: Global,
+    state: &State,
+    at: u64,
+    client: &Client,
+    id: &MsgId,
+    delay: i64,
+) -> Result<Vec<State>, Memory> {
+    let Some((topic, channel)) = own_channel(state, client) else {
+        return Ok(Vec::new(alloc));
+    };
+    let room = room_of(state, &topic.name, &channel.name);
+    let delay = span_of(delay).min(state.options.max_req_timeout);
+    let channels = gives_back(alloc, channel, room, client.number, id, at, delay)?;
+    let mut client = client.copy(alloc)?;
+    client.requeue_count = counted(client.requeue_count);
+    at_own(alloc, state, topic, channels, &client)
+}
+
+// The states after TOUCH.
+fn touched(
+    alloc: Global,
+    state: &State,
+    at: u64,
+    client: &Client,
+    id: &MsgId,
+) -> Result<Vec<State>, Memory> {
+    let Some((topic, channel)) = own_channel(state, client) else {
+        return Ok(Vec::new(alloc));
+    };
+    let most = state.options.max_msg_timeout;
+    let channels = touches(alloc, channel, client.number, id, at, client.timeout, most)?;
+    at_own(alloc, state, topic, channels, client)
+}
+
+// The states that a message's being sent leads to (`DoesSend`).
+pub(crate) fn sent(
+    alloc: Global,
+    state: &State,
+    at: u64,
+    number: u64,
+    message: &Message,
+) -> Result<Vec<State>, Memory> {
+    let Some(client) = state.client_of(number) else {
+        return Ok(Vec::new(alloc));
+    };
+    let Some((topic, channel)) = own_channel(state, client) else {
+        return Ok(Vec::new(alloc));
+    };
+    let channels = sends(alloc, channel, number, at, client.timeout, message)?;
+    let mut client = client.copy(alloc)?;
+    client.message_count = counted(client.message_count);
+    at_own(alloc, state, topic, channels, &client)
+}
+
+// The topic and the channel of a client, where they are there.
+fn own_channel<'a>(
+    state: &'a State,
+    client: &Client,
+) -> Option<(&'a TopicState, &'a ChannelState)> {
+    let Some(route) = &client.route else {
+        return None;
+    };
+    let Some(topic) = state.topic_of(&route.topic) else {
+        return None;
+    };
+    match topic.channel_of(&route.channel) {
+        Some(channel) => Some((topic, channel)),
+        None => None,
+    }
+}
+
+// The states that are this one with one of the channels in the topic, and with this client (`AtOwn`).
+fn at_own(
+    alloc: Global,
+    state: &State,
+    topic: &TopicState,
+    channels: Vec<ChannelState>,
+    client: &Client,
+) -> Result<Vec<State>, Memory> {
+    let mut states = Vec::new(alloc);
+    for state in at_channel(alloc, state, topic, channels)? {
+        states.push(state.with_client(alloc, client.copy(alloc)?)?)?;
+    }
+    Ok(states)
+}

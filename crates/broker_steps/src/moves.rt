@@ -1,0 +1,147 @@
+use broker_changes::channels::{Room, comes_due, holds_back, times_out};
+use broker_changes::state::is_ephemeral;
+use broker_changes::topics::{copied, took};
+use broker_history::Act;
+use broker_state::{ChannelState, State, TopicState};
+use nsq_base::{Chan, Memory, MsgId, Names, Topic};
+use std::alloc::Global;
+use v2_frame::Message;
+
+// How much room a channel of a topic has (`room_of`).
+pub(crate) fn room_of(state: &State, topic: &Topic, channel: &Chan) -> Room {
+    Room {
+        ephemeral: is_ephemeral(topic, channel),
+        mem: state.options.mem_queue_size,
+    }
+}
+
+// The states that a move leads to (`DoesMove`), none where it isn't due, or where the act is no move.
+pub(crate) fn moves(
+    alloc: Global,
+    state: &State,
+    at: u64,
+    act: &Act,
+) -> Result<Vec<State>, Memory> {
+    match act {
+        Act::Took(topic, message, names) => by_took(alloc, state, topic, message, names),
+        Act::Copied(topic, channel, message) => by_copied(
+            alloc, state, at, topic, channel, message,
+        ),
+        Act::TimedOut(topic, channel, id) => by_timed_out(alloc, state, at, topic, channel, id),
+        Act::CameDue(topic, channel, id) => by_came_due(alloc, state, at, topic, channel, id),
+        Act::HeldBack(topic, channel, id) => by_held_back(alloc, state, at, topic, channel, id),
+        _ => Ok(Vec::new(alloc)),
+    }
+}
+
+// The states that Took leads to.
+fn by_took(
+    alloc: Global,
+    state: &State,
+    name: &Topic,
+    message: &Message,
+    names: &Names,
+) -> Result<Vec<State>, Memory> {
+    let mut states = Vec::new(alloc);
+    let Some(topic) = state.topic_of(name) else {
+        return Ok(states);
+    };
+    for topic in took(alloc, topic, message, names)? {
+        states.push(state.copy(alloc)?.with_topic(alloc, topic)?)?;
+    }
+    Ok(states)
+}
+
+// The state that Copied leads to.
+fn by_copied(
+    alloc: Global,
+    state: &State,
+    at: u64,
+    name: &Topic,
+    channel: &Chan,
+    message: &Message,
+) -> Result<Vec<State>, Memory> {
+    let mut states = Vec::new(alloc);
+    let Some(topic) = state.topic_of(name) else {
+        return Ok(states);
+    };
+    let room = room_of(state, name, channel);
+    let Some(topic) = copied(alloc, topic, channel, room, at, message)? else {
+        return Ok(states);
+    };
+    states.push(state.copy(alloc)?.with_topic(alloc, topic)?)?;
+    Ok(states)
+}
+
+// The states that TimedOut leads to.
+fn by_timed_out(
+    alloc: Global,
+    state: &State,
+    at: u64,
+    name: &Topic,
+    channel: &Chan,
+    id: &MsgId,
+) -> Result<Vec<State>, Memory> {
+    let Some(topic) = state.topic_of(name) else {
+        return Ok(Vec::new(alloc));
+    };
+    let Some(from) = topic.channel_of(channel) else {
+        return Ok(Vec::new(alloc));
+    };
+    let to = times_out(alloc, from, room_of(state, name, channel), id, at)?;
+    at_channel(alloc, state, topic, to)
+}
+
+// The states that CameDue leads to.
+fn by_came_due(
+    alloc: Global,
+    state: &State,
+    at: u64,
+    name: &Topic,
+    channel: &Chan,
+    id: &MsgId,
+) -> Result<Vec<State>, Memory> {
+    let Some(topic) = state.topic_of(name) else {
+        return Ok(Vec::new(alloc));
+    };
+    let Some(from) = topic.channel_of(channel) else {
+        return Ok(Vec::new(alloc));
+    };
+    let to = comes_due(alloc, from, room_of(state, name, channel), id, at)?;
+    at_channel(alloc, state, topic, to)
+}
+
+// The states that HeldBack leads to.
+fn by_held_back(
+    alloc: Global,
+    state: &State,
+    at: u64,
+    name: &Topic,
+    channel: &Chan,
+    id: &MsgId,
+) -> Result<Vec<State>, Memory> {
+    let Some(topic) = state.topic_of(name) else {
+        return Ok(Vec::new(alloc));
+    };
+    let Some(from) = topic.channel_of(channel) else {
+        return Ok(Vec::new(alloc));
+    };
+    let until = u128::from(at) + u128::from(state.options.msg_timeout);
+    let to = holds_back(alloc, from, id, until)?;
+    at_channel(alloc, state, topic, to)
+}
+
+// The states that are this one with one of the channels in the topic (`AtChannel`).
+pub(crate) fn at_channel(
+    alloc: Global,
+    state: &State,
+    topic: &TopicState,
+    channels: Vec<ChannelState>,
+) -> Result<Vec<State>, Memory> {
+    let mut states = Vec::new(alloc);
+    for channel in channels {
+        let topic = topic.copy(alloc)?.with_channel(alloc, channel)?;
+        states.push(state.copy(alloc)?.with_topic(alloc, topic)?)?;
+    }
+    Ok(states)
+}

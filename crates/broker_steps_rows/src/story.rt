@@ -1,0 +1,134 @@
+//! Whether a row of a table of histories holds.
+
+use crate::lines::{Line, channel, message, tell, topic};
+use broker_state::{
+    ChannelState, MessageCopy, Place, State, TopicState, deferred, in_flight, queued,
+};
+use broker_steps::led_to;
+use nsq_base::{Memory, Options};
+use std::alloc::Global;
+
+/// What a run starts from: the size of memory, the time for a message, how many ids were used, and the messages with their attempts that an
+/// opening found in the channel `c` of the topic `t`, where these aren't none.
+#[derive(Clone, Copy)]
+pub struct Start {
+    pub mem: u64,
+    pub msg_timeout: u64,
+    pub epoch: u32,
+    pub ids_used: u64,
+    pub found: &'static [(u64, u16)],
+}
+
+pub const MILLISECOND: u64 = 1_000_000;
+
+pub const SECOND: u64 = 1_000_000_000;
+
+pub const EMPTY: Start = Start {
+    mem: 10_000,
+    msg_timeout: 60 * SECOND,
+    epoch: 1,
+    ids_used: 0,
+    found: &[],
+};
+
+/// Where a history leads.
+#[derive(Clone, Copy)]
+pub enum Leads {
+    /// It is legal.
+    On,
+    /// It is refused.
+    Nowhere,
+    /// It is legal, and leaves so many copies of this channel queued, in flight and deferred.
+    To(&'static str, &'static str, [usize; 3]),
+    /// It is legal, and leaves no such topic.
+    Without(&'static str),
+}
+
+/// A story, which is legal, and what happens then.
+#[derive(Clone, Copy)]
+pub struct Row {
+    pub name: &'static str,
+    pub start: Start,
+    pub story: &'static [&'static [Line]],
+    pub then: &'static [Line],
+    pub leads: Leads,
+}
+
+/// Whether the row's story is legal, and leads on as it says.
+pub fn holds(alloc: Global, row: &Row) -> Result<bool, Memory> {
+    let start = start_of(alloc, row.start)?;
+    let mut entries = Vec::new(alloc);
+    for part in row.story {
+        entries = tell(alloc, entries, part)?;
+    }
+    if led_to(alloc, &start, &entries)?.is_empty() {
+        return Ok(false);
+    }
+    let entries = tell(alloc, entries, row.then)?;
+    let states = led_to(alloc, &start, &entries)?;
+    leads_so(&states, row.leads)
+}
+
+fn leads_so(states: &[State], leads: Leads) -> Result<bool, Memory> {
+    let Some(state) = states.first() else {
+        return Ok(is_nowhere(leads));
+    };
+    match leads {
+        Leads::On => Ok(true),
+        Leads::Nowhere => Ok(false),
+        Leads::To(name, of, counts) => has_counts(state, name, of, counts),
+        Leads::Without(name) => Ok(state.topic_of(&topic(name)?).is_none()),
+    }
+}
+
+fn is_nowhere(leads: Leads) -> bool {
+    match leads {
+        Leads::Nowhere => true,
+        _ => false,
+    }
+}
+
+fn has_counts(state: &State, name: &str, of: &str, counts: [usize; 3]) -> Result<bool, Memory> {
+    let (name, of) = (topic(name)?, channel(of)?);
+    let Some(channel) = state.channel_at(&name, &of) else {
+        return Ok(false);
+    };
+    let [waiting, flying, held] = counts;
+    Ok(
+        queued(&channel.copies) == waiting
+            && in_flight(&channel.copies) == flying
+            && deferred(&channel.copies) == held,
+    )
+}
+
+fn start_of(alloc: Global, start: Start) -> Result<State, Memory> {
+    let mut options = Options::defaults(alloc)?;
+    options.mem_queue_size = start.mem;
+    options.msg_timeout = start.msg_timeout;
+    let state = State {
+        options,
+        epoch: start.epoch % 1_000,
+        ids_used: start.ids_used,
+        moment: 0,
+        stopped: false,
+        began: Vec::new(alloc),
+        clients: Vec::new(alloc),
+        topics: Vec::new(alloc),
+    };
+    if start.found.is_empty() {
+        return Ok(state);
+    }
+    let found = found_topic(alloc, start.found)?;
+    state.with_topic(alloc, found)
+}
+
+fn found_topic(alloc: Global, found_there: &[(u64, u16)]) -> Result<TopicState, Memory> {
+    let mut found = ChannelState::new(alloc, channel("c")?);
+    for (n, attempts) in found_there {
+        found.copies.push(MessageCopy {
+            message: message(alloc, *n, *attempts, 0)?,
+            place: Place::Queued,
+        })?;
+    }
+    TopicState::new(alloc, topic("t")?).with_channel(alloc, found)
+}

@@ -1,5 +1,5 @@
 -- What the calls of a heap say of flights and of deferred copies.
-use Rattle.std.proofs.Common.{◌≡◌, ℕ, ◌+◌, ◌*◌, ◌^◌, ◌≤◌, ◌<◌, Bool, true, false, List, [], ◌∷◌, map, length, All, Option, Some, None, IsSome, IfSome, IfNone, OnSome, option_map, ◌⊎◌, inl, inr, refl, sym, ap, ◌∙◌, subst, arith}
+use Rattle.std.proofs.Common.{◌≡◌, ℕ, ◌+◌, ◌≤◌, ◌<◌, true, List, [], ◌∷◌, map, length, All, Option, Some, None, IsSome, IfSome, IfNone, OnSome, option_map, ◌⊎◌, inl, inr, refl, sym, ap, ◌∙◌, subst, arith}
 use Rattle.std.proofs.lemmas.List.Elements.{All-nil, All-cons, All-weaker}
 use Rattle.due_heap.specs.declared.key.Key.{Key}
 use Rattle.due_heap.specs.Heap.{Entry, FewSteps, TakesFirst, TakesOut, entry_of, first_due as heap_first}
@@ -12,7 +12,7 @@ use Rattle.broker_history.specs.Channels.{one, AsOften}
 use Rattle.channel_copies.specs.declared.flight.Flight.{Flight}
 use Rattle.channel_copies.specs.Flights.{CostsCalls, Leaves, first_due, soonest, due_by}
 use Rattle.channel_copies.specs.Deferred.{Waiting, AreShort, waiting_in, waiting_of, first_waiting, soonest_waiting}
-use Rattle.channel_copies.specs.Index.{items_of, IsFit, IsIndexed}
+use Rattle.channel_copies.specs.Index.{items_of, IsFit}
 use Rattle.channel_copies.proofs.Counts.{count-all, count-map, count-out, all-out}
 use Rattle.channel_copies.proofs.Soonest.{Told, told, told_none, told_some, first_holds, first_none, first_seen, by_later, by_now}
 

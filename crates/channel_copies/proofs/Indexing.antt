@@ -2,14 +2,13 @@
 use Rattle.std.proofs.Common.{◌≡◌, ◌≢◌, ℕ, ◌+◌, ◌≤◌, ◌<◌, Bool, true, false, cond, nat_eq, if◌then◌else◌, ◌&&◌, ◌⊎◌, List, [], ◌∷◌, ◌++◌, All, Option, Some, None, option_map, option_copied, IsSome, Bor, inl, inr, refl, sym, ap, ◌∙◌, subst, arith}
 use Rattle.std.specs.List.{count_by}
 use Rattle.std.specs.Str.{bytes_eq}
-use Rattle.std.proofs.lemmas.Bool.{eq-eqb, true≢false}
+use Rattle.std.proofs.lemmas.Bool.{true≢false}
 use Rattle.std.proofs.lemmas.Slice.Eq.{bytes_eq-Decides}
-use Rattle.std.proofs.lemmas.List.Elements.{All-map}
 use Rattle.due_heap.specs.declared.key.Key.{Key}
 use Rattle.due_heap.specs.Heap.{Entry, TakesOut, OthersStay, entry_of, has_key}
 use Rattle.channel_copies.specs.declared.flight.Flight.{Flight}
 use Rattle.broker_history.specs.Channels.{one, AsOften}
-use Rattle.channel_copies.specs.Flights.{Flying, flights_of_id, has_id, has_client, Finds, Leaves}
+use Rattle.channel_copies.specs.Flights.{Flying, flights_of_id, has_id, Finds, Leaves}
 use Rattle.channel_copies.specs.Index.{items_of, is_of, is_with, Reaches, Shows, IsFit, IsIndexed, IsKept}
 use Rattle.channel_copies.proofs.Counts.{count-cons, count-append, count-map, count-out, count-and, and_true, all-in, all-out}
 

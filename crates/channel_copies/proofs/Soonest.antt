@@ -1,10 +1,10 @@
 -- The one of a list that is due soonest, and the first of a heap.
-use Rattle.std.proofs.Common.{◌≡◌, ℕ, ◌+◌, ◌≤◌, ◌<◌, Bool, true, false, nat_le, if◌then◌else◌, ◌⊎◌, List, [], ◌∷◌, map, All, Option, Some, None, option_map, IfSome, inl, inr, refl, sym, ap, ◌∙◌, subst, arith}
+use Rattle.std.proofs.Common.{◌≡◌, ℕ, ◌≤◌, ◌<◌, Bool, true, false, nat_le, if◌then◌else◌, ◌⊎◌, List, [], ◌∷◌, map, All, Option, Some, None, option_map, inl, inr, refl, sym, ap, ◌∙◌, subst, arith}
 use Rattle.std.specs.List.{count_by}
 use Rattle.std.proofs.lemmas.Bool.Decides.{nat_tests}
 use Rattle.std.proofs.lemmas.List.Elements.{All-nil, All-cons, All-head, All-tail, All-weaker}
 use Rattle.due_heap.specs.declared.key.Key.{Key}
-use Rattle.due_heap.specs.Heap.{Entry, entry_of, first_due, sooner as heap_sooner}
+use Rattle.due_heap.specs.Heap.{Entry, first_due, sooner as heap_sooner}
 use Rattle.broker_history.specs.Channels.{one}
 use Rattle.channel_copies.specs.Flights.{sooner, soonest, due_by}
 use Rattle.channel_copies.proofs.Counts.{count-cons, count-nothing}

@@ -1,6 +1,5 @@
 -- How flights are reached by their ids. No public clause cites this module.
-use Rattle.std.specs.Prelude.{◌≡◌, ℕ, ◌^◌, ◌≤◌, Bool, ◌==◌, List, map, Option, Some, None, All, count_by}
-use Rattle.std.specs.Str.{bytes_eq}
+use Rattle.std.specs.Prelude.{◌≡◌, ℕ, ◌^◌, ◌≤◌, Bool, List, map, Option, Some, None, All, count_by}
 use Rattle.backlog.specs.Seen.{FitsLimit}
 use Rattle.due_heap.specs.declared.key.Key.{Key}
 use Rattle.due_heap.specs.Heap.{Entry, entry_of}

@@ -1,4 +1,4 @@
-ghost use Rattle.std.specs.Prelude.{◌≡◌, ◌↔◌, ◌^◌, ◌≤◌, [], length, Some, None, IsSome, IsTrue, OnOk, OnErr};
+ghost use Rattle.std.specs.Prelude.{◌≡◌, ◌^◌, ◌≤◌, [], Some, None, IsSome, OnOk, OnErr};
 ghost use Rattle.channel_copies.specs.Clients.{PutsClient, client_of, now_ready};
 
 use nsq_base::Memory;
@@ -41,13 +41,6 @@ impl Clients {
         Clients {
             clients: HashMap::new(alloc),
         }
-    }
-
-    /// Whether there is none.
-    pub fn is_empty(&self) -> bool
-        ensures { IsTrue result ↔ (length self.now ≡ 0) }
-    {
-        self.clients.is_empty()
     }
 
     /// Adds a client, which may have no copy in flight yet. After Memory all is as it was.

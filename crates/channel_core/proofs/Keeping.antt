@@ -1,6 +1,7 @@
 -- What every channel keeps, through a call.
 use Rattle.std.proofs.Common.{◌≡◌, ◌≢◌, ℕ, ◌+◌, ◌≤◌, Bool, true, false, not, List, length, Option, Some, None, refl, sym, ap, ◌∙◌, subst, arith}
 use Rattle.std.specs.Prelude.{is_some, IsSome, IfSome}
+use Rattle.nsq_outside.specs.Files.{Files}
 use Rattle.v2_frame.specs.declared.message.Message.{Message}
 use Rattle.disk_queue.specs.Seen.{Seen as Queue}
 use Rattle.disk_queue.specs.declared.answers.Emptied.{Emptied}
@@ -17,7 +18,8 @@ use Rattle.backlog.specs.declared.answers.Flushed.TheVariants.{Done as FlushDone
 use Rattle.broker_history.specs.State.{is_ephemeral_channel}
 use Rattle.channel_copies.specs.Flights.{Flying, CostsCalls, flights_of_id}
 use Rattle.channel_copies.specs.Deferred.{Deferring}
-use Rattle.channel_copies.specs.Putting.{Around, Puts}
+use Rattle.channel_copies.specs.Putting.{Around, KeepsDisk, Puts, around}
+use Rattle.channel_storing.proofs.Capacity.{put_capacity}
 use Rattle.channel_core.specs.declared.about.About.{About}
 use Rattle.channel_core.specs.declared.drawn.Sending.{Sending}
 use Rattle.channel_core.specs.declared.drawn.Drawn.{Drawn}
@@ -85,41 +87,6 @@ still_named about b b' w same capacity = record {
   queue = same_name b.queue b'.queue _ same w.queue;
 }
 
--- so it is after each call of the backlog
-pub put_capacity : (old new : Backlog) (m : Message) (answer : PutOne) → PutSeen old new m answer → new.capacity ≡ old.capacity
-put_capacity old new m Kept s = ap (λ (b : Backlog). b.capacity) s
-put_capacity old new m Dropped s = ap (λ (b : Backlog). b.capacity) s
-put_capacity old new m Spilled s = ap (λ (b : Backlog). b.capacity) s.is
-put_capacity old new m (Fault back) s = ap (λ (b : Backlog). b.capacity) s.1
-
-one_capacity : (old new : Backlog) (m : Message) → DrawsOne old new m → new.capacity ≡ old.capacity
-one_capacity old new m (of_ring was is) = ap (λ (b : Backlog). b.capacity) is
-one_capacity old new m (of_disk p) = ap (λ (b : Backlog). b.capacity) p.is
-
-none_capacity : (old new : Backlog) → FindsNone old new → new.capacity ≡ old.capacity
-none_capacity old new (no_queue ring queue is) = ap (λ (b : Backlog). b.capacity) is
-none_capacity old new (no_record p) = ap (λ (b : Backlog). b.capacity) p.is
-
-pub draw_capacity : (old new : Backlog) (answer : FromBacklog) → DrawSeen old new answer → new.capacity ≡ old.capacity
-draw_capacity old new (drawing.Got m) s = one_capacity old new m s
-draw_capacity old new drawing.Empty s = none_capacity old new s
-draw_capacity old new drawing.Fault s = ap (λ (b : Backlog). b.capacity) s.is
-draw_capacity old new drawing.Damaged s = ap (λ (b : Backlog). b.capacity) s.peeks.is
-draw_capacity old new drawing.Memory s = ap (λ (b : Backlog). b.capacity) s.peeks.is
-
-pub settle_capacity : (l : Lent) (old new : Backlog) → SettleSeen l old new → new.capacity ≡ old.capacity
-settle_capacity lending.Nothing old new s = absurd s
-settle_capacity lending.OfRing old new s = ap (λ (b : Backlog). b.capacity) s
-settle_capacity lending.OfDisk old new s = ap (λ (b : Backlog). b.capacity) s.is
-
-pub flush_capacity : (old new : Backlog) (answer : Flushed) → FlushSeen old new answer → new.capacity ≡ old.capacity
-flush_capacity old new FlushDone s = ap (λ (b : Backlog). b.capacity) s.0.is
-flush_capacity old new FlushFault s = ap (λ (b : Backlog). b.capacity) s.0.is
-
-pub empty_capacity : (old new : Backlog) (answer : Emptied) → EmptySeen old new answer → new.capacity ≡ old.capacity
-empty_capacity old new emptying.Done s = ap (λ (b : Backlog). b.capacity) s.0
-empty_capacity old new emptying.Fault s = ap (λ (b : Backlog). b.capacity) s.0
-
 pub put_named : {tells : Bool} {m : Message} {answer : PutOne} {about : About} (old new : Around) → IsBacklogOf about old.backlog → Puts tells m answer old new → IsBacklogOf about new.backlog
 put_named {m = m} {answer = answer} {about = about} old new w p = still_named about old.backlog new.backlog w p.queue (put_capacity old.backlog new.backlog m answer p.seen)
 
@@ -147,3 +114,7 @@ costs_flights calls before now {v0} {v} is c = costs_more calls (length v0.fligh
 
 pub costs_deferred : (calls before now : ℕ) {v0 v : Seen} → v0 ≡ v → CostsCalls calls (length v0.deferred) before now → CostsCalls calls (items v) before now
 costs_deferred calls before now {v0} {v} is c = costs_more calls (length v0.deferred) (items v) before now (omega (arith, ap items is)) c
+
+-- what a call leaves alone of the backlog, by what is seen whole
+pub keeps_of : {tells : Bool} (files : Files) (faults : ℕ) (b : Around) {v0 v : Seen} → v0 ≡ v → KeepsDisk tells (around v0.backlog files faults) b → KeepsDisk tells (around v.backlog files faults) b
+keeps_of {tells} files faults b is k = subst (λ (u : Seen). KeepsDisk tells (around u.backlog files faults) b) is k

@@ -8,4 +8,3 @@ pub mod Moving
 pub mod Rows
 pub mod Storing
 pub mod Telling
-pub mod Wrote

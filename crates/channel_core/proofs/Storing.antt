@@ -26,11 +26,12 @@ use Rattle.channel_core.specs.Kept.{IsBacklogOf}
 use Rattle.channel_core.specs.Drawing.{Leads, IsAsBefore}
 use Rattle.channel_core.specs.declared.answers.Offer.{Offer}
 use Rattle.channel_core.specs.declared.answers.Offer.TheVariants.{Done, Fault as CameBack, Memory as WantsMemory}
-use Rattle.channel_core.specs.Storing.{Defers, Offers, Joined, Stores, FindsAll, FlushLeaves, flying_messages, deferred_messages}
+use Rattle.channel_core.specs.Storing.{Defers, Offers, Joined, FindsAll, FlushLeaves}
+use Rattle.channel_storing.specs.Storing.{Stores, flying_messages, deferred_messages}
 use Rattle.channel_core.proofs.Copies.{copies-count}
 use Rattle.channel_core.proofs.Joining.{back_place, kept_place, dropped_place, spilled_place, put_in, put_none}
 use Rattle.channel_core.proofs.Moving.{back_is}
-use Rattle.channel_core.proofs.Wrote.{count-waits, count-stored}
+use Rattle.channel_storing.proofs.Wrote.{count-waits, count-stored}
 
 -- the count after a message was put
 abbrev pub count_after : PutOne → ℕ → ℕ

@@ -1,5 +1,5 @@
 -- What a channel counts.
-use Rattle.std.proofs.Common.{◌≡◌, ℕ, ◌+◌, ◌≤◌, ◌<◌, ◌≢◌, ◌↔◌, Bool, true, false, not, nat_eq, inl, inr, List, [], ◌∷◌, length, Option, Some, None, refl, sym, ap, subst, ◌∙◌, arith, length-append}
+use Rattle.std.proofs.Common.{◌≡◌, ℕ, ◌+◌, ◌≤◌, ◌<◌, ◌≢◌, Bool, true, false, not, nat_eq, inl, inr, List, length, Option, Some, None, refl, sym, ap, subst, ◌∙◌, arith, length-append}
 use Rattle.std.specs.Prelude.{is_some, MatchBool}
 use Rattle.std.proofs.lemmas.List.{length-map}
 use Rattle.std.proofs.lemmas.Bool.Decides.{eqb_tells}
@@ -10,7 +10,7 @@ use Rattle.disk_queue.specs.Seen.{Seen as Queue}
 use Rattle.backlog.specs.Seen.{ring_depth, disk_depth, lent_of_ring}
 use Rattle.backlog.specs.Lists.{OnDisk}
 use Rattle.backlog.specs.declared.backlog.Lent.TheVariants.{Nothing}
-use Rattle.broker_history.specs.State.{queued, is_empty, is_ephemeral_channel}
+use Rattle.broker_history.specs.State.{queued, is_ephemeral_channel}
 use Rattle.channel_core.specs.declared.answers.Counts.{Counts}
 use Rattle.channel_core.specs.Answers.{Tells}
 use Rattle.channel_core.specs.Kept.{IsBacklogOf}
@@ -80,10 +80,3 @@ when_true P Q false m e = absurd (let no : ⊥ = cc in no)
 pub when_false : (P Q : Type 0) (b : Bool) → MatchBool b P Q → b ≡ false → Q
 when_false P Q true m e = absurd (let no : ⊥ = cc in no)
 when_false P Q false m e = m
-
--- whether a list has an item
-pub not_empty : {X : Type 0} (b : Bool) (xs : List X) → ((b ≡ true) ↔ (length xs ≡ 0)) → not b ≡ not (is_empty xs)
-not_empty true [] h = refl
-not_empty true (x ∷ xs) h = absurd (let none : length (x ∷ xs) ≡ 0 = h.0 refl in let no : ⊥ = omega (arith, none) in no)
-not_empty false [] h = absurd (let some : false ≡ true = h.1 refl in let no : ⊥ = cc in no)
-not_empty false (x ∷ xs) h = refl

@@ -1,4 +1,4 @@
-ghost use Rattle.std.specs.Prelude.{◌≡◌, ◌≤◌, ◌^◌, ℕ, List, [], true, false, not, IsTrue, IsSome, IfOk, IfErr, OnOk, OnErr, Some, None};
+ghost use Rattle.std.specs.Prelude.{◌≡◌, ◌≤◌, ◌^◌, ℕ, List, [], true, false, IsTrue, IsSome, IfOk, IfErr, OnOk, OnErr, Some, None};
 ghost use Rattle.nsq_outside.specs.Files.{Files};
 ghost use Rattle.queue_image.specs.FileNames.{meta_file};
 ghost use Rattle.queue_image.specs.Metas.{IsIdle};
@@ -6,7 +6,7 @@ ghost use Rattle.queue_opening.specs.Refusals.{OpenFails};
 ghost use Rattle.disk_queue.specs.Opened.{IsOpened, IsTidied, FilesOfChange};
 ghost use Rattle.v2_frame.specs.declared.message.Message.{Message};
 ghost use Rattle.backlog.specs.Lists.{OnDisk, Stands, WasFound, OpenRefused};
-ghost use Rattle.broker_history.specs.State.{is_empty, is_ephemeral_channel};
+ghost use Rattle.broker_history.specs.State.{flying, is_ephemeral_channel};
 ghost use Rattle.channel_copies.specs.Clients.{PutsClient, client_of, now_ready};
 ghost use Rattle.channel_core.specs.Seen.{channel_with, queue_name, seen_channel};
 ghost use Rattle.channel_core.specs.Kept.{IsBacklogOf};
@@ -172,13 +172,6 @@ impl Channel {
         self.clients.leave(client);
     }
 
-    /// Whether a client is subscribed.
-    pub fn has_clients(&self) -> bool
-        ensures { result ≡ not (is_empty self.now.clients) }
-    {
-        !self.clients.is_empty()
-    }
-
     /// Sets how many copies a client may have in flight.
     pub fn ready(&mut self, client: u64, count: u32)
         requires { IsSome (client_of self.old.clients client) }
@@ -209,6 +202,13 @@ impl Channel {
                 }
             }
         }
+    }
+
+    /// How many copies are in flight with a client.
+    pub fn in_flight(&self, client: u64) -> u64
+        ensures { (queued : List Message) → result ≡ flying client (channel_with self.now queued).copies }
+    {
+        self.flights.count(client) as u64
     }
 
     /// Which copy `move_due` moves at this moment: its id, and whether it is in flight. None exactly where none is due.

@@ -9,7 +9,6 @@ mod about;
 mod answers;
 mod channel;
 mod drawn;
-mod writing;
 
 pub use about::About;
 pub use answers::{Counts, DropChannel, Look, Moved, Next, Offer, Requeue};

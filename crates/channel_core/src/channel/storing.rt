@@ -15,10 +15,10 @@ ghost use Rattle.channel_core.specs.Deleting.{Deletes, DeleteSeen, DeleteStands,
 
 use super::Channel;
 use super::making::is_ephemeral;
-use crate::writing::{write_deferred, write_flights};
 use crate::{DropChannel, Offer};
 use backlog::{Flushed, Gone, PutOne};
 use channel_copies::{Deferred, Flights, put_back};
+use channel_storing::{write_deferred, write_flights};
 use disk_queue::{Emptied, Sync};
 use nsq_base::Steps;
 use nsq_outside::Folder;

@@ -1,5 +1,5 @@
 use Rattle.std.specs.HashMap.{get}
-use Rattle.std.proofs.Common.{◌≡◌, ◌<◌, nat_eq, sym, ap, ◌∙◌, refl, subst, option_copied, length}
+use Rattle.std.proofs.Common.{◌<◌, nat_eq, sym, ap, ◌∙◌, refl, subst, option_copied, length}
 use Rattle.std.specs.Cmp.Lexicographic.{pointwise}
 use Rattle.v2_frame.specs.declared.message.Message.{Message}
 use Rattle.backlog.specs.Seen.{FitsLimit}

@@ -1,10 +1,8 @@
 use Rattle.std.specs.HashMap.{get}
-use Rattle.std.proofs.Common.{◌≡◌, ◌<◌, ◌≤◌, ◌+◌, nat_eq, sym, ap, ◌∙◌, refl, subst, option_copied, arith}
+use Rattle.std.proofs.Common.{◌<◌, nat_eq, sym, ◌∙◌, refl, subst}
 use Rattle.std.specs.Cmp.Lexicographic.{pointwise}
-use Rattle.channel_copies.specs.Flights.{Flying, Prolongs, flights_of_id}
-use Rattle.channel_copies.specs.Index.{items_of}
-use Rattle.channel_copies.proofs.Counts.{on_present}
-use Rattle.channel_copies.proofs.Indexing.{counts_less, counts_again, taken_by_key, taken_by_id, put_again, id_of_taken, fit_taken, has_key_of, is_some_of, copied_some, key_reaches, items_leave, none_left}
+use Rattle.channel_copies.specs.Flights.{Flying, flights_of_id}
+use Rattle.channel_copies.proofs.Indexing.{counts_less, taken_by_key, id_of_taken, fit_taken, has_key_of, is_some_of, key_reaches, none_left}
 use Rattle.channel_copies.proofs.flights.Flights.take.Goals as goal
 
 pub unwrap-key-requires : goal.unwrap-key-requires

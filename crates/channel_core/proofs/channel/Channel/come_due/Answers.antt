@@ -3,9 +3,9 @@ use Rattle.backlog.specs.Lists.{OnDisk}
 use Rattle.channel_copies.specs.Putting.{around}
 use Rattle.channel_core.specs.Seen.{Seen, queued_in}
 use Rattle.channel_core.proofs.Dues.{came_due_is, waiting_is_due, waiting_told}
-use Rattle.channel_core.proofs.Keeping.{costs_deferred, nothing_lent, put_named, still_whole}
+use Rattle.channel_core.proofs.Keeping.{costs_deferred, keeps_of, nothing_lent, put_named, still_whole}
 use Rattle.channel_core.proofs.Moving.{came_due, waits_again}
-use Rattle.channel_core.proofs.Wrote.{keeps_of, keeps_put}
+use Rattle.channel_storing.proofs.Wrote.{keeps_put}
 use Rattle.channel_core.proofs.channel.Channel.come_due.Goals as goal
 
 pub move_back-requires-clause-there : goal.move_back-requires-clause-there

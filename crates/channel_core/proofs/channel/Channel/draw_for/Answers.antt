@@ -4,9 +4,10 @@ use Rattle.backlog.specs.Lists.{OnDisk}
 use Rattle.channel_copies.specs.Putting.{around}
 use Rattle.channel_core.specs.Seen.{HasRoom, Seen}
 use Rattle.channel_core.proofs.Drawings.{drew_none, drew_to_hold, drew_to_send, none_ring, waits_same}
-use Rattle.channel_core.proofs.Keeping.{draw_capacity, nothing_lent, ready_to_hold, ready_to_send, still_named, still_whole}
+use Rattle.channel_core.proofs.Keeping.{keeps_of, nothing_lent, ready_to_hold, ready_to_send, still_named, still_whole}
+use Rattle.channel_storing.proofs.Capacity.{draw_capacity}
 use Rattle.channel_core.proofs.Telling.{when_false, when_true}
-use Rattle.channel_core.proofs.Wrote.{keeps_drawn, keeps_of}
+use Rattle.channel_storing.proofs.Wrote.{keeps_drawn}
 use Rattle.channel_core.proofs.channel.Channel.draw_for.Goals as goal
 
 pub draw-requires-clause-nothing : goal.draw-requires-clause-nothing

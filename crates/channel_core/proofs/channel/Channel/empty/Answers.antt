@@ -1,6 +1,7 @@
 use Rattle.std.proofs.Common.{◌∙◌, length, ap, arith}
 use Rattle.channel_core.specs.Seen.{Seen}
-use Rattle.channel_core.proofs.Keeping.{empty_capacity, still_named, still_whole}
+use Rattle.channel_core.proofs.Keeping.{still_named, still_whole}
+use Rattle.channel_storing.proofs.Capacity.{empty_capacity}
 use Rattle.channel_core.proofs.channel.Channel.empty.Goals as goal
 
 pub invariant_of-self-2 : goal.invariant_of-self-2

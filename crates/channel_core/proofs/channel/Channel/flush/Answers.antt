@@ -1,9 +1,10 @@
 use Rattle.std.proofs.Common.{◌∙◌, length, sym, ap, arith}
 use Rattle.channel_copies.specs.Putting.{around}
 use Rattle.channel_core.specs.Seen.{Seen}
-use Rattle.channel_core.proofs.Keeping.{durable_queue, flush_capacity, nothing_lent, still_named, still_whole}
+use Rattle.channel_core.proofs.Keeping.{durable_queue, keeps_of, nothing_lent, still_named, still_whole}
+use Rattle.channel_storing.proofs.Capacity.{flush_capacity}
 use Rattle.channel_core.proofs.Storing.{flush_leaves}
-use Rattle.channel_core.proofs.Wrote.{keeps_joined, keeps_of, same_there}
+use Rattle.channel_storing.proofs.Wrote.{keeps_joined, same_there}
 use Rattle.channel_core.proofs.channel.Channel.flush.Goals as goal
 
 pub write_flights-requires-clause-durable : goal.write_flights-requires-clause-durable

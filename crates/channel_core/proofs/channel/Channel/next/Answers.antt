@@ -7,7 +7,7 @@ use Rattle.channel_core.specs.Drawing.{ready_of}
 use Rattle.channel_core.proofs.Drawings.{draws_all, next_rest, next_where}
 use Rattle.channel_core.proofs.Looking.{credit_is}
 use Rattle.channel_core.proofs.Telling.{when_false, when_true}
-use Rattle.channel_core.proofs.Wrote.{keeps_none, keeps_same}
+use Rattle.channel_storing.proofs.Wrote.{keeps_none, keeps_same}
 use Rattle.channel_core.proofs.channel.Channel.next.Goals as goal
 
 pub returns-then-has_no_credit-clause-cause : goal.returns-then-has_no_credit-clause-cause

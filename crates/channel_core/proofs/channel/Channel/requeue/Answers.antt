@@ -4,10 +4,10 @@ use Rattle.backlog.specs.Lists.{OnDisk}
 use Rattle.channel_copies.specs.Putting.{around}
 use Rattle.channel_copies.proofs.Counts.{shorter, as_long}
 use Rattle.channel_core.specs.Seen.{Seen}
-use Rattle.channel_core.proofs.Keeping.{put_named, still_whole, nothing_lent, costs_flights, costs_deferred, costs_both}
+use Rattle.channel_core.proofs.Keeping.{costs_both, costs_deferred, costs_flights, keeps_of, nothing_lent, put_named, still_whole}
 use Rattle.channel_core.proofs.Moving.{gave_back, was_deferred, flies_again}
 use Rattle.channel_core.proofs.Rows.{asked}
-use Rattle.channel_core.proofs.Wrote.{keeps_of, keeps_put}
+use Rattle.channel_storing.proofs.Wrote.{keeps_put}
 use Rattle.channel_core.proofs.channel.Channel.requeue.Goals as goal
 
 pub take-flight-requires : goal.take-flight-requires

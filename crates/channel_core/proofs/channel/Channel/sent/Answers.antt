@@ -4,9 +4,9 @@ use Rattle.channel_copies.specs.Clients.{client_of}
 use Rattle.channel_copies.specs.Putting.{around}
 use Rattle.channel_copies.proofs.Counts.{shorter}
 use Rattle.channel_core.specs.Seen.{Seen}
-use Rattle.channel_core.proofs.Keeping.{settle_capacity, still_named, still_whole, to_send, costs_flights}
+use Rattle.channel_core.proofs.Keeping.{costs_flights, keeps_of, still_named, still_whole, to_send}
+use Rattle.channel_storing.proofs.Capacity.{settle_capacity}
 use Rattle.channel_core.proofs.Rows.{sent_row}
-use Rattle.channel_core.proofs.Wrote.{keeps_of}
 use Rattle.channel_core.proofs.channel.Channel.sent.Goals as goal
 
 pub get-requires : goal.get-requires

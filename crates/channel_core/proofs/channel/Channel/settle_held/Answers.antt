@@ -6,9 +6,9 @@ use Rattle.channel_copies.specs.Putting.{around}
 use Rattle.channel_core.specs.Drawn.{held_of}
 use Rattle.channel_core.specs.Seen.{Seen}
 use Rattle.channel_core.proofs.Drawings.{held_is, is_held}
-use Rattle.channel_core.proofs.Keeping.{costs_deferred, settle_capacity, still_named, still_whole, to_hold}
+use Rattle.channel_core.proofs.Keeping.{costs_deferred, keeps_of, still_named, still_whole, to_hold}
+use Rattle.channel_storing.proofs.Capacity.{settle_capacity}
 use Rattle.channel_core.proofs.Rows.{held_now}
-use Rattle.channel_core.proofs.Wrote.{keeps_of}
 use Rattle.channel_core.proofs.channel.Channel.settle_held.Goals as goal
 
 pub overflow_add-due : goal.overflow_add-due

@@ -5,9 +5,9 @@ use Rattle.channel_copies.specs.Putting.{around}
 use Rattle.channel_copies.proofs.Counts.{as_long, shorter}
 use Rattle.channel_core.specs.Seen.{Seen, queued_in}
 use Rattle.channel_core.proofs.Dues.{flight_is_due, flight_told, timed_out_due}
-use Rattle.channel_core.proofs.Keeping.{costs_flights, nothing_lent, put_named, still_whole}
+use Rattle.channel_core.proofs.Keeping.{costs_flights, keeps_of, nothing_lent, put_named, still_whole}
 use Rattle.channel_core.proofs.Moving.{flies_again, timed_out}
-use Rattle.channel_core.proofs.Wrote.{keeps_of, keeps_put}
+use Rattle.channel_storing.proofs.Wrote.{keeps_put}
 use Rattle.channel_core.proofs.channel.Channel.time_out.Goals as goal
 
 pub move_back-requires-clause-there : goal.move_back-requires-clause-there

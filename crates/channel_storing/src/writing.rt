@@ -4,7 +4,7 @@ ghost use Rattle.backlog.specs.Seen.{FitsLimit};
 ghost use Rattle.backlog.specs.Answers.{FlushFails};
 ghost use Rattle.channel_copies.specs.Flights.{CostsCalls};
 ghost use Rattle.channel_copies.specs.Putting.{KeepsDisk, around};
-ghost use Rattle.channel_core.specs.Storing.{LeftWhere, StoresWhere, deferred_messages, flying_messages};
+ghost use Rattle.channel_storing.specs.Storing.{LeftWhere, StoresWhere, deferred_messages, flying_messages};
 
 use backlog::{Backlog, Flushed, PutOne};
 use channel_copies::{Deferred, Flights, put_back};
@@ -13,9 +13,10 @@ use nsq_outside::Folder;
 use std::sync::ledger::Ledger;
 use v2_frame::Message;
 
-/// Writes the messages of all copies in flight behind those that wait, by due moment. The backlog's ring holds so many. After a fault some
-/// are left, and one is lost.
-pub(crate) fn write_flights<F: Folder, L: Ledger>(
+/// Writes the messages of all copies in flight behind those that wait, by due moment. The backlog's ring holds so many. It takes no memory. After
+/// a fault some are left, and the one that the folder refused is lost. Requires a durable backlog of which nothing is drawn, and 16,777,242
+/// bytes of `scratch`.
+pub fn write_flights<F: Folder, L: Ledger>(
     flights: &mut Flights,
     backlog: &mut Backlog,
     ring: u64,
@@ -44,7 +45,7 @@ pub(crate) fn write_flights<F: Folder, L: Ledger>(
 }
 
 /// Writes the messages of all deferred copies behind those that wait, as `write_flights`.
-pub(crate) fn write_deferred<F: Folder, L: Ledger>(
+pub fn write_deferred<F: Folder, L: Ledger>(
     deferred: &mut Deferred,
     backlog: &mut Backlog,
     ring: u64,

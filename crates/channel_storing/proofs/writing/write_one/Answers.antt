@@ -1,10 +1,10 @@
 use Rattle.std.proofs.Common.{◌∙◌, ◌∷◌, [], sym, subst}
 use Rattle.channel_copies.specs.Putting.{around}
-use Rattle.channel_core.specs.Storing.{StoresWhere}
-use Rattle.channel_core.proofs.Keeping.{put_capacity}
-use Rattle.channel_core.proofs.Wrote.{one_written, taken_so, keeps_joined, keeps_put}
-use Rattle.channel_core.proofs.writing.write_one.Goals.{in-Kept, in-Fault-put_back}
-use Rattle.channel_core.proofs.writing.write_one.Goals as goal
+use Rattle.channel_storing.specs.Storing.{StoresWhere}
+use Rattle.channel_storing.proofs.Capacity.{put_capacity}
+use Rattle.channel_storing.proofs.Wrote.{one_written, taken_so, keeps_joined, keeps_put}
+use Rattle.channel_storing.proofs.writing.write_one.Goals.{in-Kept, in-Fault-put_back}
+use Rattle.channel_storing.proofs.writing.write_one.Goals as goal
 
 pub returns-clause-capacity : goal.returns-clause-capacity
 returns-clause-capacity g c = put_capacity _ _ _ _ c.put_back.ensures.seen ∙ c.make_room.ensures.capacity

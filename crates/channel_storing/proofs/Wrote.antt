@@ -23,8 +23,7 @@ use Rattle.channel_copies.specs.Flights.{CostsCalls, Leaves}
 use Rattle.channel_copies.specs.Deferred.{Waiting}
 use Rattle.channel_copies.specs.Putting.{Around, Puts, IsTaken, KeepsDisk, around}
 use Rattle.channel_copies.proofs.Counts.{count-cons, count-append, count-map}
-use Rattle.channel_core.specs.Seen.{Seen}
-use Rattle.channel_core.specs.Storing.{Stores, StoresWhere, flying_messages, deferred_messages}
+use Rattle.channel_storing.specs.Storing.{Stores, StoresWhere, flying_messages, deferred_messages}
 
 -- a queue of the same name, once more
 pub same_kept : (q : Option Queue) → SameQueue q q
@@ -75,10 +74,6 @@ keeps_joined a b c f s = record {
   others = λ told. changes_joined a.backlog.queue b.backlog.queue a.files b.files c.files f.queue (f.others told) (s.others told);
   faults = omega (arith, f.faults, s.faults);
 }
-
--- the same of what is seen whole
-pub keeps_of : {tells : Bool} (files : Files) (faults : ℕ) (b : Around) {v0 v : Seen} → v0 ≡ v → KeepsDisk tells (around v0.backlog files faults) b → KeepsDisk tells (around v.backlog files faults) b
-keeps_of {tells} files faults b is k = subst (λ (u : Seen). KeepsDisk tells (around u.backlog files faults) b) is k
 
 -- putting a message changes no more
 put_changed : (queue : Option Queue) (old new : Files) (answer : PutOne) → PutChanges queue old new answer → DiskChanges queue old new

@@ -1,9 +1,9 @@
 use Rattle.std.proofs.Common.{◌≡◌, ◌≤◌, length, IsSome}
 use Rattle.backlog.specs.declared.backlog.Lent.TheVariants.{Nothing}
 use Rattle.channel_copies.specs.Putting.{KeepsDisk, around}
-use Rattle.channel_core.specs.Storing.{Stores, deferred_messages}
-use Rattle.channel_core.proofs.Wrote.{Spends}
-use Rattle.channel_core.proofs.writing.write_deferred.Given as goal
+use Rattle.channel_storing.specs.Storing.{Stores, deferred_messages}
+use Rattle.channel_storing.proofs.Wrote.{Spends}
+use Rattle.channel_storing.proofs.writing.write_deferred.Given as goal
 
 abbrev pub decreases-loop-message : goal.decreases-loop-message
 decreases-loop-message g l = length l.deferred.waiting

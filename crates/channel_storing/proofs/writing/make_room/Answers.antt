@@ -1,7 +1,7 @@
 use Rattle.channel_copies.specs.Putting.{around}
-use Rattle.channel_core.proofs.Keeping.{flush_capacity}
-use Rattle.channel_core.proofs.Wrote.{room_made}
-use Rattle.channel_core.proofs.writing.make_room.Goals as goal
+use Rattle.channel_storing.proofs.Capacity.{flush_capacity}
+use Rattle.channel_storing.proofs.Wrote.{room_made}
+use Rattle.channel_storing.proofs.writing.make_room.Goals as goal
 
 pub returns-clause-capacity : goal.returns-clause-capacity
 returns-clause-capacity g c = flush_capacity _ _ _ c.flush.ensures.seen

@@ -1,9 +1,9 @@
 use Rattle.std.proofs.Common.{◌≡◌, ◌≤◌, length, IsSome}
 use Rattle.backlog.specs.declared.backlog.Lent.TheVariants.{Nothing}
 use Rattle.channel_copies.specs.Putting.{KeepsDisk, around}
-use Rattle.channel_core.specs.Storing.{Stores, flying_messages}
-use Rattle.channel_core.proofs.Wrote.{Spends}
-use Rattle.channel_core.proofs.writing.write_flights.Given as goal
+use Rattle.channel_storing.specs.Storing.{Stores, flying_messages}
+use Rattle.channel_storing.proofs.Wrote.{Spends}
+use Rattle.channel_storing.proofs.writing.write_flights.Given as goal
 
 abbrev pub decreases-loop-flight : goal.decreases-loop-flight
 decreases-loop-flight g l = length l.flights.flights

@@ -1,8 +1,8 @@
 use Rattle.std.proofs.Common.{◌∙◌, length, arith}
 use Rattle.channel_copies.specs.Putting.{around}
 use Rattle.channel_copies.proofs.Counts.{shorter}
-use Rattle.channel_core.proofs.Wrote.{keeps_joined, same_there, stores_next, flying_less, spends_next, spends_all}
-use Rattle.channel_core.proofs.writing.write_flights.Goals as goal
+use Rattle.channel_storing.proofs.Wrote.{keeps_joined, same_there, stores_next, flying_less, spends_next, spends_all}
+use Rattle.channel_storing.proofs.writing.write_flights.Goals as goal
 
 pub loop-flight-smaller : goal.loop-flight-smaller
 loop-flight-smaller g c = omega (arith, shorter c.in-Some.flight c.loop-flight.flights.flights c.pop.new.self.flights c.in-Some.ensures.leaves)

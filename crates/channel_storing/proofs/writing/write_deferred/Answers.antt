@@ -1,8 +1,8 @@
 use Rattle.std.proofs.Common.{◌∙◌, length, arith}
 use Rattle.channel_copies.specs.Putting.{around}
 use Rattle.channel_copies.proofs.Counts.{shorter}
-use Rattle.channel_core.proofs.Wrote.{keeps_joined, same_there, stores_next, deferred_less, spends_next, spends_all}
-use Rattle.channel_core.proofs.writing.write_deferred.Goals as goal
+use Rattle.channel_storing.proofs.Wrote.{keeps_joined, same_there, stores_next, deferred_less, spends_next, spends_all}
+use Rattle.channel_storing.proofs.writing.write_deferred.Goals as goal
 
 pub loop-message-smaller : goal.loop-message-smaller
 loop-message-smaller g c = omega (arith, shorter (record { due = c.in-Some.ensures.leaves.0; message = c.in-Some.message }) c.loop-message.deferred.waiting c.pop.new.self.waiting c.in-Some.ensures.leaves.1)

@@ -3,7 +3,7 @@ ghost use Rattle.std.specs.Prelude.{◌↔◌, ◌+◌, ◌≤◌, ◌^◌, IsTr
 use crate::moves::{at_channel, room_of};
 use broker_changes::channels::{counted, finishes, gives_back, sends, touches};
 use broker_changes::state::{made_channel, published};
-use broker_plain::{Phase, identity_of};
+use broker_plain::{Phase, are_left, identity_of};
 use broker_state::{ChannelState, Client, Route, State, TopicState};
 use nsq_base::{Body, Chan, Memory, MsgId, Topic};
 use std::alloc::Global;
@@ -80,7 +80,7 @@ fn span_of(delay: i64) -> u64 {
     if delay < 0 {
         return 0;
     }
-    (delay as u64).saturating_mul(1_000_000)
+    delay.unsigned_abs().saturating_mul(1_000_000)
 }
 
 // The state after an accepted IDENTIFY, which sets all members anew; the client's next heartbeat counts from here.
@@ -156,7 +156,7 @@ pub(crate) fn publish(
 fn has_ids(used: u64, count: u64) -> bool
     ensures { IsTrue result ↔ used + count ≤ 2 ^ 40 }
 {
-    used <= 1 << 40 && count <= (1 << 40) - used
+    are_left(used, count)
 }
 
 // The state after RDY, which a closing client gives in vain.
@@ -175,7 +175,7 @@ fn readied(
 
 // How many messages RDY asks for.
 fn count_of(count: i64) -> u64 {
-    if count < 0 { 0 } else { count as u64 }
+    if count < 0 { 0 } else { count.unsigned_abs() }
 }
 
 // The state after CLS.

@@ -277,12 +277,12 @@ fn identify(alloc: Global, body: &[u8]) -> Result<Command, Memory> {
 }
 
 /// A publish that is delayed by so many milliseconds.
-fn delay(alloc: Global, names: Names, delay: i64) -> Result<Command, Memory> {
+fn delay(alloc: Global, names: &Names, delay: i64) -> Result<Command, Memory> {
     Ok(Command::Dpub(names.topic, delay, Body::copy(alloc, b"d")?))
 }
 
 /// What an entry says, as its act.
-fn act_of(alloc: Global, names: Names, told: Told) -> Result<Act, Memory> {
+fn act_of(alloc: Global, names: &Names, told: Told) -> Result<Act, Memory> {
     let id = |number: u8| MsgId::make(1, u64::from(number));
     match told {
         Told::Began => Ok(Act::Began),
@@ -316,7 +316,7 @@ fn act_of(alloc: Global, names: Names, told: Told) -> Result<Act, Memory> {
 }
 
 /// The same of what a client says of itself, of delays and of faults.
-fn other_act_of(alloc: Global, names: Names, told: Told) -> Result<Act, Memory> {
+fn other_act_of(alloc: Global, names: &Names, told: Told) -> Result<Act, Memory> {
     match told {
         Told::Negotiated => answered(
             alloc,
@@ -358,7 +358,7 @@ fn times_of(told: Told) -> usize {
 }
 
 /// The entries of the connection 1.
-fn entries_of(alloc: Global, names: Names, told: &[Told]) -> Result<Vec<(Entry, End)>, Memory> {
+fn entries_of(alloc: Global, names: &Names, told: &[Told]) -> Result<Vec<(Entry, End)>, Memory> {
     let mut entries = Vec::new(alloc);
     for told in told {
         for _ in 0..times_of(*told) {
@@ -425,7 +425,7 @@ fn talk_of(alloc: Global, row: &Row) -> Result<Option<Talk>, Memory> {
     };
     Ok(Some(Talk {
         pieces: pieces_of(alloc, row.sent)?,
-        entries: entries_of(alloc, names, row.told)?,
+        entries: entries_of(alloc, &names, row.told)?,
         out: out_of(alloc, row.got)?,
         stopped: row.stopped,
         wanted: row.wanted,
@@ -460,7 +460,7 @@ fn holds(alloc: Global, row: &Row) -> Result<bool, Memory> {
 /// The entries of a whole history, each with the number that it names.
 fn history_of(
     alloc: Global,
-    names: Names,
+    names: &Names,
     told: &[(u64, Told)],
 ) -> Result<Vec<(Entry, End)>, Memory> {
     let mut entries = Vec::new(alloc);
@@ -488,7 +488,7 @@ fn ends_in(
     let Some(names) = read_names() else {
         return Ok(false);
     };
-    let history = history_of(alloc, names, told)?;
+    let history = history_of(alloc, &names, told)?;
     let pieces = pieces_of(alloc, sent)?;
     let out = out_of(alloc, got)?;
     is_talk_in(alloc, LIMITS, number, &history, 0, &pieces, &out, ended)

@@ -46,7 +46,7 @@ struct Row {
 
 /// A record of a queue: its size, and the message.
 fn add_record(bytes: &mut Vec<u8>, sent: Sent) -> Result<(), Memory> {
-    let size = (sent.body.len() as u32).saturating_add(26);
+    let size = sent.body.len().min(1 << 20) as u32 + 26;
     bytes.extend_from_slice(&size.to_be_bytes())?;
     bytes.extend_from_slice(&[0; 8])?;
     bytes.extend_from_slice(&sent.attempts.to_be_bytes())?;

@@ -5,6 +5,16 @@
 #![tactic(auto)]
 
 #[cfg(test)]
-mod conversations;
+mod breaks;
+#[cfg(test)]
+mod cuts;
+#[cfg(test)]
+mod noted;
+#[cfg(test)]
+mod rows;
 #[cfg(test)]
 mod scripted;
+#[cfg(test)]
+mod served;
+#[cfg(test)]
+mod trace;

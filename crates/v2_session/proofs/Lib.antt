@@ -4,3 +4,4 @@ pub mod Holding
 pub mod Talking
 pub mod Turning
 pub mod Ending
+pub mod Warning

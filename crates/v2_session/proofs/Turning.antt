@@ -1,6 +1,7 @@
 -- What a turn and what is written for it do to a conversation that goes on.
-use Rattle.std.proofs.Common.{◌≡◌, ◌≢◌, ◌⊎◌, ℕ, ◌+◌, ◌<◌, Bool, true, false, List, [], ◌∷◌, ◌++◌, refl, sym, ap, subst, ◌∙◌, append_assoc, inl, inr, Option, Some, None, unwrap_or, Result, Ok, Err, is_err}
+use Rattle.std.proofs.Common.{◌≡◌, ◌≢◌, ◌⊎◌, ℕ, ◌+◌, ◌<◌, Bool, true, false, List, [], ◌∷◌, ◌++◌, refl, sym, ap, subst, ◌∙◌, append_assoc, inl, inr, Option, Some, None, unwrap_or, Result, Ok, Err, is_err, take, length}
 use Rattle.std.proofs.lemmas.List.{append-nil}
+use Rattle.std.proofs.Math.Seq.{take-append_seam}
 use Rattle.nsq_base.specs.declared.memory.Memory.{Memory as NoMemory}
 use Rattle.nsq_outside.specs.declared.journal.End.{End}
 use Rattle.v2_frame.specs.declared.command.Command.{Command}
@@ -302,6 +303,12 @@ same_stream pieces pieces' left left' p l = ap (λ x. bytes_of x ++ left') p ∙
 pub fed_ok : (old : Reading) (piece : List ℕ) (result : Result (Unit {0}) NoMemory) (new : Reading) → IsFed old piece result new → is_err result ≡ false → new ≡ fed old.stage old piece
 fed_ok old piece (Ok x) new f e = f
 fed_ok old piece (Err x) new f e = absurd cc
+
+-- a piece that was fed from the front of what was read into a buffer is pending
+pub fed_front : (old : Reading) (size : ℕ) (buffer into rest : List ℕ) (count : ℕ) (result : Result (Unit {0}) NoMemory) (new : Reading) → buffer ≡ take size (into ++ rest) → length into ≡ size → IsFed old (take count buffer) result new
+    → is_err result ≡ false → new ≡ fed old.stage old (take count into)
+fed_front old size buffer into rest count result new is all f ok =
+    subst (λ (x : List ℕ). new ≡ fed old.stage old (take count x)) (is ∙ subst (λ k. take k (into ++ rest) ≡ into) all (take-append_seam into rest)) (fed_ok old (take count buffer) result new f ok)
 
 -- the limits stay
 pub fed_same : (old new : Reading) (piece : List ℕ) → new ≡ fed old.stage old piece → new.limits ≡ old.limits

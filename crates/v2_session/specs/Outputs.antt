@@ -1,5 +1,5 @@
 -- What is written to a client, whole or in part.
-use Rattle.std.specs.Prelude.{◌≡◌, ℕ, List, ◌++◌, take, Bool, true, false, Option, Some, None}
+use Rattle.std.specs.Prelude.{◌≡◌, ◌⊎◌, ℕ, List, ◌++◌, take, Bool, true, false, Option, Some, None}
 use Rattle.nsq_outside.specs.Causes.{Rose}
 use Rattle.v2_frame.specs.declared.frame.Frame.{Frame}
 use Rattle.broker_history.specs.declared.ended.Ended.{Ended}
@@ -62,6 +62,16 @@ HasOutCause (Some WriteFault) write_faults write_faults' = Rose write_faults wri
 HasOutCause (Some EndOfInput) write_faults write_faults' = ⊥
 HasOutCause (Some ReadFault) write_faults write_faults' = ⊥
 HasOutCause _ write_faults write_faults' = Unit {0}
+
+-- these bytes are the last of what was written
+pub record IsLast (bytes written : List ℕ) : Type 0 where
+  pub front : List ℕ
+  pub whole : written ≡ front ++ bytes
+
+-- a connection that ends by want of memory was told so: the frame for it is the last that was written, whole unless a write failed
+abbrev pub Warns : Option Ended → (written : List ℕ) → (write_faults write_faults' : ℕ) → Type 0
+Warns (Some Memory) written write_faults write_faults' = IsLast memory_bytes written ⊎ Rose write_faults write_faults'
+Warns _ written write_faults write_faults' = Unit {0}
 
 -- how the connection ends, unless more may be sent or there is nothing
 abbrev pub ending_of : Delivered → Option Ended

@@ -1,5 +1,5 @@
 -- A conversation as it goes on, and as it is over before its Gone.
-use Rattle.std.specs.Prelude.{◌≡◌, ℕ, ◌+◌, ◌-◌, ◌^◌, List, ◌++◌, min, nat_le, if◌then◌else◌, Bool, true, false, IsTrue, Option, Some, None}
+use Rattle.std.specs.Prelude.{◌≡◌, ◌⊎◌, ℕ, ◌+◌, ◌-◌, ◌^◌, ◌<◌, List, ◌++◌, min, nat_le, if◌then◌else◌, Bool, true, false, IsTrue, Option, Some, None}
 use Rattle.nsq_outside.specs.Causes.{Rose}
 use Rattle.v2_frame.specs.declared.fault.Limits.{Limits}
 use Rattle.v2_frame.specs.declared.got.Stage.{Stage}
@@ -14,6 +14,7 @@ use Rattle.broker_history.specs.Talk as talk
 use Rattle.broker_history.specs.Talk.{Round, Sending, Going, Reaches, Writes, place_of}
 use Rattle.desk.specs.declared.turned.Turned.{Turned}
 use Rattle.desk.specs.declared.turned.Turned.TheVariants as turned
+use Rattle.v2_session.specs.Outputs.{Warns}
 use Rattle.v2_session.specs.declared.output.Delivered.{Delivered}
 use Rattle.v2_session.specs.declared.output.Delivered.TheVariants.{More, Rest, Over}
 
@@ -75,3 +76,8 @@ HasRoundCause (Some ended) at_end read_faults read_faults' write_faults write_fa
 abbrev pub EndsAfter : Ended → Turned → Ended → Type 0
 EndsAfter Closed turned.Memory last = last ≡ Memory
 EndsAfter ended gone last = last ≡ ended
+
+-- a connection that ended by want of memory was told so, unless memory was wanting for its Gone
+abbrev pub IsWarned : Ended → (written : List ℕ) → (write_faults write_faults' wanted : ℕ) → Type 0
+IsWarned Memory written write_faults write_faults' wanted = Warns (Some Memory) written write_faults write_faults' ⊎ (0 < wanted)
+IsWarned _ written write_faults write_faults' wanted = Unit {0}

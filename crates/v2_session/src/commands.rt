@@ -3,7 +3,7 @@ ghost use Rattle.v2_frame.specs.declared.fault.Limits.{Limits};
 ghost use Rattle.broker_history.specs.Entries.{own};
 ghost use Rattle.broker_history.specs.Talk.{Sending, Doing};
 ghost use Rattle.desk.specs.Calls.{AreAllowed, IsHere};
-ghost use Rattle.v2_session.specs.Outputs.{HasOutCause};
+ghost use Rattle.v2_session.specs.Outputs.{HasOutCause, Warns};
 ghost use Rattle.v2_session.specs.Sessions.{Told, InTalk, Goes};
 
 use crate::output::{answer, give_up};
@@ -32,6 +32,7 @@ pub(crate) fn commands<R: Wait, K: Conn, D: Desk>(
         → Goes limits (D.seen desk.new) (K.pieces conn.new) (own number (D.seen desk.new)) (K.written conn.new) reader.new (Sending 0) result }
     ensures here { IsTrue D.tells → IsHere (own number (D.seen desk.new)) }
     ensures limits { reader.new.limits ≡ reader.old.limits }
+    ensures warned { IsTrue K.tells_written → Warns result (K.written conn.new) (K.write_faults conn.old) (K.write_faults conn.new) }
     ensures cause { HasOutCause result (K.write_faults conn.old) (K.write_faults conn.new) }
     ensures write_faults { K.write_faults conn.old ≤ K.write_faults conn.new }
     ensures read_faults { K.read_faults conn.old ≤ K.read_faults conn.new }

@@ -4,6 +4,7 @@
 //! What a session read, the entries that its desk noted for it and what it wrote are a conversation that ended as it says.
 #![tactic(auto)]
 
+mod buffers;
 mod commands;
 mod output;
 mod round;

@@ -1,8 +1,8 @@
-ghost use Rattle.std.specs.Prelude.{◌≡◌, ◌^◌, ◌<◌, ◌≤◌, false, IsTrue, length};
+ghost use Rattle.std.specs.Prelude.{◌≡◌, ◌^◌, ◌<◌, ◌≤◌, Some, false, IsTrue, length};
 ghost use Rattle.nsq_outside.specs.Causes.{Rose};
 ghost use Rattle.broker_history.specs.declared.ended.Ended.TheVariants.{Memory};
 ghost use Rattle.desk.specs.Answers.{IsShortAnswer};
-ghost use Rattle.v2_session.specs.Outputs.{memory_bytes, ending_of, WritesFirst, WritesAll, WritesFrame, WritesAnswer, Delivers, HasOutCause};
+ghost use Rattle.v2_session.specs.Outputs.{memory_bytes, ending_of, WritesFirst, WritesAll, WritesFrame, WritesAnswer, Delivers, HasOutCause, Warns};
 
 use broker_history::Ended;
 use desk::Turned;
@@ -44,9 +44,10 @@ pub(crate) fn write_all<R: Wait, K: Conn>(rt: &R, conn: &mut K, bytes: &[u8]) ->
     true
 }
 
-/// Writes what is taken of the frame for want of memory, which takes no memory, and answers Memory.
+/// Writes the frame for want of memory, which takes no memory, whole unless a write fails, and answers Memory.
 pub(crate) fn give_up<R: Wait, K: Conn>(rt: &R, conn: &mut K) -> Ended
     ensures told { IsTrue K.tells_written → WritesFirst memory_bytes (K.written conn.old) (K.written conn.new) }
+    ensures warned { IsTrue K.tells_written → Warns (Some result) (K.written conn.new) (K.write_faults conn.old) (K.write_faults conn.new) }
     ensures memory { result ≡ Memory }
     ensures write_faults { K.write_faults conn.old ≤ K.write_faults conn.new }
     ensures read_faults { K.read_faults conn.old ≤ K.read_faults conn.new }
@@ -68,6 +69,7 @@ fn send<R: Wait, K: Conn>(
 ) -> Option<Ended>
     requires short { length frame.now.body < 2 ^ 31 }
     ensures told { IsTrue K.tells_written → WritesFrame frame.now (K.written conn.old) (K.written conn.new) result }
+    ensures warned { IsTrue K.tells_written → Warns result (K.written conn.new) (K.write_faults conn.old) (K.write_faults conn.new) }
     ensures cause { HasOutCause result (K.write_faults conn.old) (K.write_faults conn.new) }
     ensures write_faults { K.write_faults conn.old ≤ K.write_faults conn.new }
     ensures read_faults { K.read_faults conn.old ≤ K.read_faults conn.new }
@@ -95,6 +97,7 @@ pub(crate) fn answer<R: Wait, K: Conn>(
 ) -> Option<Ended>
     requires short { IsShortAnswer turned }
     ensures told { IsTrue K.tells_written → WritesAnswer turned (K.written conn.old) (K.written conn.new) result }
+    ensures warned { IsTrue K.tells_written → Warns result (K.written conn.new) (K.write_faults conn.old) (K.write_faults conn.new) }
     ensures cause { HasOutCause result (K.write_faults conn.old) (K.write_faults conn.new) }
     ensures write_faults { K.write_faults conn.old ≤ K.write_faults conn.new }
     ensures read_faults { K.read_faults conn.old ≤ K.read_faults conn.new }
@@ -122,6 +125,7 @@ pub(crate) fn deliver<R: Wait, K: Conn>(
 ) -> Delivered
     requires short { IsShortAnswer turned }
     ensures told { IsTrue K.tells_written → Delivers turned (K.written conn.old) (K.written conn.new) result }
+    ensures warned { IsTrue K.tells_written → Warns (ending_of result) (K.written conn.new) (K.write_faults conn.old) (K.write_faults conn.new) }
     ensures cause { HasOutCause (ending_of result) (K.write_faults conn.old) (K.write_faults conn.new) }
     ensures write_faults { K.write_faults conn.old ≤ K.write_faults conn.new }
     ensures read_faults { K.read_faults conn.old ≤ K.read_faults conn.new }

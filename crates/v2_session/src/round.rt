@@ -1,12 +1,13 @@
-ghost use Rattle.std.specs.Prelude.{◌≡◌, ◌≤◌, ◌++◌, IsTrue, length};
+ghost use Rattle.std.specs.Prelude.{◌≡◌, ◌≤◌, ◌++◌, IsTrue};
 ghost use Rattle.v2_frame.specs.Reading as reading;
 ghost use Rattle.v2_frame.specs.declared.fault.Limits.{Limits};
 ghost use Rattle.broker_history.specs.Entries.{own};
-ghost use Rattle.broker_history.specs.Talk.{Sending, Reading, bytes_of, longest_piece};
+ghost use Rattle.broker_history.specs.Talk.{Sending, Reading, bytes_of};
 ghost use Rattle.desk.specs.Calls.{AreAllowed, IsHere};
-ghost use Rattle.v2_session.specs.Outputs.{HasOutCause};
+ghost use Rattle.v2_session.specs.Outputs.{HasOutCause, Warns};
 ghost use Rattle.v2_session.specs.Sessions.{Told, InTalk, Goes, HasRoundCause};
 
+use crate::buffers::Buffers;
 use crate::commands::commands;
 use crate::output::{Delivered, deliver, give_up};
 use broker_history::Ended;
@@ -28,18 +29,16 @@ pub(crate) fn round<R: Wait, K: Conn, D: Desk>(
     conn: &mut K,
     desk: &mut D,
     reader: &mut Reader,
-    piece: &mut [u8],
-    out: &mut Vec<u8>,
+    buffers: &mut Buffers,
 ) -> Option<Ended>
     requires number { number ≡ D.number desk.old }
     requires here { IsTrue D.tells → IsHere (own number (D.seen desk.old)) }
     requires limits { AreAllowed reader.old.limits }
-    requires piece { length piece.old ≡ longest_piece }
     ensures talk { (limits : Limits) → Told K.tells_pieces K.tells_written D.tells → InTalk limits (K.pieces conn.old) (own number (D.seen desk.old)) (K.written conn.old) reader.old (Sending 0)
         → Goes limits (D.seen desk.new) (K.pieces conn.new) (own number (D.seen desk.new)) (K.written conn.new) reader.new (Sending 0) result }
     ensures here { IsTrue D.tells → IsHere (own number (D.seen desk.new)) }
     ensures limits { reader.new.limits ≡ reader.old.limits }
-    ensures piece { length piece.new ≡ longest_piece }
+    ensures warned { IsTrue K.tells_written → Warns result (K.written conn.new) (K.write_faults conn.old) (K.write_faults conn.new) }
     ensures cause { HasRoundCause result (K.ended conn.new) (K.read_faults conn.old) (K.read_faults conn.new) (K.write_faults conn.old) (K.write_faults conn.new) }
     ensures stream { IsTrue K.tells_pieces → bytes_of (K.pieces conn.new) ++ K.left conn.new ≡ bytes_of (K.pieces conn.old) ++ K.left conn.old }
     ensures read_faults { K.read_faults conn.old ≤ K.read_faults conn.new }
@@ -48,16 +47,16 @@ pub(crate) fn round<R: Wait, K: Conn, D: Desk>(
     ensures wanted { D.wanted desk.new ≡ D.wanted desk.old }
     ensures leads { D.leads desk.old desk.new }
 {
-    match pushes(rt, alloc, number, conn, desk, out) {
+    match pushes(rt, alloc, number, conn, desk, &mut buffers.out) {
         Some(ended) => return Some(ended),
         None => {}
     }
-    match get(rt, conn, piece) {
+    match get(rt, conn, &mut buffers.piece) {
         Read::Got(count) => {
-            if reader.feed(&piece[..count]).is_err() {
+            if reader.feed(&buffers.piece[..count]).is_err() {
                 return Some(give_up(rt, conn));
             }
-            commands(rt, alloc, number, conn, desk, reader, out)
+            commands(rt, alloc, number, conn, desk, reader, &mut buffers.out)
         }
         Read::Nothing => None,
         Read::End => Some(Ended::EndOfInput),
@@ -79,6 +78,7 @@ fn pushes<R: Wait, K: Conn, D: Desk>(
     ensures talk { (limits : Limits) (reader : reading.Reading) → Told K.tells_pieces K.tells_written D.tells → InTalk limits (K.pieces conn.old) (own number (D.seen desk.old)) (K.written conn.old) reader (Sending 0)
         → Goes limits (D.seen desk.new) (K.pieces conn.new) (own number (D.seen desk.new)) (K.written conn.new) reader Reading result }
     ensures here { IsTrue D.tells → IsHere (own number (D.seen desk.new)) }
+    ensures warned { IsTrue K.tells_written → Warns result (K.written conn.new) (K.write_faults conn.old) (K.write_faults conn.new) }
     ensures cause { HasOutCause result (K.write_faults conn.old) (K.write_faults conn.new) }
     ensures read_faults { K.read_faults conn.old ≤ K.read_faults conn.new }
     ensures write_faults { K.write_faults conn.old ≤ K.write_faults conn.new }

@@ -1,21 +1,19 @@
-ghost use Rattle.std.specs.Prelude.{◌≡◌, ◌<◌, ◌≤◌, ◌++◌, [], IsTrue, IfOk, length};
+ghost use Rattle.std.specs.Prelude.{◌≡◌, ◌<◌, ◌≤◌, ◌++◌, [], Some, IsTrue};
 ghost use Rattle.broker_history.specs.Entries.{has_stop, own};
-ghost use Rattle.broker_history.specs.Talk.{IsTalkIn, Sending, bytes_of, longest_piece};
+ghost use Rattle.broker_history.specs.Talk.{IsTalkIn, Sending, bytes_of};
 ghost use Rattle.desk.specs.Calls.{AreAllowed, IsHere};
-ghost use Rattle.v2_session.specs.Sessions.{Told, InTalk, IsOver, HasCause, EndsAfter, rises};
+ghost use Rattle.v2_session.specs.Outputs.{Warns};
+ghost use Rattle.v2_session.specs.Sessions.{Told, InTalk, IsOver, HasCause, EndsAfter, IsWarned, rises};
 
+use crate::buffers::{Buffers, new_buffers};
 use crate::output::give_up;
 use crate::round::round;
 use broker_history::Ended;
 use desk::{Call, Desk, Turned};
-use nsq_base::Memory;
 use nsq_outside::Conn;
 use std::alloc::Global;
 use std::sync::Wait;
 use v2_frame::{Limits, Reader};
-
-/// The most bytes that one read takes.
-const LONGEST_PIECE: usize = 16_384;
 
 /// Serves one V2 connection (nsq.io, TCP Protocol Spec) from its first byte to its end, and says how it ended.
 ///
@@ -31,8 +29,8 @@ const LONGEST_PIECE: usize = 16_384;
 /// stop of the daemon. At the end the desk notes that the connection is gone. That is missing only where memory was wanting
 /// for it; a connection that would have been closed ends by want of memory then.
 ///
-/// Want of memory, wherever it comes but for the going's, is answered by what can be written of the frame `E_MEMORY out of
-/// memory`.
+/// Want of memory, wherever it comes but for the going's, is answered by the frame `E_MEMORY out of memory`: it is the last that
+/// is written, whole unless a write fails.
 ///
 /// The number is the desk's, which noted nothing of its own before; the limits are such as options allow. Nothing is allocated
 /// for a command or a message but what they and their frames carry.
@@ -49,6 +47,7 @@ pub fn serve_v2<R: Wait, K: Conn, D: Desk>(
     requires limits { AreAllowed limits }
     ensures talk { IsTrue K.tells_pieces → IsTrue K.tells_written → IsTrue D.tells → K.pieces conn.old ≡ [] → K.written conn.old ≡ []
         → IsTalkIn limits number (D.seen desk.new) (rises (D.wanted desk.old) (D.wanted desk.new)) (K.pieces conn.new) (K.written conn.new) result }
+    ensures warned { IsTrue K.tells_written → IsWarned result (K.written conn.new) (K.write_faults conn.old) (K.write_faults conn.new) (rises (D.wanted desk.old) (D.wanted desk.new)) }
     ensures cause { HasCause result (K.ended conn.new) (K.read_faults conn.old) (K.read_faults conn.new) (K.write_faults conn.old) (K.write_faults conn.new) }
     ensures stream { IsTrue K.tells_pieces → bytes_of (K.pieces conn.new) ++ K.left conn.new ≡ bytes_of (K.pieces conn.old) ++ K.left conn.old }
     ensures read_faults { K.read_faults conn.old ≤ K.read_faults conn.new }
@@ -59,7 +58,7 @@ pub fn serve_v2<R: Wait, K: Conn, D: Desk>(
     let Ok(mut reader) = Reader::new(alloc, limits) else {
         return give_up(rt, conn);
     };
-    let Ok(mut piece) = new_piece(alloc) else {
+    let Ok(mut buffers) = new_buffers(alloc) else {
         return give_up(rt, conn);
     };
     let turned = desk.turn(rt, alloc, number, Call::Begin);
@@ -69,16 +68,9 @@ pub fn serve_v2<R: Wait, K: Conn, D: Desk>(
     let Turned::Begun = turned else {
         return Ended::Closed;
     };
-    let ended = rounds(rt, alloc, number, conn, desk, &mut reader, &mut piece);
+    let ended = rounds(rt, alloc, number, conn, desk, &mut reader, &mut buffers);
     let gone = desk.turn(rt, alloc, number, Call::Gone);
     ended_after(ended, &gone)
-}
-
-/// A buffer for a piece.
-fn new_piece(alloc: Global) -> Result<Vec<u8>, Memory>
-    ensures { IfOk result (λ piece. length piece.items ≡ longest_piece) }
-{
-    Ok(vec![in alloc; 0u8; LONGEST_PIECE]?)
 }
 
 /// Makes rounds to the end.
@@ -89,14 +81,14 @@ fn rounds<R: Wait, K: Conn, D: Desk>(
     conn: &mut K,
     desk: &mut D,
     reader: &mut Reader,
-    piece: &mut [u8],
+    buffers: &mut Buffers,
 ) -> Ended
     requires number { number ≡ D.number desk.old }
     requires here { IsTrue D.tells → IsHere (own number (D.seen desk.old)) }
     requires limits { AreAllowed reader.old.limits }
-    requires piece { length piece.old ≡ longest_piece }
     ensures talk { (limits : Limits) → Told K.tells_pieces K.tells_written D.tells → InTalk limits (K.pieces conn.old) (own number (D.seen desk.old)) (K.written conn.old) reader.old (Sending 0)
         → IsOver limits (has_stop (D.seen desk.new)) (K.pieces conn.new) (own number (D.seen desk.new)) (K.written conn.new) result }
+    ensures warned { IsTrue K.tells_written → Warns (Some result) (K.written conn.new) (K.write_faults conn.old) (K.write_faults conn.new) }
     ensures here { IsTrue D.tells → IsHere (own number (D.seen desk.new)) }
     ensures cause { HasCause result (K.ended conn.new) (K.read_faults conn.old) (K.read_faults conn.new) (K.write_faults conn.old) (K.write_faults conn.new) }
     ensures stream { IsTrue K.tells_pieces → bytes_of (K.pieces conn.new) ++ K.left conn.new ≡ bytes_of (K.pieces conn.old) ++ K.left conn.old }
@@ -106,9 +98,8 @@ fn rounds<R: Wait, K: Conn, D: Desk>(
     ensures wanted { D.wanted desk.new ≡ D.wanted desk.old }
     ensures leads { D.leads desk.old desk.new }
 {
-    let mut out = Vec::new(alloc);
     'rounds: for _ in rt.forever() {
-        match round(rt, alloc, number, conn, desk, reader, piece, &mut out) {
+        match round(rt, alloc, number, conn, desk, reader, buffers) {
             Some(ended) => return ended,
             None => {}
         }

@@ -4,6 +4,7 @@ use Rattle.v2_frame.specs.declared.got.Got.TheVariants as got
 use Rattle.broker_history.specs.Entries.{has_stop}
 use Rattle.v2_session.proofs.Talking.{moved, starts_talk, done_talk}
 use Rattle.v2_session.proofs.Turning.{command_here, bad_here, command_went, bad_over, over_same, memory_over}
+use Rattle.v2_session.proofs.Warning.{warned_since, warned_or_closed}
 use Rattle.v2_session.proofs.commands.commands.Goals as goal
 
 pub returns-in-Some-clause-talk : goal.returns-in-Some-clause-talk
@@ -64,3 +65,13 @@ pub returns-in-Memory-clause-talk : goal.returns-in-Memory-clause-talk
 returns-in-Memory-clause-talk g c = λ limits told i.
     let up = c.give_up.ensures in
     memory_over limits (has_stop (g.D.Desk.seen c.commands.desk)) c.give_up.result (c.commands.invariant.talk limits told i) up.pieces (up.told told.1) up.memory
+
+pub returns-in-Some-clause-warned : goal.returns-in-Some-clause-warned
+returns-in-Some-clause-warned g c = λ written. warned_since (Some c.in-Some.ended) _ _ _ _ c.commands.invariant.write_faults (c.in-Some.ensures.warned written)
+
+pub returns-in-Fault-clause-warned : goal.returns-in-Fault-clause-warned
+returns-in-Fault-clause-warned g c = λ written.
+    warned_since (Some c.unwrap_or.result) _ _ _ _ c.commands.invariant.write_faults (warned_or_closed c.answer-ended.result c.unwrap_or.result _ _ _ c.unwrap_or.ensures (c.answer-ended.ensures.warned written))
+
+pub returns-in-Memory-clause-warned : goal.returns-in-Memory-clause-warned
+returns-in-Memory-clause-warned g c = λ written. warned_since (Some c.give_up.result) _ _ _ _ c.commands.invariant.write_faults (c.give_up.ensures.warned written)

@@ -1,8 +1,9 @@
-use Rattle.std.proofs.Common.{◌∙◌, refl, arith}
+use Rattle.std.proofs.Common.{◌∙◌, refl, arith, Some}
 use Rattle.broker_history.specs.Entries.{has_stop}
 use Rattle.v2_session.specs.declared.output.Delivered.TheVariants.{More, Rest, Over}
 use Rattle.v2_session.proofs.Talking.{moved, spent_talk}
 use Rattle.v2_session.proofs.Turning.{next_here, next_went, over_same}
+use Rattle.v2_session.proofs.Warning.{warned_since}
 use Rattle.v2_session.proofs.round.pushes.Goals as goal
 
 pub pushes-preserved : goal.pushes-preserved
@@ -48,3 +49,6 @@ returns-in-Over-clause-here g c = λ tells. next_here c.args.number _ _ c.turn-t
 
 pub returns-clause-talk : goal.returns-clause-talk
 returns-clause-talk g c = λ limits reader told i. spent_talk limits c.pushes.sent (c.pushes.invariant.talk limits reader told i) (omega (arith, c.pushes.invariant.sent, c.pushes-test.false))
+
+pub returns-in-Over-clause-warned : goal.returns-in-Over-clause-warned
+returns-in-Over-clause-warned g c = λ written. warned_since (Some c.in-Over.ended) _ _ _ _ c.pushes.invariant.write_faults (c.in-Over.ensures.warned written)

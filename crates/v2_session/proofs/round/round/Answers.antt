@@ -1,15 +1,16 @@
-use Rattle.std.proofs.Common.{◌≤◌, ◌<◌, ◌∙◌, refl, sym, take, length, length-take, arith}
+use Rattle.std.proofs.Common.{◌≤◌, ◌<◌, ◌∙◌, refl, sym, take, length, length-take, arith, Some}
 use Rattle.broker_history.specs.Entries.{has_stop}
 use Rattle.v2_session.proofs.Talking.{moved, fed_talk, nothing_talk, talk_waits}
-use Rattle.v2_session.proofs.Turning.{memory_over, fed_ok, fed_same, read_stream, same_stream}
+use Rattle.v2_session.proofs.Turning.{memory_over, fed_front, fed_same, read_stream, same_stream}
+use Rattle.v2_session.proofs.Warning.{warned_since}
 use Rattle.v2_session.proofs.round.round.Goals as goal
 
 pub returns-then-is_err-clause-talk : goal.returns-then-is_err-clause-talk
 returns-then-is_err-clause-talk g c = λ limits told i.
     let into = c.get.new.into in
     let piece = take c.in-Got.count into in
-    let some : 0 < length piece = omega (arith, length-take c.in-Got.count into, c.in-Got.ensures.amount, c.requires.piece, c.get.auto.into) in
-    let few : length piece ≤ 16384 = omega (arith, length-take c.in-Got.count into, c.in-Got.ensures.amount, c.requires.piece, c.get.auto.into) in
+    let some : 0 < length piece = omega (arith, length-take c.in-Got.count into, c.in-Got.ensures.amount, c.args.buffers.now.whole, c.get.auto.into) in
+    let few : length piece ≤ 16384 = omega (arith, length-take c.in-Got.count into, c.in-Got.ensures.amount, c.args.buffers.now.whole, c.get.auto.into) in
     let up = c.give_up.ensures in
     let reads = c.in-None.ensures.talk limits c.args.reader.now told i in
     let now = moved limits (c.in-Got.ensures.told told.0).0 refl c.get.ensures.written refl (fed_talk limits _ _ _ c.args.reader.now piece reads some few) in
@@ -24,9 +25,9 @@ pub returns-else-is_err-clause-talk : goal.returns-else-is_err-clause-talk
 returns-else-is_err-clause-talk g c = λ limits told i.
     let into = c.get.new.into in
     let piece = take c.in-Got.count into in
-    let some : 0 < length piece = omega (arith, length-take c.in-Got.count into, c.in-Got.ensures.amount, c.requires.piece, c.get.auto.into) in
-    let few : length piece ≤ 16384 = omega (arith, length-take c.in-Got.count into, c.in-Got.ensures.amount, c.requires.piece, c.get.auto.into) in
-    let fed = fed_ok c.args.reader.now piece c.feed.result c.feed.new.self c.feed.ensures (sym c.is_err.ensures.value ∙ c.if-is_err.false) in
+    let some : 0 < length piece = omega (arith, length-take c.in-Got.count into, c.in-Got.ensures.amount, c.args.buffers.now.whole, c.get.auto.into) in
+    let few : length piece ≤ 16384 = omega (arith, length-take c.in-Got.count into, c.in-Got.ensures.amount, c.args.buffers.now.whole, c.get.auto.into) in
+    let fed = fed_front c.args.reader.now c.args.buffers.now.piece.len _ into _ c.in-Got.count c.feed.result c.feed.new.self c.deref.ensures.value (omega (arith, c.get.auto.into, c.deref_mut.ensures.len)) c.feed.ensures (sym c.is_err.ensures.value ∙ c.if-is_err.false) in
     let reads = c.in-None.ensures.talk limits c.args.reader.now told i in
     c.commands.ensures.talk limits told (moved limits (c.in-Got.ensures.told told.0).0 refl c.get.ensures.written fed (fed_talk limits _ _ _ c.args.reader.now piece reads some few))
 
@@ -37,7 +38,9 @@ returns-else-is_err-clause-stream g c = λ told.
 
 pub returns-else-is_err-clause-limits : goal.returns-else-is_err-clause-limits
 returns-else-is_err-clause-limits g c =
-    c.commands.ensures.limits ∙ fed_same c.args.reader.now c.feed.new.self (take c.in-Got.count c.get.new.into) (fed_ok c.args.reader.now (take c.in-Got.count c.get.new.into) c.feed.result c.feed.new.self c.feed.ensures (sym c.is_err.ensures.value ∙ c.if-is_err.false))
+    let into = c.get.new.into in
+    let fed = fed_front c.args.reader.now c.args.buffers.now.piece.len _ into _ c.in-Got.count c.feed.result c.feed.new.self c.deref.ensures.value (omega (arith, c.get.auto.into, c.deref_mut.ensures.len)) c.feed.ensures (sym c.is_err.ensures.value ∙ c.if-is_err.false) in
+    c.commands.ensures.limits ∙ fed_same c.args.reader.now c.feed.new.self (take c.in-Got.count into) fed
 
 pub returns-in-Nothing-clause-talk : goal.returns-in-Nothing-clause-talk
 returns-in-Nothing-clause-talk g c = λ limits told i.
@@ -70,3 +73,9 @@ returns-in-Failed-clause-stream g c = λ told.
 
 pub returns-in-Some-clause-talk : goal.returns-in-Some-clause-talk
 returns-in-Some-clause-talk g c = λ limits told i. c.in-Some.ensures.talk limits c.args.reader.now told i
+
+pub returns-then-is_err-clause-warned : goal.returns-then-is_err-clause-warned
+returns-then-is_err-clause-warned g c = λ written. warned_since (Some c.give_up.result) _ _ _ _ (omega (arith, c.pushes.ensures.write_faults, c.get.ensures.write_faults)) (c.give_up.ensures.warned written)
+
+pub returns-else-is_err-clause-warned : goal.returns-else-is_err-clause-warned
+returns-else-is_err-clause-warned g c = λ written. warned_since c.commands.result _ _ _ _ (omega (arith, c.pushes.ensures.write_faults, c.get.ensures.write_faults)) (c.commands.ensures.warned written)

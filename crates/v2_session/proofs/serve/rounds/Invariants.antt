@@ -1,7 +1,7 @@
-use Rattle.std.proofs.Common.{◌≡◌, ◌≤◌, ◌++◌, IsTrue, length}
+use Rattle.std.proofs.Common.{◌≡◌, ◌≤◌, ◌++◌, IsTrue}
 use Rattle.v2_frame.specs.declared.fault.Limits.{Limits}
 use Rattle.broker_history.specs.Entries.{own}
-use Rattle.broker_history.specs.Talk.{Sending, bytes_of, longest_piece}
+use Rattle.broker_history.specs.Talk.{Sending, bytes_of}
 use Rattle.desk.specs.Calls.{IsHere}
 use Rattle.v2_session.specs.Sessions.{Told, InTalk}
 use Rattle.v2_session.proofs.serve.rounds.Given as goal
@@ -14,7 +14,6 @@ invariant-rounds g l = record {
       → InTalk limits (g.K.Source.pieces l.conn) (own l.number (g.D.Desk.seen l.desk)) (g.K.Sink.written l.conn) l.reader (Sending 0);
   here : IsTrue g.D.Desk.tells → IsHere (own l.number (g.D.Desk.seen l.desk));
   limits : l.reader.limits ≡ l.initial.reader.limits;
-  piece : length l.piece ≡ longest_piece;
   stream : IsTrue g.K.Source.tells_pieces → bytes_of (g.K.Source.pieces l.conn) ++ g.K.Source.left l.conn ≡ bytes_of (g.K.Source.pieces l.initial.conn) ++ g.K.Source.left l.initial.conn;
   write_faults : g.K.Sink.write_faults l.initial.conn ≤ g.K.Sink.write_faults l.conn;
   read_faults : g.K.Source.read_faults l.initial.conn ≤ g.K.Source.read_faults l.conn;

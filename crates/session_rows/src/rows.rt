@@ -1,0 +1,581 @@
+//! Connections from their first byte to their end: how each ends, what is written, and the order of turns, reads and writes.
+use crate::served::{Runs, Setting, Wanted, frames, goes, plain, spread, spread_all};
+use nsq_base::Memory;
+use std::alloc::Global;
+use std::sync::Wait;
+use std::test::Fail;
+use v2_session::Ended;
+
+#[derive(Drop)]
+struct Row {
+    name: &'static str,
+    /// What the client sends, in pieces; an empty one is a read that gives nothing.
+    pieces: &'static [Runs],
+    /// The numbers of the reads and of the writes that fail.
+    reads: &'static [u64],
+    writes: &'static [u64],
+    /// The letters of all answers.
+    script: Runs,
+    ended: Ended,
+    /// The letters of the frames that are written.
+    written: Runs,
+    /// The letters of all turns, reads and writes.
+    trace: Runs,
+    /// How often memory was wanting for the Gone.
+    wanted: u64,
+}
+
+const PUBLISH: &[u8] = b"  V2PUB t\n\0\0\0\x02hi";
+
+/// A client that sends nothing, and gets nothing.
+const QUIET: Row = Row {
+    name: "a connection that ends at once",
+    pieces: &[],
+    reads: &[],
+    writes: &[],
+    script: &[(b"big", 1)],
+    ended: Ended::EndOfInput,
+    written: &[],
+    trace: &[(b"bnrg", 1)],
+    wanted: 0,
+};
+
+/// A client that sends a command in one piece.
+const COMMAND: Row = Row {
+    name: "a command is answered",
+    pieces: &[&[(PUBLISH, 1)]],
+    script: &[(b"bioig", 1)],
+    written: &[(b"o", 1)],
+    trace: &[(b"bnrcwnrg", 1)],
+    ..QUIET
+};
+
+/// How a connection ends.
+static ENDINGS: [Row; 11] = [
+    QUIET,
+    COMMAND,
+    Row {
+        name: "the first read fails",
+        reads: &[0],
+        ended: Ended::ReadFault,
+        ..QUIET
+    },
+    Row {
+        name: "the read behind a command fails",
+        reads: &[1],
+        ended: Ended::ReadFault,
+        ..COMMAND
+    },
+    Row {
+        name: "a reply isn't written",
+        writes: &[0],
+        script: &[(b"biog", 1)],
+        ended: Ended::WriteFault,
+        written: &[],
+        trace: &[(b"bnrcwg", 1)],
+        ..COMMAND
+    },
+    Row {
+        name: "a second message isn't written",
+        writes: &[1],
+        script: &[(b"bmmg", 1)],
+        ended: Ended::WriteFault,
+        written: &[(b"m", 1)],
+        trace: &[(b"bnwnwg", 1)],
+        ..QUIET
+    },
+    Row {
+        name: "a heartbeat isn't written",
+        writes: &[0],
+        script: &[(b"bhg", 1)],
+        ended: Ended::WriteFault,
+        trace: &[(b"bnwg", 1)],
+        ..QUIET
+    },
+    Row {
+        name: "a client that is silent",
+        script: &[(b"blg", 1)],
+        ended: Ended::Closed,
+        trace: &[(b"bng", 1)],
+        ..QUIET
+    },
+    Row {
+        name: "a channel that is deleted",
+        script: &[(b"bdg", 1)],
+        ended: Ended::Closed,
+        trace: &[(b"bng", 1)],
+        ..QUIET
+    },
+    Row {
+        name: "a channel that is deleted behind a message",
+        script: &[(b"bmdg", 1)],
+        ended: Ended::Closed,
+        written: &[(b"m", 1)],
+        trace: &[(b"bnwng", 1)],
+        ..QUIET
+    },
+    Row {
+        name: "a daemon that stops before a send",
+        script: &[(b"bsg", 1)],
+        ended: Ended::Closed,
+        trace: &[(b"bng", 1)],
+        ..QUIET
+    },
+];
+
+/// What comes between commands, faults and goings.
+static CLOSINGS: [Row; 13] = [
+    Row {
+        name: "a channel that is deleted before a command",
+        script: &[(b"bidg", 1)],
+        ended: Ended::Closed,
+        written: &[],
+        trace: &[(b"bnrcg", 1)],
+        ..COMMAND
+    },
+    Row {
+        name: "a daemon that stops before a command",
+        script: &[(b"bisg", 1)],
+        ended: Ended::Closed,
+        written: &[],
+        trace: &[(b"bnrcg", 1)],
+        ..COMMAND
+    },
+    Row {
+        name: "a reply that closes is the last",
+        pieces: &[&[(b"  V2NOP\nNOP\n", 1)]],
+        script: &[(b"bieg", 1)],
+        ended: Ended::Closed,
+        written: &[(b"e", 1)],
+        trace: &[(b"bnrcwg", 1)],
+        ..COMMAND
+    },
+    Row {
+        name: "an error that leaves the connection open",
+        pieces: &[&[(b"  V2NOP\nNOP\n", 1)]],
+        script: &[(b"bifqig", 1)],
+        written: &[(b"f", 1)],
+        trace: &[(b"bnrcwcnrg", 1)],
+        ..COMMAND
+    },
+    Row {
+        name: "a bad magic is refused",
+        pieces: &[&[(b"  V1NOP\n", 1)]],
+        script: &[(b"bieg", 1)],
+        ended: Ended::Closed,
+        written: &[(b"e", 1)],
+        trace: &[(b"bnrfwg", 1)],
+        ..COMMAND
+    },
+    Row {
+        name: "a bad word behind a command is refused",
+        pieces: &[&[(b"  V2NOP\nNAP\nNOP\n", 1)]],
+        script: &[(b"biqeg", 1)],
+        ended: Ended::Closed,
+        written: &[(b"e", 1)],
+        trace: &[(b"bnrcfwg", 1)],
+        ..COMMAND
+    },
+    Row {
+        name: "too great a size is refused before its body comes",
+        pieces: &[&[(b"  V2PUB t\n\0\0\0\x06", 1)]],
+        script: &[(b"bieg", 1)],
+        ended: Ended::Closed,
+        written: &[(b"e", 1)],
+        trace: &[(b"bnrfwg", 1)],
+        ..COMMAND
+    },
+    Row {
+        name: "a daemon that stops before a refusal",
+        pieces: &[&[(b"  V1NOP\n", 1)]],
+        script: &[(b"bisg", 1)],
+        ended: Ended::Closed,
+        written: &[],
+        trace: &[(b"bnrfg", 1)],
+        ..COMMAND
+    },
+    Row {
+        name: "a cut body gets no answer",
+        pieces: &[&[(b"  V2PUB t\n\0\0\0\x02h", 1)]],
+        script: &[(b"biig", 1)],
+        written: &[],
+        trace: &[(b"bnrnrg", 1)],
+        ..COMMAND
+    },
+    Row {
+        name: "a client that is there already",
+        script: &[(b"x", 1)],
+        ended: Ended::Closed,
+        trace: &[(b"b", 1)],
+        ..QUIET
+    },
+    Row {
+        name: "a client that isn't there before a send",
+        script: &[(b"bxg", 1)],
+        ended: Ended::Closed,
+        trace: &[(b"bng", 1)],
+        ..QUIET
+    },
+    Row {
+        name: "a client that isn't there before a command",
+        script: &[(b"bixg", 1)],
+        ended: Ended::Closed,
+        written: &[],
+        trace: &[(b"bnrcg", 1)],
+        ..COMMAND
+    },
+    Row {
+        name: "a client that isn't there as it goes",
+        script: &[(b"bix", 1)],
+        ..QUIET
+    },
+];
+
+/// Where memory is wanting.
+static WANTS: [Row; 10] = [
+    Row {
+        name: "no memory as the connection begins",
+        script: &[],
+        ended: Ended::Memory,
+        written: &[(b"-", 1)],
+        trace: &[(b"bw", 1)],
+        ..QUIET
+    },
+    Row {
+        name: "no memory before a send",
+        script: &[(b"b-g", 1)],
+        ended: Ended::Memory,
+        written: &[(b"-", 1)],
+        trace: &[(b"bnwg", 1)],
+        ..QUIET
+    },
+    Row {
+        name: "no memory for a command",
+        script: &[(b"bi-g", 1)],
+        ended: Ended::Memory,
+        written: &[(b"-", 1)],
+        trace: &[(b"bnrcwg", 1)],
+        ..COMMAND
+    },
+    Row {
+        name: "no memory for a refusal",
+        pieces: &[&[(b"  V1NOP\n", 1)]],
+        script: &[(b"bi-g", 1)],
+        ended: Ended::Memory,
+        written: &[(b"-", 1)],
+        trace: &[(b"bnrfwg", 1)],
+        ..COMMAND
+    },
+    Row {
+        name: "no memory as a connection goes that ended",
+        script: &[(b"bi", 1)],
+        wanted: 1,
+        ..QUIET
+    },
+    Row {
+        name: "no memory as a closed connection goes",
+        script: &[(b"bl", 1)],
+        ended: Ended::Memory,
+        trace: &[(b"bng", 1)],
+        wanted: 1,
+        ..QUIET
+    },
+    Row {
+        name: "no memory as a connection goes after a reply that closes",
+        script: &[(b"bie", 1)],
+        ended: Ended::Memory,
+        written: &[(b"e", 1)],
+        trace: &[(b"bnrcwg", 1)],
+        wanted: 1,
+        ..COMMAND
+    },
+    Row {
+        name: "no memory as a connection goes whose read failed",
+        reads: &[0],
+        script: &[(b"bi", 1)],
+        ended: Ended::ReadFault,
+        wanted: 1,
+        ..QUIET
+    },
+    Row {
+        name: "no memory as a connection goes whose write failed",
+        writes: &[0],
+        script: &[(b"bio", 1)],
+        ended: Ended::WriteFault,
+        written: &[],
+        trace: &[(b"bnrcwg", 1)],
+        wanted: 1,
+        ..COMMAND
+    },
+    Row {
+        name: "no memory before a send, and none as it goes",
+        script: &[(b"b-", 1)],
+        ended: Ended::Memory,
+        written: &[(b"-", 1)],
+        trace: &[(b"bnwg", 1)],
+        wanted: 1,
+        ..QUIET
+    },
+];
+
+/// Rounds of pushes and pieces.
+static ROUNDS: [Row; 10] = [
+    Row {
+        name: "64 messages are a round",
+        pieces: &[&[(b"  V2NOP\n", 1)]],
+        script: &[(b"b", 1), (b"m", 64), (b"qig", 1)],
+        written: &[(b"m", 64)],
+        trace: &[(b"b", 1), (b"nw", 64), (b"rcnrg", 1)],
+        ..QUIET
+    },
+    Row {
+        name: "the 65th message waits for a read",
+        pieces: &[&[(b"  V2NOP\n", 1)]],
+        script: &[(b"b", 1), (b"m", 64), (b"qmig", 1)],
+        written: &[(b"m", 65)],
+        trace: &[(b"b", 1), (b"nw", 64), (b"rcnwnrg", 1)],
+        ..QUIET
+    },
+    Row {
+        name: "200 messages are four rounds",
+        pieces: &[&[(b"  V2NOP\n", 1)], &[(b"NOP\n", 1)], &[(b"NOP\n", 1)]],
+        script: &[
+            (b"b", 1),
+            (b"m", 64),
+            (b"q", 1),
+            (b"m", 64),
+            (b"q", 1),
+            (b"m", 64),
+            (b"q", 1),
+            (b"m", 8),
+            (b"ig", 1),
+        ],
+        written: &[(b"m", 200)],
+        trace: &[
+            (b"b", 1),
+            (b"nw", 64),
+            (b"rc", 1),
+            (b"nw", 64),
+            (b"rc", 1),
+            (b"nw", 64),
+            (b"rc", 1),
+            (b"nw", 8),
+            (b"nrg", 1),
+        ],
+        ..QUIET
+    },
+    Row {
+        name: "64 heartbeats are a round",
+        pieces: &[&[(b"  V2NOP\n", 1)]],
+        script: &[(b"b", 1), (b"h", 64), (b"qig", 1)],
+        written: &[(b"h", 64)],
+        trace: &[(b"b", 1), (b"nw", 64), (b"rcnrg", 1)],
+        ..QUIET
+    },
+    Row {
+        name: "a full round, a read that gives nothing, and a full round",
+        pieces: &[&[]],
+        script: &[(b"b", 1), (b"m", 128), (b"g", 1)],
+        written: &[(b"m", 128)],
+        trace: &[(b"b", 1), (b"nw", 64), (b"r", 1), (b"nw", 64), (b"rg", 1)],
+        ..QUIET
+    },
+    Row {
+        name: "a heartbeat before a message",
+        script: &[(b"bhmig", 1)],
+        written: &[(b"hm", 1)],
+        trace: &[(b"bnwnwnrg", 1)],
+        ..QUIET
+    },
+    Row {
+        name: "reads that give nothing",
+        pieces: &[&[], &[]],
+        script: &[(b"biiig", 1)],
+        trace: &[(b"bnrnrnrg", 1)],
+        ..QUIET
+    },
+    Row {
+        name: "a command over two pieces, with a message between",
+        pieces: &[&[(b"  V2PUB t\n\0\0", 1)], &[(b"\0\x02hi", 1)]],
+        script: &[(b"bimioig", 1)],
+        written: &[(b"mo", 1)],
+        trace: &[(b"bnrnwnrcwnrg", 1)],
+        ..QUIET
+    },
+    Row {
+        name: "two commands, with a message between their pieces",
+        pieces: &[&[(PUBLISH, 1)], &[(b"PUB t\n\0\0\0\x02ho", 1)]],
+        script: &[(b"biomioig", 1)],
+        written: &[(b"omo", 1)],
+        trace: &[(b"bnrcwnwnrcwnrg", 1)],
+        ..QUIET
+    },
+    Row {
+        name: "a command of single bytes",
+        pieces: &[
+            &[(b" ", 1)],
+            &[(b" ", 1)],
+            &[(b"V", 1)],
+            &[(b"2", 1)],
+            &[(b"N", 1)],
+            &[(b"O", 1)],
+            &[(b"P", 1)],
+            &[(b"\n", 1)],
+        ],
+        script: &[(b"biiiiiiiiqig", 1)],
+        trace: &[(b"b", 1), (b"nr", 8), (b"cnrg", 1)],
+        ..QUIET
+    },
+];
+
+/// Pieces that complete many commands.
+static PIECES: [Row; 8] = [
+    Row {
+        name: "one piece completes 24 commands",
+        pieces: &[&[(b"  V2", 1), (b"NOP\n", 24)]],
+        script: &[(b"bi", 1), (b"q", 24), (b"ig", 1)],
+        trace: &[(b"bnr", 1), (b"c", 24), (b"nrg", 1)],
+        ..QUIET
+    },
+    Row {
+        name: "one piece completes 1,000 commands, and nothing is written",
+        pieces: &[&[(b"  V2", 1), (b"NOP\n", 1000)]],
+        script: &[(b"bi", 1), (b"q", 1000), (b"ig", 1)],
+        trace: &[(b"bnr", 1), (b"c", 1000), (b"nrg", 1)],
+        ..QUIET
+    },
+    Row {
+        name: "one piece completes 1,000 commands, and each reply is written before the next",
+        pieces: &[&[(b"  V2", 1), (b"PUB t\n\0\0\0\x01a", 1000)]],
+        script: &[(b"bi", 1), (b"o", 1000), (b"ig", 1)],
+        written: &[(b"o", 1000)],
+        trace: &[(b"bnr", 1), (b"cw", 1000), (b"nrg", 1)],
+        ..QUIET
+    },
+    Row {
+        name: "a batch of FINs takes one read and no write",
+        pieces: &[&[(b"  V2", 1)], &[(b"FIN 0000010000000000\n", 780)]],
+        script: &[(b"bii", 1), (b"q", 780), (b"ig", 1)],
+        trace: &[(b"bnrnr", 1), (b"c", 780), (b"nrg", 1)],
+        ..QUIET
+    },
+    Row {
+        name: "of 1,000 commands the 500th closes",
+        pieces: &[&[(b"  V2", 1), (b"NOP\n", 1000)]],
+        script: &[(b"bi", 1), (b"q", 499), (b"eg", 1)],
+        ended: Ended::Closed,
+        written: &[(b"e", 1)],
+        trace: &[(b"bnr", 1), (b"c", 499), (b"cwg", 1)],
+        ..QUIET
+    },
+    Row {
+        name: "of 1,000 commands the 1,000th finds no memory",
+        pieces: &[&[(b"  V2", 1), (b"NOP\n", 1000)]],
+        script: &[(b"bi", 1), (b"q", 999), (b"-g", 1)],
+        ended: Ended::Memory,
+        written: &[(b"-", 1)],
+        trace: &[(b"bnr", 1), (b"c", 999), (b"cwg", 1)],
+        ..QUIET
+    },
+    Row {
+        name: "more than one read takes",
+        pieces: &[&[(b"  V2", 1), (b"NOP\n", 4200)]],
+        script: &[(b"bi", 1), (b"q", 4095), (b"i", 1), (b"q", 105), (b"ig", 1)],
+        trace: &[
+            (b"bnr", 1),
+            (b"c", 4095),
+            (b"nr", 1),
+            (b"c", 105),
+            (b"nrg", 1),
+        ],
+        ..QUIET
+    },
+    Row {
+        name: "more than one read takes, which ends inside a command",
+        pieces: &[&[(b"  V2", 1), (b"TOUCH 0000010000000000\n", 800)]],
+        script: &[(b"bi", 1), (b"q", 712), (b"mi", 1), (b"q", 88), (b"ig", 1)],
+        written: &[(b"m", 1)],
+        trace: &[
+            (b"bnr", 1),
+            (b"c", 712),
+            (b"nwnr", 1),
+            (b"c", 88),
+            (b"nrg", 1),
+        ],
+        ..QUIET
+    },
+];
+
+/// Whether a connection goes so.
+fn holds<R: Wait>(rt: &R, alloc: Global, row: &Row) -> Result<bool, Memory> {
+    let setting = Setting {
+        pieces: spread_all(alloc, row.pieces)?,
+        script: spread(alloc, row.script)?,
+        reads: row.reads.to_vec(alloc)?,
+        writes: row.writes.to_vec(alloc)?,
+        takes: usize::MAX,
+        stops: usize::MAX,
+    };
+    let wanted = Wanted {
+        ended: row.ended,
+        wanted: row.wanted,
+        written: frames(alloc, &spread(alloc, row.written)?)?,
+        trace: spread(alloc, row.trace)?,
+    };
+    goes(rt, alloc, setting, &wanted)
+}
+
+/// Whether a heartbeat in this place of a full round goes out there, as one of its 64.
+fn beats<R: Wait>(rt: &R, alloc: Global, place: usize) -> Result<bool, Memory> {
+    let mut sent = Vec::new(alloc);
+    for at in 0..64 {
+        sent.push(if at == place { b'h' } else { b'm' })?;
+    }
+    let mut script = b"b".to_vec(alloc)?;
+    script.extend_from_slice(&sent)?;
+    script.extend_from_slice(b"qig")?;
+    let pieces = spread_all(alloc, &[&[(b"  V2NOP\n", 1)]])?;
+    let wanted = Wanted {
+        ended: Ended::EndOfInput,
+        wanted: 0,
+        written: frames(alloc, &sent)?,
+        trace: spread(alloc, &[(b"b", 1), (b"nw", 64), (b"rcnrg", 1)])?,
+    };
+    goes(rt, alloc, plain(alloc, pieces, script), &wanted)
+}
+
+/// The name of the first row that doesn't go so.
+fn wrong<R: Wait>(rt: &R, alloc: Global, table: &[Row]) -> Result<Option<&'static str>, Memory> {
+    for row in table {
+        if !holds(rt, alloc, row)? {
+            return Ok(Some(row.name));
+        }
+    }
+    Ok(None)
+}
+
+/// The first place of a full round in which a heartbeat doesn't go out so.
+fn wrong_beat<R: Wait>(rt: &R, alloc: Global) -> Result<Option<usize>, Memory> {
+    for place in 0..64 {
+        if !beats(rt, alloc, place)? {
+            return Ok(Some(place));
+        }
+    }
+    Ok(None)
+}
+
+#[test]
+fn rows(rt: HostRuntime) -> Result<(), Fail> {
+    let tables: [&'static [Row]; 5] = [&ENDINGS, &CLOSINGS, &WANTS, &ROUNDS, &PIECES];
+    for table in tables {
+        let wrong = wrong(&rt, rt.alloc(), table)?;
+        assert!(rt; wrong.is_none(), "{:?}", wrong);
+    }
+    let place = wrong_beat(&rt, rt.alloc())?;
+    assert!(rt;
+        place.is_none(),
+        "a heartbeat in place {:?} of a round",
+        place
+    );
+    Ok(())
+}

@@ -36,7 +36,7 @@ impl<E: Drop> MemJournal<E> {
     }
 }
 
-impl<E: Drop + Twin + Send> Journal<E> for MemJournal<E> {
+impl<E: Drop + Twin> Journal<E> for MemJournal<E> {
     ghost use Rattle.nsq_fakes.specs.MemJournals.{notes_of, kept_of};
 
     ghost tells_notes = { true };

@@ -1,7 +1,7 @@
 ghost use Rattle.std.specs.Prelude.{◌≡◌, ◌+◌, ℕ, Bool, IsTrue};
 
-/// A clock, which may move between threads.
-pub trait Clock: Send {
+/// A clock.
+pub trait Clock {
     /// Whether values of this type tell their readings.
     ghost tells_readings: { Bool };
 

@@ -36,8 +36,8 @@ pub enum ReadAt {
     Failed,
 }
 
-/// A folder of files, each with a name and at most 2^62 bytes. It may move between threads.
-pub trait Folder: Send {
+/// A folder of files, each with a name and at most 2^62 bytes.
+pub trait Folder {
     /// Whether values of this type tell their files.
     ghost tells_files: { Bool };
 

@@ -77,14 +77,14 @@ pub struct Kit<F, C, J> {
 
 /// The process and its surroundings, as a daemon sees them. `E` is the type of the entries of its journal.
 pub trait Host<E>: Dialer {
-    /// The folder of its data path.
-    type Folder: Folder + Drop;
+    /// The folder of its data path. As the clock and the journal it may move between threads.
+    type Folder: Folder + Drop + Send;
 
     /// Its clock.
-    type Clock: Clock + Drop;
+    type Clock: Clock + Drop + Send;
 
     /// The journal of what happened.
-    type Journal: Journal<E> + Drop;
+    type Journal: Journal<E> + Drop + Send;
 
     /// What it was asked, gave, took back and was told, where it tells.
     ghost content: { Self → HostContent Self.Conn };

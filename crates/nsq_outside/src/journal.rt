@@ -23,10 +23,10 @@ pub enum End {
     Skip,
 }
 
-/// A list of what happened, each entry with its end. It may move between threads.
+/// A list of what happened, each entry with its end.
 ///
 /// An entry is first kept aside, which may want memory, and then noted, which takes none.
-pub trait Journal<E>: Send {
+pub trait Journal<E> {
     /// Whether values of this type tell their list.
     ghost tells_notes: { Bool };
 

@@ -81,9 +81,9 @@ where
     }
 }
 
-impl<R: Files + AllocGlobal + Clone + Drop + Send> Folder for DirFolder<R>
+impl<R: Files + AllocGlobal + Clone + Drop> Folder for DirFolder<R>
 where
-    R::File: FileExt + Send,
+    R::File: FileExt,
 {
     ghost use Rattle.std.specs.Prelude.{◌+◌, length};
     ghost use Rattle.nsq_outside.specs.Files.{IsWithin, Appends, ListingFails, ListingCounts, IsFileLength, LengthFails, LengthCounts, IsAmountAt, IsReadWithin, ReadAtFails, ReadAtCounts};

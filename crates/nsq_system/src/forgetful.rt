@@ -26,7 +26,7 @@ impl<E> Forgetful<E> {
     }
 }
 
-impl<E: Send> Journal<E> for Forgetful<E> {
+impl<E> Journal<E> for Forgetful<E> {
     ghost use Rattle.nsq_system.specs.Forgetting.{has_aside};
 
     ghost tells_notes = { false };

@@ -24,7 +24,7 @@ impl<R: SystemClock> SysClock<R> {
     }
 }
 
-impl<R: SystemClock + Send> Clock for SysClock<R> {
+impl<R: SystemClock> Clock for SysClock<R> {
     ghost use Rattle.nsq_system.specs.SysClocks.{last_of};
 
     ghost tells_readings = { false };

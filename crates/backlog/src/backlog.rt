@@ -3,7 +3,7 @@ ghost use Rattle.nsq_outside.specs.Files.{Files};
 ghost use Rattle.queue_image.specs.FileNames.{meta_file};
 ghost use Rattle.queue_image.specs.Metas.{IsIdle};
 ghost use Rattle.disk_queue.specs.Opened.{IsOpened, IsTidied, FilesOfChange};
-ghost use Rattle.queue_opening.specs.Refusals.{OpenFails};
+ghost use Rattle.queue_opening.specs.Refusals.{OpenFails, OpenCounts};
 ghost use Rattle.v2_frame.specs.declared.message.Message.{Message};
 ghost use Rattle.backlog.specs.Seen.{ForMessages, IsOpenedAt, fresh_backlog, ring_depth, disk_depth};
 ghost use Rattle.backlog.specs.Lists.{OnDisk, Stands, WasFound, OpenRefused};
@@ -107,6 +107,7 @@ impl Backlog {
         ensures others { IsTrue F.tells_files → FilesOfChange name.now (F.files folder.old) (F.files folder.new) }
         ensures faults { F.folder_faults folder.old ≤ F.folder_faults folder.new }
         ensures cause { IfErr result (λ e. OpenFails (F.folder_faults folder.old) (F.folder_faults folder.new) e) }
+        ensures exact { IsTrue F.counts_exactly → OpenCounts (F.folder_faults folder.old) (F.folder_faults folder.new) result }
     {
         let Ok(ring) = HeapCircularBuffer::with_capacity(alloc, ring) else {
             return Err(Open::Memory);

@@ -2,7 +2,7 @@ ghost use Rattle.std.specs.Prelude.{◌≡◌, ◌≤◌, ◌^◌, ℕ, List, []
 ghost use Rattle.nsq_outside.specs.Files.{Files};
 ghost use Rattle.queue_image.specs.FileNames.{meta_file};
 ghost use Rattle.queue_image.specs.Metas.{IsIdle};
-ghost use Rattle.queue_opening.specs.Refusals.{OpenFails};
+ghost use Rattle.queue_opening.specs.Refusals.{OpenFails, OpenCounts};
 ghost use Rattle.disk_queue.specs.Opened.{IsOpened, IsTidied, FilesOfChange};
 ghost use Rattle.v2_frame.specs.declared.message.Message.{Message};
 ghost use Rattle.backlog.specs.Lists.{OnDisk, Stands, WasFound, OpenRefused};
@@ -118,6 +118,7 @@ impl Channel {
         ensures others { IsTrue F.tells_files → FilesOfChange (queue_name topic name) (F.files folder.old) (F.files folder.new) }
         ensures faults { F.folder_faults folder.old ≤ F.folder_faults folder.new }
         ensures cause { IfErr result (λ e. OpenFails (F.folder_faults folder.old) (F.folder_faults folder.new) e) }
+        ensures exact { IsTrue F.counts_exactly → OpenCounts (F.folder_faults folder.old) (F.folder_faults folder.new) result }
     {
         if is_ephemeral(topic, name) {
             return Ok(Channel::fresh(alloc, topic, name, options)?);

@@ -1,8 +1,8 @@
 -- What a walk over a queue's files finds, by the sizes of their records alone.
-use Rattle.std.specs.Prelude.{ℕ, ◌≡◌, ◌+◌, ◌^◌, ◌<◌, ◌≤◌, List, [], ◌∷◌, ◌++◌, length, take, drop, IsSome, Contains}
+use Rattle.std.specs.Prelude.{ℕ, ◌≡◌, ◌+◌, ◌^◌, ◌<◌, ◌≤◌, List, [], ◌∷◌, ◌++◌, length, take, drop, IsSome, Contains, true, false}
 use Rattle.std.specs.List.{slice_range}
 use Rattle.std.specs.Int.{w32, to_be_bytes}
-use Rattle.nsq_outside.specs.Causes.{Rose}
+use Rattle.nsq_outside.specs.Causes.{Rose, CountsFault}
 use Rattle.nsq_outside.specs.Files.{Files}
 use Rattle.queue_image.specs.Records.{HasRecord, IsNoRecord, IsRow, IsDamaged}
 use Rattle.queue_image.specs.FileNames.{data_file}
@@ -27,6 +27,11 @@ abbrev pub SizeFails : ℕ → ℕ → Size → Type 0
 SizeFails before now (Is n) = Unit {0}
 SizeFails before now Short = Unit {0}
 SizeFails before now NoSize = Rose before now
+
+abbrev pub SizeCounts : ℕ → ℕ → Size → Type 0
+SizeCounts before now (Is n) = CountsFault before now false
+SizeCounts before now Short = CountsFault before now false
+SizeCounts before now NoSize = CountsFault before now true
 
 -- a record stands at a place in the bytes and ends at another
 pub record HasRecordTo (least limit : ℕ) (bytes : List ℕ) (at next : ℕ) : Type 0 where
@@ -56,6 +61,11 @@ StandFails before now (Record next) = Unit {0}
 StandFails before now Damage = Unit {0}
 StandFails before now NoStand = Rose before now
 
+abbrev pub StandCounts : ℕ → ℕ → Stand → Type 0
+StandCounts before now (Record next) = CountsFault before now false
+StandCounts before now Damage = CountsFault before now false
+StandCounts before now NoStand = CountsFault before now true
+
 -- the bytes are a row of so many records
 pub record HasRow (least limit : ℕ) (bytes : List ℕ) (n : ℕ) : Type 0 where
   pub bodies : List (List ℕ)
@@ -84,6 +94,11 @@ abbrev pub GivesFails : ℕ → ℕ → Gives → Type 0
 GivesFails before now (Good n) = Unit {0}
 GivesFails before now Bad = Unit {0}
 GivesFails before now Fault = Rose before now
+
+abbrev pub GivesCounts : ℕ → ℕ → Gives → Type 0
+GivesCounts before now (Good n) = CountsFault before now false
+GivesCounts before now Bad = CountsFault before now false
+GivesCounts before now Fault = CountsFault before now true
 
 -- a file is good and gives so many records
 pub record IsGoodWith (least limit : ℕ) (p : Positions) (k : ℕ) (bytes : List ℕ) (n : ℕ) : Type 0 where

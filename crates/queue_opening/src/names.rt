@@ -1,5 +1,5 @@
 ghost use Rattle.std.specs.Prelude.{◌≡◌, ◌+◌, ◌≤◌, IsTrue, IfOk, string_bytes, string_capacity, length};
-ghost use Rattle.nsq_outside.specs.Causes.{DidFails};
+ghost use Rattle.nsq_outside.specs.Causes.{DidFails, DidCounts};
 ghost use Rattle.nsq_outside.specs.Files.{Renames};
 ghost use Rattle.queue_image.specs.FileNames.{data_file, set_aside};
 
@@ -49,6 +49,7 @@ impl Names {
         ensures files { IsTrue F.tells_files → Renames (F.files folder.old) (F.files folder.new) (data_file self.old number) (set_aside (data_file self.old number)) result }
         ensures faults { F.folder_faults folder.old ≤ F.folder_faults folder.new }
         ensures cause { DidFails (F.folder_faults folder.old) (F.folder_faults folder.new) result }
+        ensures exact { IsTrue F.counts_exactly → DidCounts (F.folder_faults folder.old) (F.folder_faults folder.new) result }
     {
         self.data.turn_to(number);
         let file = self.data.as_str();

@@ -3,7 +3,7 @@ ghost use Rattle.nsq_outside.specs.Files.{SameFiles};
 ghost use Rattle.queue_image.specs.FileNames.{meta_file};
 ghost use Rattle.queue_image.specs.Between.{content};
 ghost use Rattle.queue_image.specs.Places.{IsOrdered, IsInRange};
-ghost use Rattle.queue_opening.specs.Refusals.{OpenFails, NotBadMeta};
+ghost use Rattle.queue_opening.specs.Refusals.{OpenFails, OpenCounts, NotBadMeta};
 ghost use Rattle.queue_opening.specs.Walked.{HasNumbers, WalkFits};
 ghost use Rattle.queue_opening.specs.Planned.{SaysWhere, IsUsable, SpoiltWhere, HasNumbersOf, AddsNumber, FoundBetween, start_of, settled, IsSettled, PlansWith, PlansWithout, IsPlanned, IsPlan, FindsBadMeta};
 
@@ -48,6 +48,7 @@ pub fn make_plan<F: Folder>(
     ensures same { IsTrue F.tells_files → SameFiles (F.files folder.old) (F.files folder.new) }
     ensures faults { F.folder_faults folder.old ≤ F.folder_faults folder.new }
     ensures cause { IfErr result (λ e. OpenFails (F.folder_faults folder.old) (F.folder_faults folder.new) e) }
+    ensures exact { IsTrue F.counts_exactly → OpenCounts (F.folder_faults folder.old) (F.folder_faults folder.new) result }
 {
     let Ok(meta) = file_names::meta_file(alloc, name) else {
         return Err(Open::Memory);
@@ -99,6 +100,7 @@ fn with_metadata<F: Folder>(
     ensures same { IsTrue F.tells_files → SameFiles (F.files folder.old) (F.files folder.new) }
     ensures faults { F.folder_faults folder.old ≤ F.folder_faults folder.new }
     ensures cause { IfErr result (λ e. OpenFails (F.folder_faults folder.old) (F.folder_faults folder.new) e) }
+    ensures exact { IsTrue F.counts_exactly → OpenCounts (F.folder_faults folder.old) (F.folder_faults folder.new) result }
     ensures meta { IfErr result NotBadMeta }
 {
     match walk_between(alloc, folder, files, &numbers, &positions, options) {
@@ -124,6 +126,7 @@ fn walk_between<F: Folder>(
     ensures same { IsTrue F.tells_files → SameFiles (F.files folder.old) (F.files folder.new) }
     ensures faults { F.folder_faults folder.old ≤ F.folder_faults folder.new }
     ensures cause { IfErr result (λ e. OpenFails (F.folder_faults folder.old) (F.folder_faults folder.new) e) }
+    ensures exact { IsTrue F.counts_exactly → OpenCounts (F.folder_faults folder.old) (F.folder_faults folder.new) result }
 {
     if positions.at_end() {
         return Ok(Walk {
@@ -212,6 +215,7 @@ fn find_meta<F: Folder>(folder: &mut F, file: &str) -> Result<Option<Positions>,
     ensures same { IsTrue F.tells_files → SameFiles (F.files folder.old) (F.files folder.new) }
     ensures faults { F.folder_faults folder.old ≤ F.folder_faults folder.new }
     ensures cause { IfErr result (λ e. OpenFails (F.folder_faults folder.old) (F.folder_faults folder.new) e) }
+    ensures exact { IsTrue F.counts_exactly → OpenCounts (F.folder_faults folder.old) (F.folder_faults folder.new) result }
 {
     match folder.len(file) {
         Length::Is(_) => {}
@@ -238,6 +242,7 @@ fn list_numbers<F: Folder>(alloc: Global, folder: &mut F, name: &str) -> Result<
     ensures same { IsTrue F.tells_files → SameFiles (F.files folder.old) (F.files folder.new) }
     ensures faults { F.folder_faults folder.old ≤ F.folder_faults folder.new }
     ensures cause { IfErr result (λ e. OpenFails (F.folder_faults folder.old) (F.folder_faults folder.new) e) }
+    ensures exact { IsTrue F.counts_exactly → OpenCounts (F.folder_faults folder.old) (F.folder_faults folder.new) result }
     ensures meta { IfErr result NotBadMeta }
 {
     let mut names = Vec::new(alloc);

@@ -1,5 +1,5 @@
 ghost use Rattle.std.specs.Prelude.{◌≡◌, ◌+◌, ◌^◌, ◌<◌, ◌≤◌, ℕ, Contains, IsTrue};
-ghost use Rattle.nsq_outside.specs.Causes.{DidFails};
+ghost use Rattle.nsq_outside.specs.Causes.{DidFails, DidCounts};
 ghost use Rattle.queue_opening.specs.Tidied.{AsideStep, OnlyAsideChanges, AsideWhere, RemoveStep, RemovedWhere, OnlyRemovedChange, OnlyTidied, TidyWhere, IsPartlyTidy, WrittenWhere, OnlyWritten};
 ghost use Rattle.queue_opening.specs.Planned.{IsPlan};
 
@@ -23,6 +23,7 @@ pub fn tidy<F: Folder>(
     ensures others { IsTrue F.tells_files → OnlyTidied files.old plan.now (F.files folder.old) (F.files folder.new) }
     ensures faults { F.folder_faults folder.old ≤ F.folder_faults folder.new }
     ensures cause { DidFails (F.folder_faults folder.old) (F.folder_faults folder.new) result }
+    ensures exact { IsTrue F.counts_exactly → DidCounts (F.folder_faults folder.old) (F.folder_faults folder.new) result }
 {
     match remove(folder, files, &plan.numbers, plan.below) {
         Did::Done => {}
@@ -47,6 +48,7 @@ pub fn write_down<F: Folder>(folder: &mut F, files: &mut QueueFiles, plan: &Plan
     ensures others { IsTrue F.tells_files → OnlyWritten files.old plan.now (F.files folder.old) (F.files folder.new) }
     ensures faults { F.folder_faults folder.old ≤ F.folder_faults folder.new }
     ensures cause { DidFails (F.folder_faults folder.old) (F.folder_faults folder.new) result }
+    ensures exact { IsTrue F.counts_exactly → DidCounts (F.folder_faults folder.old) (F.folder_faults folder.new) result }
 {
     match files.save(folder, plan.depth, plan.positions) {
         Did::Done => {}
@@ -62,6 +64,7 @@ fn set_aside<F: Folder>(folder: &mut F, names: &mut Names, numbers: &[u64], from
     ensures others { IsTrue F.tells_files → OnlyAsideChanges names.old numbers.now from (F.files folder.old) (F.files folder.new) }
     ensures faults { F.folder_faults folder.old ≤ F.folder_faults folder.new }
     ensures cause { DidFails (F.folder_faults folder.old) (F.folder_faults folder.new) result }
+    ensures exact { IsTrue F.counts_exactly → DidCounts (F.folder_faults folder.old) (F.folder_faults folder.new) result }
 {
     for number in numbers {
         match set_aside_one(folder, names, *number, from) {
@@ -78,6 +81,7 @@ fn set_aside_one<F: Folder>(folder: &mut F, names: &mut Names, number: u64, from
     ensures step { IsTrue F.tells_files → AsideStep names.old from number (F.files folder.old) (F.files folder.new) result }
     ensures faults { F.folder_faults folder.old ≤ F.folder_faults folder.new }
     ensures cause { DidFails (F.folder_faults folder.old) (F.folder_faults folder.new) result }
+    ensures exact { IsTrue F.counts_exactly → DidCounts (F.folder_faults folder.old) (F.folder_faults folder.new) result }
 {
     if number < from {
         return Did::Done;
@@ -93,6 +97,7 @@ fn remove<F: Folder>(folder: &mut F, files: &mut QueueFiles, numbers: &[u64], to
     ensures others { IsTrue F.tells_files → OnlyRemovedChange files.old numbers.now to (F.files folder.old) (F.files folder.new) }
     ensures faults { F.folder_faults folder.old ≤ F.folder_faults folder.new }
     ensures cause { DidFails (F.folder_faults folder.old) (F.folder_faults folder.new) result }
+    ensures exact { IsTrue F.counts_exactly → DidCounts (F.folder_faults folder.old) (F.folder_faults folder.new) result }
 {
     for number in numbers {
         match remove_one(folder, files, *number, to) {
@@ -110,6 +115,7 @@ fn remove_one<F: Folder>(folder: &mut F, files: &mut QueueFiles, number: u64, to
     ensures step { IsTrue F.tells_files → RemoveStep files.old to number (F.files folder.old) (F.files folder.new) result }
     ensures faults { F.folder_faults folder.old ≤ F.folder_faults folder.new }
     ensures cause { DidFails (F.folder_faults folder.old) (F.folder_faults folder.new) result }
+    ensures exact { IsTrue F.counts_exactly → DidCounts (F.folder_faults folder.old) (F.folder_faults folder.new) result }
 {
     if number >= to {
         return Did::Done;

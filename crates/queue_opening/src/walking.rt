@@ -4,8 +4,8 @@ ghost use Rattle.std.specs.Int.{w32, to_be_bytes};
 ghost use Rattle.nsq_outside.specs.Files.{SameFiles};
 ghost use Rattle.queue_image.specs.Between.{content};
 ghost use Rattle.queue_image.specs.Places.{IsOrdered, IsInRange, IsBehind};
-ghost use Rattle.queue_opening.specs.Refusals.{OpenFails, NotBadMeta};
-ghost use Rattle.queue_opening.specs.Walked.{SizeIs, SizeFails, StandsAt, StandsWithin, StandFails, RowGives, RowWithin, GivesOf, GivesWithin, GivesFails, IsNextIn, HasRoomFor, WalkAdds, WalksUpTo, WalkFits, HasNumbers};
+ghost use Rattle.queue_opening.specs.Refusals.{OpenFails, OpenCounts, NotBadMeta};
+ghost use Rattle.queue_opening.specs.Walked.{SizeIs, SizeFails, SizeCounts, StandsAt, StandsWithin, StandFails, StandCounts, RowGives, RowWithin, GivesOf, GivesWithin, GivesFails, GivesCounts, IsNextIn, HasRoomFor, WalkAdds, WalksUpTo, WalkFits, HasNumbers};
 
 use crate::Open;
 use nsq_base::Memory;
@@ -75,6 +75,7 @@ pub fn walk_files<F: Folder>(
     ensures same { IsTrue F.tells_files → SameFiles (F.files folder.old) (F.files folder.new) }
     ensures faults { F.folder_faults folder.old ≤ F.folder_faults folder.new }
     ensures cause { IfErr result (λ e. OpenFails (F.folder_faults folder.old) (F.folder_faults folder.new) e) }
+    ensures exact { IsTrue F.counts_exactly → OpenCounts (F.folder_faults folder.old) (F.folder_faults folder.new) result }
 {
     let mut walk = Walk {
         depth: 0,
@@ -103,6 +104,7 @@ impl Walk {
         ensures added { OnOk result (WalkAdds self.old self.new number gives) }
         ensures meta { IfErr result NotBadMeta }
         ensures cause { (before now : ℕ) → GivesFails before now gives → IfErr result (λ e. OpenFails before now e) }
+        ensures exact { (before now : ℕ) → GivesCounts before now gives → OpenCounts before now result }
     {
         match gives {
             Gives::Good(count) => self.depth += count as u128,
@@ -161,6 +163,7 @@ fn given_by<F: Folder>(
     ensures same { IsTrue F.tells_files → SameFiles (F.files folder.old) (F.files folder.new) }
     ensures faults { F.folder_faults folder.old ≤ F.folder_faults folder.new }
     ensures cause { GivesFails (F.folder_faults folder.old) (F.folder_faults folder.new) result }
+    ensures exact { IsTrue F.counts_exactly → GivesCounts (F.folder_faults folder.old) (F.folder_faults folder.new) result }
 {
     let Some(len) = files.len(folder, number) else {
         return Gives::Fault;
@@ -192,6 +195,7 @@ fn count_row<F: Folder>(
     ensures same { IsTrue F.tells_files → SameFiles (F.files folder.old) (F.files folder.new) }
     ensures faults { F.folder_faults folder.old ≤ F.folder_faults folder.new }
     ensures cause { GivesFails (F.folder_faults folder.old) (F.folder_faults folder.new) result }
+    ensures exact { IsTrue F.counts_exactly → GivesCounts (F.folder_faults folder.old) (F.folder_faults folder.new) result }
 {
     let mut place = start;
     let mut count = 0;
@@ -224,6 +228,7 @@ fn stand_at<F: Folder>(
     ensures same { IsTrue F.tells_files → SameFiles (F.files folder.old) (F.files folder.new) }
     ensures faults { F.folder_faults folder.old ≤ F.folder_faults folder.new }
     ensures cause { StandFails (F.folder_faults folder.old) (F.folder_faults folder.new) result }
+    ensures exact { IsTrue F.counts_exactly → StandCounts (F.folder_faults folder.old) (F.folder_faults folder.new) result }
 {
     if end - at < 4 {
         return Stand::Damage;
@@ -241,6 +246,7 @@ fn judge(size: u32, at: u64, end: u64, options: &QueueOptions) -> Stand
     ensures stand { (bytes : List ℕ) → to_be_bytes w32 size ≡ take 4 (drop at bytes) → end ≤ length bytes → StandsAt options.now.least options.now.limit bytes at end result }
     ensures within { StandsWithin at end result }
     ensures cause { (before now : ℕ) → StandFails before now result }
+    ensures exact { (before : ℕ) → StandCounts before before result }
 {
     if size < options.least {
         return Stand::Damage;
@@ -261,6 +267,7 @@ fn size_at<F: Folder>(folder: &mut F, files: &mut QueueFiles, number: u64, at: u
     ensures same { IsTrue F.tells_files → SameFiles (F.files folder.old) (F.files folder.new) }
     ensures faults { F.folder_faults folder.old ≤ F.folder_faults folder.new }
     ensures cause { SizeFails (F.folder_faults folder.old) (F.folder_faults folder.new) result }
+    ensures exact { IsTrue F.counts_exactly → SizeCounts (F.folder_faults folder.old) (F.folder_faults folder.new) result }
 {
     let mut size = [0; 4];
     match files.read_at(folder, number, at, &mut size) {

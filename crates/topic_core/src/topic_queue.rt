@@ -4,7 +4,7 @@ ghost use Rattle.nsq_outside.specs.Files.{Files};
 ghost use Rattle.queue_image.specs.FileNames.{meta_file};
 ghost use Rattle.queue_image.specs.Metas.{IsIdle};
 ghost use Rattle.disk_queue.specs.Opened.{FilesOfChange, IsTidied};
-ghost use Rattle.queue_opening.specs.Refusals.{OpenFails};
+ghost use Rattle.queue_opening.specs.Refusals.{OpenFails, OpenCounts};
 ghost use Rattle.v2_frame.specs.declared.message.Message.{Message};
 ghost use Rattle.backlog.specs.Seen.{ForMessages, FitsLimit, ring_depth, disk_depth};
 ghost use Rattle.backlog.specs.Lists.{Stands, OpenRefused};
@@ -91,6 +91,7 @@ impl TopicQueue {
         ensures others { IsTrue F.tells_files → FilesOfChange name (F.files folder.old) (F.files folder.new) }
         ensures faults { F.folder_faults folder.old ≤ F.folder_faults folder.new }
         ensures cause { IfErr result (λ e. OpenFails (F.folder_faults folder.old) (F.folder_faults folder.new) e) }
+        ensures exact { IsTrue F.counts_exactly → OpenCounts (F.folder_faults folder.old) (F.folder_faults folder.new) result }
     {
         if name.ephemeral() {
             return Ok(TopicQueue::fresh(alloc, name, options)?);

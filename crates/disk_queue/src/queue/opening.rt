@@ -3,7 +3,7 @@ ghost use Rattle.disk_queue.specs.Seen.{opened_queue};
 ghost use Rattle.queue_image.specs.Places.{IsOrdered, IsInRange, distance};
 ghost use Rattle.disk_queue.specs.Holding.{SaveStands};
 ghost use Rattle.disk_queue.specs.Opened.{IsOpened, IsTidied, RefusedWhere, FilesOfChange};
-ghost use Rattle.queue_opening.specs.Refusals.{OpenFails};
+ghost use Rattle.queue_opening.specs.Refusals.{OpenFails, OpenCounts};
 
 use super::Queue;
 use crate::standing::{LastSave, Staged};
@@ -37,6 +37,7 @@ impl Queue {
         ensures others { IsTrue F.tells_files → FilesOfChange name.now (F.files folder.old) (F.files folder.new) }
         ensures faults { F.folder_faults folder.old ≤ F.folder_faults folder.new }
         ensures cause { IfErr result (λ e. OpenFails (F.folder_faults folder.old) (F.folder_faults folder.new) e) }
+        ensures exact { IsTrue F.counts_exactly → OpenCounts (F.folder_faults folder.old) (F.folder_faults folder.new) result }
     {
         let Ok(mut files) = QueueFiles::new(alloc, name) else {
             return Err(Open::Memory);

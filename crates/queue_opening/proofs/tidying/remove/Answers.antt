@@ -24,6 +24,7 @@ loop-number-preserved g c =
       others = λ told. subst (λ (ns : List ℕ). OnlyRemovedChange name ns c.args.to f0 f2) taken
           (removed_others_more name f0 f1 f2 n (omega (arith, c.type_inv.numbers at)) (take at numbers) c.args.to Done (i.others told)
           (subst (λ (x : List ℕ). RemoveStep x c.args.to n f1 f2 Done) i.name (c.in-Done.ensures.step told)));
+      exact = λ counts. c.in-Done.ensures.exact counts ∙ i.exact counts;
       faults = omega (arith, i.faults, c.in-Done.ensures.faults);
     }
 

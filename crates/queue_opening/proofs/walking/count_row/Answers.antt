@@ -21,6 +21,7 @@ loop-place-preserved g c =
           ∙ ap (λ (o : Option (List ℕ)). unwrap_or o []) (i.same told (data_file c.args.files.now c.args.number)) in
           row_on c.args.options.now.least c.args.options.now.limit c.args.start c.loop-place.place c.in-Record.next c.loop-place.count bytes now here i.low (omega (arith, i.high, inside)) (i.row told inside)
           (c.in-Record.ensures.stand told (omega (arith, ap length here, inside)));
+      exact = λ counts. c.in-Record.ensures.exact counts ∙ i.exact counts;
       faults = omega (arith, i.faults, c.in-Record.ensures.faults);
     }
 

@@ -14,6 +14,7 @@ invariant-loop-place g l = record {
   same : IsTrue g.F.Folder.tells_files → SameFiles (g.F.Folder.files l.initial.folder) (g.F.Folder.files l.folder);
   row : IsTrue g.F.Folder.tells_files → l.initial.end ≤ length (content (g.F.Folder.files l.initial.folder) l.initial.files l.initial.number)
       → HasRow l.initial.options.least l.initial.options.limit (slice_range (content (g.F.Folder.files l.initial.folder) l.initial.files l.initial.number) l.initial.start l.place) l.count;
+  exact : IsTrue g.F.Folder.counts_exactly → g.F.Folder.folder_faults l.folder ≡ g.F.Folder.folder_faults l.initial.folder;
   faults : g.F.Folder.folder_faults l.initial.folder ≤ g.F.Folder.folder_faults l.folder;
 }
 

@@ -2,7 +2,7 @@ use Rattle.std.proofs.Common.{◌≡◌, ◌∙◌, List, ℕ, [], Option, unwra
 use Rattle.std.specs.List.{Contains}
 use Rattle.queue_image.specs.FileNames.{data_file}
 use Rattle.queue_image.specs.Between.{content}
-use Rattle.queue_opening.specs.Walked.{GivesOf, WalksUpTo}
+use Rattle.queue_opening.specs.Walked.{GivesOf, GivesCounts, WalksUpTo}
 use Rattle.queue_opening.proofs.Walks.{walk_on, walk_step, walk_within, walk_depth, walk_fits, given_earlier, first_walk, file_order}
 use Rattle.queue_opening.proofs.walking.walk_files.Goals as goal
 
@@ -17,6 +17,7 @@ loop-number-init g c =
       depth = omega arith;
       same = λ told file. refl;
       walks = λ told has. first_walk c.args.options.now.least c.args.options.now.limit p (content (g.F.Folder.files c.args.folder.now) c.args.files.now) c.new.result.items c.new.ensures.items;
+      exact = λ counts. refl;
       faults = omega arith;
     }
 
@@ -47,6 +48,7 @@ loop-number-preserved g c =
           walk_step c.args.options.now.least c.args.options.now.limit p old c.args.files.now c.args.numbers.now k c.next_number-number.result c.loop-number.walk c.add.new.self c.given_by-gives.result
           high i.low before has next c.in-Ok.ensures.added
           (subst (λ (x : List ℕ). GivesOf c.args.options.now.least c.args.options.now.limit p k x c.given_by-gives.result) here (given.gives told)) (i.walks told has);
+      exact = λ counts. c.in-Ok.ensures.exact (g.F.Folder.folder_faults c.loop-number.folder) (g.F.Folder.folder_faults c.given_by-gives.new.folder) (given.exact counts) ∙ i.exact counts;
       faults = omega (arith, given.faults, i.faults);
     }
 
@@ -86,3 +88,21 @@ returns-in-Ok-add-clause-fits g c =
     let arrived : c.loop-number.number ≡ p.write_file = omega (arith, i.high, c.loop-number-test.false) in
     walk_fits p c.loop-number.walk c.add-2.new.self c.given_by-gives-2.result (file_order p c.requires.order) c.given_by-gives-2.ensures.within c.in-Ok-add.ensures.added
     (λ k its. let h = i.within k its in (h.0, omega (arith, h.1, arrived))) (omega (arith, i.depth, arrived))
+
+pub returns-in-Err-clause-exact : goal.returns-in-Err-clause-exact
+returns-in-Err-clause-exact g c = λ counts.
+    let now = g.F.Folder.folder_faults c.given_by-gives.new.folder in
+    c.in-Err.ensures.exact (g.F.Folder.folder_faults c.args.folder.now) now
+    (subst (λ (n : ℕ). GivesCounts n now c.given_by-gives.result) (c.loop-number.invariant.exact counts) (c.given_by-gives.ensures.exact counts))
+
+pub returns-in-Err-add-clause-exact : goal.returns-in-Err-add-clause-exact
+returns-in-Err-add-clause-exact g c = λ counts.
+    let now = g.F.Folder.folder_faults c.given_by-gives-2.new.folder in
+    c.in-Err-add.ensures.exact (g.F.Folder.folder_faults c.args.folder.now) now
+    (subst (λ (n : ℕ). GivesCounts n now c.given_by-gives-2.result) (c.loop-number.invariant.exact counts) (c.given_by-gives-2.ensures.exact counts))
+
+pub returns-in-Ok-add-clause-exact : goal.returns-in-Ok-add-clause-exact
+returns-in-Ok-add-clause-exact g c = λ counts.
+    let now = g.F.Folder.folder_faults c.given_by-gives-2.new.folder in
+    c.in-Ok-add.ensures.exact (g.F.Folder.folder_faults c.args.folder.now) now
+    (subst (λ (n : ℕ). GivesCounts n now c.given_by-gives-2.result) (c.loop-number.invariant.exact counts) (c.given_by-gives-2.ensures.exact counts))

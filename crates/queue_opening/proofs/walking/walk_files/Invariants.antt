@@ -16,6 +16,7 @@ invariant-loop-number g l = record {
   same : IsTrue g.F.Folder.tells_files → SameFiles (g.F.Folder.files l.initial.folder) (g.F.Folder.files l.folder);
   walks : IsTrue g.F.Folder.tells_files → HasNumbers (g.F.Folder.files l.initial.folder) l.initial.files l.initial.numbers
       → WalksUpTo l.initial.options.least l.initial.options.limit l.initial.positions (content (g.F.Folder.files l.initial.folder) l.initial.files) l.number l.walk.depth l.walk.bad.items;
+  exact : IsTrue g.F.Folder.counts_exactly → g.F.Folder.folder_faults l.folder ≡ g.F.Folder.folder_faults l.initial.folder;
   faults : g.F.Folder.folder_faults l.initial.folder ≤ g.F.Folder.folder_faults l.folder;
 }
 

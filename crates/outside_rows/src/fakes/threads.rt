@@ -18,13 +18,13 @@ fn put_anew<F: Folder>(folder: &mut F, name: &str, bytes: &[u8]) -> Length {
 }
 
 /// Lets another thread have what a host gives and lends, and takes it back.
-fn carried<R: Threads, K: Conn + Drop, F: Folder + Drop, C: Clock + Drop, J: Journal<Seen> + Drop>(
-    rt: &R,
-    conn: K,
-    folder: F,
-    clock: C,
-    journal: J,
-) -> (K, F, C, J) {
+fn carried<
+    R: Threads,
+    K: Conn + Drop,
+    F: Folder + Drop + Send,
+    C: Clock + Drop + Send,
+    J: Journal<Seen> + Drop + Send,
+>(rt: &R, conn: K, folder: F, clock: C, journal: J) -> (K, F, C, J) {
     let (carried, _) = join(rt, move || (conn, folder, clock, journal), || ());
     carried
 }

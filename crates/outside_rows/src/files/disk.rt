@@ -10,12 +10,26 @@ use std::rt::Files;
 use std::test::Fail;
 use std::{fs, io};
 
+/// What a disk is asked to do.
+#[derive(Clone, Copy, PartialEq, Eq)]
+enum Asked {
+    Open,
+    List,
+    Length,
+    Write,
+    Cut,
+    Sync,
+    Rename,
+    Remove,
+}
+
 /// A disk whose files give at most 2 bytes a read; of the reads of an open file each third one is interrupted, from the
-/// first one on, and those from a number on fail. Nothing else can be asked of it but to open, rename and remove.
+/// first one on, and those from a number on fail. One other thing that it is asked may always fail. Nothing else can be asked of it.
 #[derive(Drop)]
 struct Slow {
     rt: HostRuntime,
     fails_from: u64,
+    broken: Option<Asked>,
 }
 
 /// An open file of such a disk.
@@ -24,6 +38,15 @@ struct SlowFile {
     file: File,
     reads: Cell<u64>,
     fails_from: u64,
+    broken: Option<Asked>,
+}
+
+/// Fails where this is what is broken.
+fn ask(broken: Option<Asked>, asked: Asked) -> io::Result<()> {
+    if broken == Some(asked) {
+        return Err(ErrorKind::Other.into());
+    }
+    Ok(())
 }
 
 impl Clone for Slow {
@@ -31,6 +54,7 @@ impl Clone for Slow {
         Ok(Slow {
             rt: self.rt.clone()?,
             fails_from: self.fails_from,
+            broken: self.broken,
         })
     }
 }
@@ -49,14 +73,17 @@ impl Files for Slow {
     type Dir = <HostRuntime as Files>::Dir;
 
     fn open_file(&self, how: &OpenOptions, path: &str) -> io::Result<SlowFile> {
+        ask(self.broken, Asked::Open)?;
         Ok(SlowFile {
             file: self.rt.open_file(how, path)?,
             reads: Cell::new(0),
             fails_from: self.fails_from,
+            broken: self.broken,
         })
     }
 
     fn open_dir(&self, path: &str) -> io::Result<<HostRuntime as Files>::Dir> {
+        ask(self.broken, Asked::List)?;
         self.rt.open_dir(path)
     }
 
@@ -73,10 +100,12 @@ impl Files for Slow {
     }
 
     fn rename(&self, from: &str, to: &str) -> io::Result<()> {
+        ask(self.broken, Asked::Rename)?;
         self.rt.rename(from, to)
     }
 
     fn remove_file(&self, path: &str) -> io::Result<()> {
+        ask(self.broken, Asked::Remove)?;
         self.rt.remove_file(path)
     }
 
@@ -117,14 +146,17 @@ impl Seek for SlowFile {
 
 impl OpenFile for SlowFile {
     fn metadata(&self) -> io::Result<Metadata> {
+        ask(self.broken, Asked::Length)?;
         self.file.metadata()
     }
 
     fn set_len(&self, size: u64) -> io::Result<()> {
+        ask(self.broken, Asked::Cut)?;
         self.file.set_len(size)
     }
 
     fn sync_all(&self) -> io::Result<()> {
+        ask(self.broken, Asked::Sync)?;
         self.file.sync_all()
     }
 
@@ -148,22 +180,26 @@ impl FileExt for SlowFile {
     }
 
     fn write_at(&self, bytes: &[u8], at: u64) -> io::Result<usize> {
+        ask(self.broken, Asked::Write)?;
         self.file.write_at(bytes, at)
     }
 }
 
 struct Row {
     name: &'static str,
+    /// The reads of an open file from this number on fail.
     fails_from: u64,
+    broken: Option<Asked>,
     steps: &'static [Step],
 }
 
 const FOLDER: &str = "outside_rows_disk";
 
-const ROWS: [Row; 3] = [
+const ROWS: [Row; 11] = [
     Row {
         name: "short and interrupted reads",
         fails_from: u64::MAX,
+        broken: None,
         steps: &[
             Step::WriteAt("a", 0, b"hello", Did::Done),
             Step::ReadAt("a", 0, ReadAt::Got(5), b"hello--"),
@@ -176,6 +212,7 @@ const ROWS: [Row; 3] = [
     Row {
         name: "a disk that fails in the middle of a read",
         fails_from: 2,
+        broken: None,
         steps: &[
             Step::WriteAt("a", 0, b"hello", Did::Done),
             Step::ReadFails("a", 0),
@@ -185,12 +222,105 @@ const ROWS: [Row; 3] = [
     Row {
         name: "a file whose read failed is opened anew",
         fails_from: 2,
+        broken: None,
         steps: &[
             Step::WriteAt("a", 0, b"hello", Did::Done),
             Step::ReadFails("a", 0),
             Step::ReadAt("a", 2, ReadAt::Got(2), b"ll"),
             Step::ReadFails("a", 2),
             Step::ReadAt("a", 3, ReadAt::Got(2), b"lo"),
+        ],
+    },
+    Row {
+        name: "no file can be opened",
+        fails_from: u64::MAX,
+        broken: Some(Asked::Open),
+        steps: &[
+            Step::WriteAt("a", 0, b"hello", Did::Failed),
+            Step::Len("a", Length::Failed),
+            Step::ReadFails("a", 0),
+            Step::Cut("a", 0, Did::Failed),
+            Step::Sync("a", Did::Failed),
+            Step::SyncNames(Did::Failed),
+            Step::List(&[]),
+        ],
+    },
+    Row {
+        name: "the folder can't be listed",
+        fails_from: u64::MAX,
+        broken: Some(Asked::List),
+        steps: &[
+            Step::ListFails,
+            Step::SyncNames(Did::Done),
+            Step::Len("a", Length::Absent),
+        ],
+    },
+    Row {
+        name: "no length can be learned",
+        fails_from: u64::MAX,
+        broken: Some(Asked::Length),
+        steps: &[
+            Step::WriteAt("a", 0, b"hi", Did::Done),
+            Step::Len("a", Length::Failed),
+            Step::Len("b", Length::Absent),
+            Step::WriteAt("a", 5, b"", Did::Failed),
+            Step::ReadAt("a", 0, ReadAt::Got(2), b"hi--"),
+        ],
+    },
+    Row {
+        name: "nothing can be written",
+        fails_from: u64::MAX,
+        broken: Some(Asked::Write),
+        steps: &[
+            Step::Cut("a", 2, Did::Done),
+            Step::WriteAt("a", 0, b"hello", Did::Failed),
+            Step::ReadAt("a", 0, ReadAt::Got(2), b"\0\0--"),
+        ],
+    },
+    Row {
+        name: "no file can be cut: one that was absent is absent again",
+        fails_from: u64::MAX,
+        broken: Some(Asked::Cut),
+        steps: &[
+            Step::WriteAt("a", 0, b"hi", Did::Done),
+            Step::Cut("a", 1, Did::Failed),
+            Step::WriteAt("a", 5, b"", Did::Failed),
+            Step::Len("a", Length::Is(2)),
+            Step::Cut("b", 1, Did::Failed),
+            Step::Len("b", Length::Absent),
+        ],
+    },
+    Row {
+        name: "nothing can be made durable",
+        fails_from: u64::MAX,
+        broken: Some(Asked::Sync),
+        steps: &[
+            Step::Sync("a", Did::Done),
+            Step::WriteAt("a", 0, b"hi", Did::Done),
+            Step::Sync("a", Did::Failed),
+            Step::SyncNames(Did::Failed),
+            Step::Len("a", Length::Is(2)),
+        ],
+    },
+    Row {
+        name: "no file can be renamed",
+        fails_from: u64::MAX,
+        broken: Some(Asked::Rename),
+        steps: &[
+            Step::WriteAt("a", 0, b"hi", Did::Done),
+            Step::Rename("a", "b", Did::Failed),
+            Step::Len("a", Length::Is(2)),
+            Step::Len("b", Length::Absent),
+        ],
+    },
+    Row {
+        name: "no file can be removed",
+        fails_from: u64::MAX,
+        broken: Some(Asked::Remove),
+        steps: &[
+            Step::WriteAt("a", 0, b"hi", Did::Done),
+            Step::Remove("a", Did::Failed),
+            Step::Len("a", Length::Is(2)),
         ],
     },
 ];
@@ -211,6 +341,7 @@ fn holds(rt: &HostRuntime, row: &Row) -> Result<bool, Fail> {
     let slow = Slow {
         rt: rt.clone()?,
         fails_from: row.fails_from,
+        broken: row.broken,
     };
     let mut folder = DirFolder::new(slow, rt.alloc(), FOLDER)?;
     let all = all_go(rt.alloc(), &mut folder, row.steps)?;

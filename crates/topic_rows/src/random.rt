@@ -1,19 +1,14 @@
 //! Random calls of a topic's queue, beside the plain list: after each call what it answers and what it shows is what the list says.
 
-ghost use Rattle.std.specs.Prelude.{◌≡◌, ◌≤◌, All, length, IfOk};
-ghost use Rattle.backlog.specs.Seen.{FitsLimit};
-ghost use Rattle.topic_core.specs.Seen.{IsSettled};
-
+use crate::bench::{Bench, Scratch, delay_of};
 use crate::plain::Plain;
-use crate::script::{forget, open, pay, scratch, take, undo};
+use crate::script::is_opened;
 use backlog::{Flushed, PutAll};
 use disk_queue::Emptied;
-use nsq_base::{Body, Chan, Memory, MsgId, Options, Topic};
-use nsq_fakes::{Failing, FolderCall, MemFolder};
+use nsq_base::{Memory, Topic};
+use nsq_fakes::{Failing, FolderCall};
 use std::alloc::Global;
-use std::test::Fail;
-use topic_core::{Head, TopicQueue};
-use v2_frame::Message;
+use topic_core::Head;
 
 // A run of random calls.
 struct Run {
@@ -27,7 +22,7 @@ struct Run {
 
 const CALLS: usize = 500;
 
-const RUNS: [Run; 4] = [
+static RUNS: [Run; 4] = [
     Run {
         name: "durable",
         topic: b"t",
@@ -72,10 +67,8 @@ const RUNS: [Run; 4] = [
 // A topic's queue in a folder, and the plain list beside it.
 #[derive(Drop)]
 struct Pair {
-    topic: TopicQueue,
+    bench: Bench,
     plain: Plain,
-    folder: MemFolder,
-    options: Options,
     // Whether calls of the folder fail.
     fails: bool,
     // The number of the next message.
@@ -88,7 +81,6 @@ impl Pair {
     // The next random number below this one.
     fn below(&mut self, bound: u64) -> u64
         requires { 1 ≤ bound }
-        ensures topic { self.new.topic ≡ self.old.topic }
     {
         self.state = self
             .state
@@ -98,11 +90,7 @@ impl Pair {
     }
 
     // One random call. Whether it answers what the list says, and shows that afterwards.
-    fn step(&mut self, alloc: Global, scratch: &mut [u8]) -> Result<bool, Memory>
-        requires settled { IsSettled self.old.topic }
-        requires scratch { 16777242 ≤ length scratch.old }
-        ensures settled_now { IsSettled self.new.topic }
-    {
+    fn step(&mut self, alloc: Global, scratch: &mut Scratch) -> Result<bool, Memory> {
         let right = match self.below(32) {
             0..=11 => self.put(alloc, scratch)?,
             12..=17 => self.take(alloc, scratch)?,
@@ -116,49 +104,35 @@ impl Pair {
     }
 
     // Up to three messages are put.
-    fn put(&mut self, alloc: Global, scratch: &mut [u8]) -> Result<bool, Memory>
-        requires settled { IsSettled self.old.topic }
-        requires scratch { 16777242 ≤ length scratch.old }
-        ensures settled_now { IsSettled self.new.topic }
-    {
-        let count = self.below(4);
-        let first = self.next;
-        self.next = first.wrapping_add(count);
-        let mut messages = messages_of(alloc, first, count)?;
-        match self.topic.put_all(&mut self.folder, scratch, &mut messages) {
-            PutAll::Done => {
-                for i in 0..count {
-                    let number = first.wrapping_add(i);
-                    self.plain.put(number, delay_of(number))?;
+    fn put(&mut self, alloc: Global, scratch: &mut Scratch) -> Result<bool, Memory> {
+        let mut numbers = Vec::new(alloc);
+        for _ in 0..self.below(4) {
+            numbers.push(self.next)?;
+            self.next = self.next.wrapping_add(1);
+        }
+        match self.bench.put(alloc, scratch, &numbers)? {
+            (PutAll::Done, left) => {
+                for number in &numbers {
+                    self.plain.put(*number, delay_of(*number))?;
                 }
-                Ok(messages.is_empty())
+                Ok(left == 0)
             }
-            PutAll::Fault => Ok(self.fails && messages.len() as u64 == count),
+            (PutAll::Fault, left) => Ok(self.fails && left == numbers.len()),
         }
     }
 
     // A message is taken, where none is.
-    fn take(&mut self, alloc: Global, scratch: &mut [u8]) -> Result<bool, Memory>
-        requires settled { IsSettled self.old.topic }
-        requires scratch { 16777242 ≤ length scratch.old }
-        ensures settled_now { IsSettled self.new.topic }
-    {
-        let letters = self.letters(alloc)?;
-        match take(alloc, &mut self.topic, &mut self.folder, scratch, &letters)? {
-            None => Ok(self.plain.taken.is_some()),
-            Some(Head::Ready) => self.took(&letters),
-            Some(Head::Empty) => Ok(self.plain.waiting.is_empty()),
-            Some(Head::Fault) => Ok(self.fails && !self.plain.waiting.is_empty()),
-            Some(Head::Damaged) => Ok(false),
-            Some(Head::Memory) => Err(Memory),
+    fn take(&mut self, alloc: Global, scratch: &mut Scratch) -> Result<bool, Memory> {
+        let letters = self.letters();
+        match self.bench.take(alloc, scratch, letters, true)? {
+            Some(Head::Ready) => self.took(letters),
+            other => self.draws(other),
         }
     }
 
     // The message that was taken, which these channels are owed, is taken from the list.
-    fn took(&mut self, letters: &[u8]) -> Result<bool, Memory>
-        ensures topic { self.new.topic ≡ self.old.topic }
-    {
-        let Some((number, delay)) = head_of(&self.topic) else {
+    fn took(&mut self, letters: &[u8]) -> Result<bool, Memory> {
+        let Some((number, delay)) = self.bench.head() else {
             return Ok(false);
         };
         self.plain.take(number, delay, letters)?;
@@ -166,50 +140,44 @@ impl Pair {
     }
 
     // A message is drawn, where none is taken, and put back.
-    fn undo(&mut self, alloc: Global, scratch: &mut [u8]) -> Result<bool, Memory>
-        requires settled { IsSettled self.old.topic }
-        requires scratch { 16777242 ≤ length scratch.old }
-        ensures settled_now { IsSettled self.new.topic }
-    {
-        let letters = self.letters(alloc)?;
-        match undo(alloc, &mut self.topic, &mut self.folder, scratch, &letters)? {
+    fn undo(&mut self, alloc: Global, scratch: &mut Scratch) -> Result<bool, Memory> {
+        let letters = self.letters();
+        let answer = self.bench.take(alloc, scratch, letters, false)?;
+        self.draws(answer)
+    }
+
+    // Whether a message that isn't kept is drawn as the list says: none is where one is taken.
+    fn draws(&self, answer: Option<Head>) -> Result<bool, Memory> {
+        let waits = !self.plain.waiting.is_empty();
+        match answer {
             None => Ok(self.plain.taken.is_some()),
-            Some(Head::Ready) => Ok(!self.plain.waiting.is_empty()),
-            Some(Head::Empty) => Ok(self.plain.waiting.is_empty()),
-            Some(Head::Fault) => Ok(self.fails && !self.plain.waiting.is_empty()),
+            Some(Head::Ready) => Ok(waits),
+            Some(Head::Empty) => Ok(!waits),
+            Some(Head::Fault) => Ok(self.fails && waits),
             Some(Head::Damaged) => Ok(false),
             Some(Head::Memory) => Err(Memory),
         }
     }
 
     // A channel is paid, where it is owed a copy.
-    fn pay(&mut self) -> bool
-        requires settled { IsSettled self.old.topic }
-        ensures settled_now { IsSettled self.new.topic }
-    {
+    fn pay(&mut self) -> bool {
         let letter = self.letter();
         let owed = self.plain.owed.contains(&letter);
         if owed {
             self.plain.pay(letter);
         }
-        pay(&mut self.topic, letter) == owed
+        self.bench.pay(letter) == owed
     }
 
     // A channel is gone.
-    fn forget(&mut self) -> bool
-        requires settled { IsSettled self.old.topic }
-        ensures settled_now { IsSettled self.new.topic }
-    {
+    fn forget(&mut self) -> bool {
         let letter = self.letter();
         self.plain.pay(letter);
-        forget(&mut self.topic, letter)
+        self.bench.forget(letter)
     }
 
-    fn empty(&mut self) -> bool
-        requires settled { IsSettled self.old.topic }
-        ensures settled_now { IsSettled self.new.topic }
-    {
-        match self.topic.empty(&mut self.folder) {
+    fn empty(&mut self) -> bool {
+        match self.bench.empty() {
             Emptied::Done => {
                 self.plain.waiting.clear();
                 true
@@ -219,16 +187,12 @@ impl Pair {
     }
 
     // A durable topic is flushed and opened again. Where that fails it is tried again.
-    fn restart(&mut self, alloc: Global, scratch: &mut [u8]) -> Result<bool, Memory>
-        requires settled { IsSettled self.old.topic }
-        requires scratch { 16777242 ≤ length scratch.old }
-        ensures settled_now { IsSettled self.new.topic }
-    {
-        if self.topic.name().ephemeral() {
+    fn restart(&mut self, alloc: Global, scratch: &mut Scratch) -> Result<bool, Memory> {
+        if self.bench.topic.name().ephemeral() {
             return Ok(true);
         }
         for _ in 0..100 {
-            match self.topic.flush(&mut self.folder, scratch) {
+            match self.bench.flush(scratch) {
                 Flushed::Done => return self.reopen(alloc),
                 Flushed::Fault => {}
             }
@@ -236,12 +200,9 @@ impl Pair {
         Ok(false)
     }
 
-    fn reopen(&mut self, alloc: Global) -> Result<bool, Memory>
-        requires settled { IsSettled self.old.topic }
-        ensures settled_now { IsSettled self.new.topic }
-    {
+    fn reopen(&mut self, alloc: Global) -> Result<bool, Memory> {
         for _ in 0..100 {
-            if open(alloc, &mut self.topic, &mut self.folder, &self.options)? {
+            if is_opened(alloc, &mut self.bench)? {
                 self.plain.restart()?;
                 return Ok(true);
             }
@@ -250,9 +211,7 @@ impl Pair {
     }
 
     // One of the channels.
-    fn letter(&mut self) -> u8
-        ensures topic { self.new.topic ≡ self.old.topic }
-    {
+    fn letter(&mut self) -> u8 {
         match self.below(3) {
             0 => b'a',
             1 => b'b',
@@ -261,10 +220,8 @@ impl Pair {
     }
 
     // Some of the channels, at least one.
-    fn letters(&mut self, alloc: Global) -> Result<Vec<u8>, Memory>
-        ensures topic { self.new.topic ≡ self.old.topic }
-    {
-        let letters: &[u8] = match self.below(7) {
+    fn letters(&mut self) -> &'static [u8] {
+        match self.below(7) {
             0 => b"a",
             1 => b"b",
             2 => b"c",
@@ -272,93 +229,28 @@ impl Pair {
             4 => b"ac",
             5 => b"bc",
             _ => b"abc",
-        };
-        Ok(letters.to_vec(alloc)?)
+        }
     }
 
     // Whether the topic's queue shows what the list says.
     fn agrees(&self) -> bool {
-        let depths = self.topic.depths();
+        let depths = self.bench.topic.depths();
         let waiting = self.plain.waiting.len() as u128;
         depths.disk.checked_add(depths.ring as u128) == Some(waiting)
-            && self.topic.message_count() == self.plain.count
-            && head_of(&self.topic) == self.plain.taken
-            && owed_are(self.topic.owed(), &self.plain.owed)
+            && self.bench.topic.message_count() == self.plain.count
+            && self.bench.head() == self.plain.taken
+            && self.bench.owes(&self.plain.owed)
     }
-}
-
-// Whether these are the channels of these letters.
-fn owed_are(owed: &[Chan], letters: &[u8]) -> bool {
-    if owed.len() != letters.len() {
-        return false;
-    }
-    for (channel, letter) in owed.iter().zip(letters) {
-        if channel.bytes() != [*letter].as_slice() {
-            return false;
-        }
-    }
-    true
-}
-
-fn delay_of(number: u64) -> u64 {
-    number % 3
-}
-
-fn message(alloc: Global, number: u64) -> Result<Message, Memory>
-    ensures { IfOk result (λ m. length m.body ≡ 8) }
-{
-    Ok(Message {
-        stamp: 7,
-        attempts: 0,
-        id: MsgId::make(1, number % 1_000_000),
-        body: Body::copy(alloc, &number.to_be_bytes())?,
-        delay: delay_of(number),
-    })
-}
-
-// So many messages, from that number on.
-fn messages_of(alloc: Global, first: u64, count: u64) -> Result<Vec<Message>, Memory>
-    ensures { IfOk result (λ messages. All FitsLimit messages.items) }
-{
-    let mut messages = Vec::new(alloc);
-    for i in 0..count {
-        messages.push(message(alloc, first.wrapping_add(i))?)?;
-    }
-    Ok(messages)
-}
-
-// The number and the delay of the head.
-fn head_of(topic: &TopicQueue) -> Option<(u64, u64)> {
-    let message = topic.head()?;
-    let Some((number, [])) = message.body.bytes().split_first_chunk::<8>() else {
-        return None;
-    };
-    let number = u64::from_be_bytes(*number);
-    if message.stamp != 7
-        || message.attempts != 0
-        || message.id != MsgId::make(1, number % 1_000_000)
-    {
-        return None;
-    }
-    Some((number, message.delay))
 }
 
 // Whether all random calls of a run answer and show what the list says.
-fn holds(alloc: Global, scratch: &mut [u8], run: &Run) -> Result<bool, Memory>
-    requires { 16777242 ≤ length scratch.old }
-{
-    let fails = run.fails.to_vec(alloc)?;
+fn holds(alloc: Global, scratch: &mut Scratch, run: &Run) -> Result<bool, Memory> {
     let Some(name) = Topic::read(run.topic) else {
         return Ok(false);
     };
-    let mut options = Options::defaults(alloc)?;
-    options.mem_queue_size = run.memory;
-    let topic = TopicQueue::fresh(alloc, name, &options)?;
     let mut pair = Pair {
-        topic,
+        bench: Bench::new(alloc, name, run.memory, run.fails)?,
         plain: Plain::new(alloc, name.ephemeral(), run.memory as usize),
-        folder: MemFolder::new(alloc, Vec::new(alloc), fails)?,
-        options,
         fails: !run.fails.is_empty(),
         next: 0,
         state: run.seed,
@@ -371,13 +263,12 @@ fn holds(alloc: Global, scratch: &mut [u8], run: &Run) -> Result<bool, Memory>
     Ok(true)
 }
 
-#[test]
-fn runs(rt: HostRuntime) -> Result<(), Fail> {
-    let alloc = rt.alloc();
-    let mut scratch = scratch(alloc)?;
+/// The name of the first run that doesn't hold.
+pub fn wrong(alloc: Global, scratch: &mut Scratch) -> Result<Option<&'static str>, Memory> {
     for run in &RUNS {
-        let holds = holds(alloc, &mut scratch, run)?;
-        assert!(rt; holds, "{}", run.name);
+        if !holds(alloc, scratch, run)? {
+            return Ok(Some(run.name));
+        }
     }
-    Ok(())
+    Ok(None)
 }

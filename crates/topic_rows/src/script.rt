@@ -1,17 +1,12 @@
 //! Scripts of calls: what each answers, which message is the head, who is owed a copy of it, and what is left on disk.
 
-ghost use Rattle.std.specs.Prelude.{◌≡◌, ◌≢◌, ◌≤◌, All, length, IfOk, OnOk, None, true};
-ghost use Rattle.backlog.specs.Seen.{FitsLimit};
-ghost use Rattle.topic_core.specs.Seen.{IsSettled};
-
+use crate::bench::{Bench, Scratch};
 use backlog::{Depths, Flushed, PutAll};
 use disk_queue::{Emptied, Open, Sync};
-use nsq_base::{Body, Chan, Memory, MsgId, Options, Topic};
-use nsq_fakes::{Failing, FolderCall, MemFolder};
+use nsq_base::{Memory, Topic};
+use nsq_fakes::{Failing, FolderCall};
 use std::alloc::Global;
-use std::test::Fail;
-use topic_core::{DropTopic, Head, TopicQueue};
-use v2_frame::Message;
+use topic_core::Head;
 
 // A topic in an empty folder, and calls of it.
 struct Script {
@@ -24,7 +19,7 @@ struct Script {
     steps: &'static [Step],
 }
 
-// A message's body is a letter. It is held back for 5 nanoseconds, unless it lay on disk. A channel's name is a letter too.
+// A message's number is a letter, and its delay is that of the number, unless it lay on disk. A channel's name is a letter too.
 #[derive(Clone, Copy)]
 enum Step {
     // These are put together; and how many are left with the caller.
@@ -65,7 +60,7 @@ const WRITE_FAILS: Failing = Failing {
 };
 
 // Taking and paying.
-const TAKING: [Script; 3] = [
+static TAKING: [Script; 3] = [
     Script {
         name: "a message is taken and paid in any order",
         topic: b"t",
@@ -75,18 +70,18 @@ const TAKING: [Script; 3] = [
             Step::Take(b"a", Head::Empty),
             Step::Put(b"xy", PutAll::Done, 0),
             Step::Take(b"abc", Head::Ready),
-            Step::Is(Some((b'x', 5))),
+            Step::Is(Some((b'x', 3))),
             Step::Owes(b"abc"),
             Step::Waits(1, 0),
             Step::Pay(b'b'),
             Step::Owes(b"ac"),
             Step::Pay(b'c'),
-            Step::Is(Some((b'x', 5))),
+            Step::Is(Some((b'x', 3))),
             Step::Pay(b'a'),
             Step::Is(None),
             Step::Owes(b""),
             Step::Take(b"c", Head::Ready),
-            Step::Is(Some((b'y', 5))),
+            Step::Is(Some((b'y', 4))),
             Step::Pay(b'c'),
             Step::Take(b"c", Head::Empty),
             Step::Counts(2),
@@ -106,7 +101,7 @@ const TAKING: [Script; 3] = [
             Step::Forget(b'z'),
             Step::Owes(b"bc"),
             Step::Pay(b'c'),
-            Step::Is(Some((b'x', 5))),
+            Step::Is(Some((b'x', 3))),
             Step::Forget(b'b'),
             Step::Is(None),
         ],
@@ -124,7 +119,7 @@ const TAKING: [Script; 3] = [
             Step::Owes(b""),
             Step::Waits(1, 1),
             Step::Take(b"a", Head::Ready),
-            Step::Is(Some((b'x', 5))),
+            Step::Is(Some((b'x', 3))),
             Step::Pay(b'a'),
             Step::Undo(b"ab", Head::Ready),
             Step::Waits(0, 1),
@@ -135,7 +130,7 @@ const TAKING: [Script; 3] = [
 ];
 
 // What a fault and an emptying leave.
-const FAILING: [Script; 3] = [
+static FAILING: [Script; 3] = [
     Script {
         name: "a fault of the disk takes no message",
         topic: b"t",
@@ -169,7 +164,7 @@ const FAILING: [Script; 3] = [
             Step::Waits(0, 2),
             Step::Empty(Emptied::Done),
             Step::Waits(0, 0),
-            Step::Is(Some((b'x', 5))),
+            Step::Is(Some((b'x', 3))),
             Step::Owes(b"ab"),
             Step::Pay(b'a'),
             Step::Pay(b'b'),
@@ -198,7 +193,7 @@ const FAILING: [Script; 3] = [
 ];
 
 // Topics without memory, and ephemeral ones.
-const BOUNDS: [Script; 3] = [
+static BOUNDS: [Script; 3] = [
     Script {
         name: "without memory all go by the disk",
         topic: b"t",
@@ -233,13 +228,13 @@ const BOUNDS: [Script; 3] = [
             Step::Counts(3),
             Step::Sync(Sync::NotDue),
             Step::Flush(Flushed::Done),
-            Step::Is(Some((b'x', 5))),
+            Step::Is(Some((b'x', 3))),
             Step::Pay(b'a'),
             Step::Take(b"a", Head::Ready),
-            Step::Is(Some((b'y', 5))),
+            Step::Is(Some((b'y', 4))),
             Step::Pay(b'a'),
             Step::Take(b"a", Head::Ready),
-            Step::Is(Some((b'v', 5))),
+            Step::Is(Some((b'v', 1))),
             Step::Absent("t#ephemeral.diskqueue.meta.dat"),
             Step::Open,
             Step::Waits(0, 0),
@@ -259,7 +254,7 @@ const BOUNDS: [Script; 3] = [
 ];
 
 // What a stop and a deletion leave.
-const STOPPING: [Script; 4] = [
+static STOPPING: [Script; 4] = [
     Script {
         name: "a stop writes the head back",
         topic: b"t",
@@ -336,270 +331,95 @@ const STOPPING: [Script; 4] = [
 ];
 
 // Whether each step answers what it says.
-fn holds(alloc: Global, scratch: &mut [u8], script: &Script) -> Result<bool, Memory>
-    requires { 16777242 ≤ length scratch.old }
-{
-    let fails = script.fails.to_vec(alloc)?;
-    let mut folder = MemFolder::new(alloc, Vec::new(alloc), fails)?;
+fn holds(alloc: Global, scratch: &mut Scratch, script: &Script) -> Result<bool, Memory> {
     let Some(name) = Topic::read(script.topic) else {
         return Ok(false);
     };
-    let mut options = Options::defaults(alloc)?;
-    options.mem_queue_size = script.memory;
-    let mut topic = TopicQueue::fresh(alloc, name, &options)?;
+    let mut bench = Bench::new(alloc, name, script.memory, script.fails)?;
     for step in script.steps {
-        if !step_holds(alloc, &mut topic, &mut folder, scratch, &options, *step)? {
+        if !step_holds(alloc, &mut bench, scratch, *step)? {
             return Ok(false);
         }
     }
-    Ok(topic.name() == name)
+    Ok(bench.topic.name() == name)
 }
 
 // Whether a step answers what it says.
 fn step_holds(
     alloc: Global,
-    topic: &mut TopicQueue,
-    folder: &mut MemFolder,
-    scratch: &mut [u8],
-    options: &Options,
+    bench: &mut Bench,
+    scratch: &mut Scratch,
     step: Step,
-) -> Result<bool, Memory>
-    requires settled { IsSettled topic.old }
-    requires scratch { 16777242 ≤ length scratch.old }
-    ensures settled_now { OnOk result (IsSettled topic.new) }
-{
+) -> Result<bool, Memory> {
     match step {
         Step::Put(letters, answer, left) => {
-            Ok(put(alloc, topic, folder, scratch, letters)? == (answer, left))
+            let numbers = numbers_of(alloc, letters)?;
+            Ok(bench.put(alloc, scratch, &numbers)? == (answer, left))
         }
         Step::Take(channels, answer) => {
-            Ok(take(alloc, topic, folder, scratch, channels)? == Some(answer))
+            Ok(bench.take(alloc, scratch, channels, true)? == Some(answer))
         }
         Step::Undo(channels, answer) => {
-            Ok(undo(alloc, topic, folder, scratch, channels)? == Some(answer))
+            Ok(bench.take(alloc, scratch, channels, false)? == Some(answer))
         }
-        Step::Is(told) => Ok(head(topic) == told),
-        Step::Owes(channels) => Ok(topic.owed() == channels_of(alloc, channels)?.as_slice()),
-        Step::Pay(channel) => Ok(pay(topic, channel)),
-        Step::Forget(channel) => Ok(forget(topic, channel)),
-        Step::Waits(ring, disk) => Ok(topic.depths() == Depths { ring, disk }),
-        Step::Counts(count) => Ok(topic.message_count() == count),
+        Step::Is(told) => Ok(is_head(bench, told)),
+        Step::Owes(channels) => Ok(bench.owes(channels)),
+        Step::Pay(channel) => Ok(bench.pay(channel)),
+        Step::Forget(channel) => Ok(bench.forget(channel)),
+        Step::Waits(ring, disk) => Ok(bench.topic.depths() == Depths { ring, disk }),
+        Step::Counts(count) => Ok(bench.topic.message_count() == count),
         Step::Pause(on) => {
-            topic.pause(on);
+            bench.topic.pause(on);
             Ok(true)
         }
-        Step::IsPaused(on) => Ok(topic.is_paused() == on),
-        Step::Empty(answer) => Ok(topic.empty(folder) == answer),
-        Step::Sync(answer) => Ok(topic.sync(folder) == answer),
-        Step::Flush(answer) => Ok(topic.flush(folder, scratch) == answer),
-        Step::Open => open(alloc, topic, folder, options),
-        Step::Delete => delete(alloc, topic, folder, options),
-        Step::Absent(name) => Ok(folder.file(name).is_none()),
+        Step::IsPaused(on) => Ok(bench.topic.is_paused() == on),
+        Step::Empty(answer) => Ok(bench.empty() == answer),
+        Step::Sync(answer) => Ok(bench.sync() == answer),
+        Step::Flush(answer) => Ok(bench.flush(scratch) == answer),
+        Step::Open => is_opened(alloc, bench),
+        Step::Delete => bench.delete(alloc),
+        Step::Absent(name) => Ok(bench.folder.file(name).is_none()),
     }
 }
 
-fn message(alloc: Global, letter: u8) -> Result<Message, Memory>
-    ensures { IfOk result (λ m. length m.body ≡ 1) }
-{
-    Ok(Message {
-        stamp: 7,
-        attempts: 0,
-        id: MsgId::make(1, 2),
-        body: Body::copy(alloc, &[letter])?,
-        delay: 5,
-    })
-}
-
-pub fn all_of(alloc: Global, letters: &[u8]) -> Result<Vec<Message>, Memory>
-    ensures { IfOk result (λ messages. All FitsLimit messages.items) }
-{
-    let mut messages = Vec::new(alloc);
-    for letter in letters {
-        messages.push(message(alloc, *letter)?)?;
-    }
-    Ok(messages)
-}
-
-fn channels_of(alloc: Global, letters: &[u8]) -> Result<Vec<Chan>, Memory> {
-    let mut channels = Vec::new(alloc);
-    for letter in letters {
-        if let Some(channel) = Chan::read(&[*letter]) {
-            channels.push(channel)?;
+// Whether the head has this letter and this delay.
+fn is_head(bench: &Bench, told: Option<(u8, u64)>) -> bool {
+    match (bench.head(), told) {
+        (Some((number, delay)), Some((letter, wanted))) => {
+            number == u64::from(letter) && delay == wanted
         }
-    }
-    Ok(channels)
-}
-
-// The answer, and how many are left.
-fn put(
-    alloc: Global,
-    topic: &mut TopicQueue,
-    folder: &mut MemFolder,
-    scratch: &mut [u8],
-    letters: &[u8],
-) -> Result<(PutAll, usize), Memory>
-    requires settled { IsSettled topic.old }
-    requires scratch { 16777242 ≤ length scratch.old }
-    ensures settled_now { IsSettled topic.new }
-{
-    let mut messages = all_of(alloc, letters)?;
-    let answer = topic.put_all(folder, scratch, &mut messages);
-    Ok((answer, messages.len()))
-}
-
-// The answer, where no message is taken.
-pub fn take(
-    alloc: Global,
-    topic: &mut TopicQueue,
-    folder: &mut MemFolder,
-    scratch: &mut [u8],
-    letters: &[u8],
-) -> Result<Option<Head>, Memory>
-    requires settled { IsSettled topic.old }
-    requires scratch { 16777242 ≤ length scratch.old }
-    ensures settled_now { IsSettled topic.new }
-{
-    let channels = channels_of(alloc, letters)?;
-    if channels.is_empty() || topic.head().is_some() {
-        return Ok(None);
-    }
-    let answer = topic.take_head(folder, scratch, &channels);
-    match answer {
-        Head::Ready => topic.settle_head(folder),
-        Head::Empty | Head::Fault | Head::Damaged | Head::Memory => {}
-    }
-    Ok(Some(answer))
-}
-
-pub fn undo(
-    alloc: Global,
-    topic: &mut TopicQueue,
-    folder: &mut MemFolder,
-    scratch: &mut [u8],
-    letters: &[u8],
-) -> Result<Option<Head>, Memory>
-    requires settled { IsSettled topic.old }
-    requires scratch { 16777242 ≤ length scratch.old }
-    ensures settled_now { IsSettled topic.new }
-{
-    let channels = channels_of(alloc, letters)?;
-    if channels.is_empty() || topic.head().is_some() {
-        return Ok(None);
-    }
-    let answer = topic.take_head(folder, scratch, &channels);
-    match answer {
-        Head::Ready => topic.undo_head(),
-        Head::Empty | Head::Fault | Head::Damaged | Head::Memory => {}
-    }
-    Ok(Some(answer))
-}
-
-// The head's letter and delay.
-fn head(topic: &TopicQueue) -> Option<(u8, u64)> {
-    let message = topic.head()?;
-    match message.body.bytes() {
-        [letter] if message.stamp == 7 && message.attempts == 0 => Some((*letter, message.delay)),
-        _ => None,
+        (None, None) => true,
+        (Some(_), None) | (None, Some(_)) => false,
     }
 }
 
-// Whether the channel was owed a copy. Then it is paid.
-pub fn pay(topic: &mut TopicQueue, letter: u8) -> bool
-    requires settled { IsSettled topic.old }
-    ensures settled_now { IsSettled topic.new }
-{
-    let Some(channel) = Chan::read(&[letter]) else {
-        return false;
-    };
-    if !topic.owed().contains(&channel) {
-        return false;
-    }
-    topic.paid(channel);
-    true
-}
-
-pub fn forget(topic: &mut TopicQueue, letter: u8) -> bool
-    requires settled { IsSettled topic.old }
-    ensures settled_now { IsSettled topic.new }
-{
-    let Some(channel) = Chan::read(&[letter]) else {
-        return false;
-    };
-    topic.forget_channel(channel);
-    true
-}
-
-pub fn open(
-    alloc: Global,
-    topic: &mut TopicQueue,
-    folder: &mut MemFolder,
-    options: &Options,
-) -> Result<bool, Memory>
-    requires settled { IsSettled topic.old }
-    ensures settled_now { IsSettled topic.new }
-{
-    match TopicQueue::open(alloc, folder, topic.name(), options) {
-        Ok(opened) => {
-            *topic = opened;
-            Ok(true)
-        }
+/// Whether a topic of the same name is opened in the folder.
+pub fn is_opened(alloc: Global, bench: &mut Bench) -> Result<bool, Memory> {
+    match bench.open(alloc) {
+        Ok(()) => Ok(true),
         Err(Open::Memory) => Err(Memory),
         Err(Open::Fault | Open::BadMeta) => Ok(false),
     }
 }
 
-fn delete(
-    alloc: Global,
-    topic: &mut TopicQueue,
-    folder: &mut MemFolder,
-    options: &Options,
-) -> Result<bool, Memory>
-    requires settled { IsSettled topic.old }
-    ensures settled_now { IsSettled topic.new }
-{
-    let fresh = TopicQueue::fresh(alloc, topic.name(), options)?;
-    let old = std::mem::replace(topic, fresh);
-    Ok(match old.delete(folder) {
-        DropTopic::Done => true,
-        DropTopic::Fault(_topic) => false,
-    })
+// The letters' numbers.
+fn numbers_of(alloc: Global, letters: &[u8]) -> Result<Vec<u64>, Memory> {
+    let mut numbers = Vec::new(alloc);
+    for letter in letters {
+        numbers.push(u64::from(*letter))?;
+    }
+    Ok(numbers)
 }
 
-// Room for the longest message.
-pub fn scratch(alloc: Global) -> Result<Vec<u8>, Memory>
-    ensures { IfOk result (λ bytes. length bytes.items ≡ 16777242) }
-{
-    Ok(vec![in alloc; 0; 16_777_242]?)
-}
-
-// The name of the first row that doesn't hold.
-fn first_wrong(
-    alloc: Global,
-    scratch: &mut [u8],
-    rows: &[Script],
-) -> Result<Option<&'static str>, Memory>
-    requires { 16777242 ≤ length scratch.old }
-{
-    for row in rows {
-        if !holds(alloc, scratch, row)? {
-            return Ok(Some(row.name));
+/// The name of the first row that doesn't hold.
+pub fn wrong(alloc: Global, scratch: &mut Scratch) -> Result<Option<&'static str>, Memory> {
+    let tables: [&'static [Script]; 4] = [&TAKING, &FAILING, &BOUNDS, &STOPPING];
+    for table in tables {
+        for row in table {
+            if !holds(alloc, scratch, row)? {
+                return Ok(Some(row.name));
+            }
         }
     }
     Ok(None)
-}
-
-#[test]
-fn rows(rt: HostRuntime) -> Result<(), Fail> {
-    let alloc = rt.alloc();
-    let mut scratch = scratch(alloc)?;
-    for rows in [
-        TAKING.as_slice(),
-        FAILING.as_slice(),
-        BOUNDS.as_slice(),
-        STOPPING.as_slice(),
-    ] {
-        let wrong = first_wrong(alloc, &mut scratch, rows)?;
-        assert!(rt; wrong.is_none(), "{}", wrong.unwrap_or(""));
-    }
-    Ok(())
 }

@@ -3,17 +3,14 @@
 //! Each call that may want memory is looked at and made once more, and so is each that the folder in memory refuses, which wants some to
 //! keep its calls. So the rows hold too where one allocation fails, whichever it is: `rt try --test --fail-alloc N`.
 
-ghost use Rattle.std.specs.Prelude.{◌≡◌, ◌≤◌, length, IfOk};
-ghost use Rattle.topic_core.specs.Seen.{IsSettled};
-
-use crate::script::{all_of, scratch, take};
+use crate::bench::{Bench, Scratch};
 use backlog::{Depths, Flushed, PutAll};
 use disk_queue::Open;
-use nsq_base::{Memory, Options, Topic};
+use nsq_base::{Memory, Topic};
 use nsq_fakes::MemFolder;
 use std::alloc::Global;
 use std::test::Fail;
-use topic_core::{Head, TopicQueue};
+use topic_core::Head;
 
 // A topic in an empty folder, into which two messages are put, of which the first is taken.
 struct Row {
@@ -27,7 +24,7 @@ struct Row {
     left: u128,
 }
 
-const ROWS: [Row; 3] = [
+static ROWS: [Row; 3] = [
     Row {
         name: "messages in memory",
         topic: b"t",
@@ -54,78 +51,38 @@ const ROWS: [Row; 3] = [
 // More messages than any memory has room for.
 const BEYOND: u64 = 1 << 57;
 
-// What a topic's queue shows.
-#[derive(Clone, Copy, PartialEq, Eq)]
-struct Shown {
-    depths: Depths,
-    count: u64,
-    head: bool,
-    owed: usize,
-}
-
-fn shows(topic: &TopicQueue) -> Shown {
-    Shown {
-        depths: topic.depths(),
-        count: topic.message_count(),
-        head: topic.head().is_some(),
-        owed: topic.owed().len(),
-    }
-}
-
 // Whether the messages are put. Where that fails they are all left, and all is as before.
-fn puts(
-    alloc: Global,
-    topic: &mut TopicQueue,
-    folder: &mut MemFolder,
-    scratch: &mut [u8],
-) -> Result<bool, Memory>
-    requires settled { IsSettled topic.old }
-    requires scratch { 16777242 ≤ length scratch.old }
-    ensures settled_now { IsSettled topic.new }
-{
-    let mut messages = all_of(alloc, b"xy")?;
-    let before = shows(topic);
-    match topic.put_all(folder, scratch, &mut messages) {
-        PutAll::Done => return Ok(messages.is_empty()),
-        PutAll::Fault => {}
+fn puts(alloc: Global, bench: &mut Bench, scratch: &mut Scratch) -> Result<bool, Memory> {
+    let before = bench.shows();
+    let (answer, left) = bench.put(alloc, scratch, &[1, 2])?;
+    if answer == PutAll::Done {
+        return Ok(left == 0);
     }
-    if messages.len() != 2 || shows(topic) != before {
+    if left != 2 || bench.shows() != before {
         return Ok(false);
     }
-    Ok(topic.put_all(folder, scratch, &mut messages) == PutAll::Done)
+    Ok(bench.put(alloc, scratch, &[1, 2])? == (PutAll::Done, 0))
 }
 
 // Whether the first message is taken. Where that fails all is as before.
-fn takes(
-    alloc: Global,
-    topic: &mut TopicQueue,
-    folder: &mut MemFolder,
-    scratch: &mut [u8],
-) -> Result<bool, Memory>
-    requires settled { IsSettled topic.old }
-    requires scratch { 16777242 ≤ length scratch.old }
-    ensures settled_now { IsSettled topic.new }
-{
-    let before = shows(topic);
-    match take(alloc, topic, folder, scratch, b"ab")? {
+fn takes(alloc: Global, bench: &mut Bench, scratch: &mut Scratch) -> Result<bool, Memory> {
+    let before = bench.shows();
+    match bench.take(alloc, scratch, b"ab", true)? {
         Some(Head::Ready) => return Ok(true),
         Some(Head::Memory | Head::Fault) => {}
         Some(Head::Empty | Head::Damaged) | None => return Ok(false),
     }
-    if shows(topic) != before {
+    if bench.shows() != before {
         return Ok(false);
     }
-    Ok(take(alloc, topic, folder, scratch, b"ab")? == Some(Head::Ready))
+    Ok(bench.take(alloc, scratch, b"ab", true)? == Some(Head::Ready))
 }
 
 // Whether all is written.
-fn flushes(topic: &mut TopicQueue, folder: &mut MemFolder, scratch: &mut [u8]) -> bool
-    requires settled { IsSettled topic.old }
-    requires scratch { 16777242 ≤ length scratch.old }
-{
-    match topic.flush(folder, scratch) {
+fn flushes(bench: &mut Bench, scratch: &mut Scratch) -> bool {
+    match bench.flush(scratch) {
         Flushed::Done => true,
-        Flushed::Fault => topic.flush(folder, scratch) == Flushed::Done,
+        Flushed::Fault => bench.flush(scratch) == Flushed::Done,
     }
 }
 
@@ -139,109 +96,87 @@ fn image(alloc: Global, folder: &MemFolder) -> Result<Vec<u8>, Memory> {
 }
 
 // Whether a ring that no memory has room for is refused, and the files are as they were.
-fn is_refused(alloc: Global, folder: &mut MemFolder, name: Topic) -> Result<bool, Memory> {
-    let mut options = Options::defaults(alloc)?;
-    options.mem_queue_size = BEYOND;
-    let before = image(alloc, folder)?;
-    if TopicQueue::fresh(alloc, name, &options).is_ok() {
+fn is_refused(alloc: Global, bench: &mut Bench) -> Result<bool, Memory> {
+    if Bench::new(alloc, bench.topic.name(), BEYOND, &[]).is_ok() {
         return Ok(false);
     }
-    match TopicQueue::open(alloc, folder, name, &options) {
-        Err(Open::Memory) => Ok(image(alloc, folder)?.as_slice() == before.as_slice()),
-        Err(Open::Fault | Open::BadMeta) | Ok(_) => Ok(false),
+    let before = image(alloc, &bench.folder)?;
+    let memory = bench.options.mem_queue_size;
+    bench.options.mem_queue_size = BEYOND;
+    let opened = bench.open(alloc);
+    bench.options.mem_queue_size = memory;
+    match opened {
+        Err(Open::Memory) => Ok(image(alloc, &bench.folder)?.as_slice() == before.as_slice()),
+        Err(Open::Fault | Open::BadMeta) | Ok(()) => Ok(false),
     }
 }
 
 // Whether an opening finds so many messages. Where memory was wanting the files are as they were.
-fn reopens(
-    alloc: Global,
-    folder: &mut MemFolder,
-    name: Topic,
-    options: &Options,
-    left: u128,
-) -> Result<bool, Memory> {
-    let before = image(alloc, folder)?;
-    match TopicQueue::open(alloc, folder, name, options) {
-        Ok(topic) => return Ok(
-            topic.depths()
-                == Depths {
-                    ring: 0,
-                    disk: left,
-                },
-        ),
+fn reopens(alloc: Global, bench: &mut Bench, left: u128) -> Result<bool, Memory> {
+    let before = image(alloc, &bench.folder)?;
+    match bench.open(alloc) {
+        Ok(()) => return Ok(has_on_disk(bench, left)),
         Err(Open::Memory) => {
-            if image(alloc, folder)?.as_slice() != before.as_slice() {
+            if image(alloc, &bench.folder)?.as_slice() != before.as_slice() {
                 return Ok(false);
             }
         }
         Err(Open::Fault) => {}
         Err(Open::BadMeta) => return Ok(false),
     }
-    match TopicQueue::open(alloc, folder, name, options) {
-        Ok(topic) => Ok(
-            topic.depths()
-                == Depths {
-                    ring: 0,
-                    disk: left,
-                },
-        ),
-        Err(_) => Ok(false),
-    }
+    Ok(bench.open(alloc).is_ok() && has_on_disk(bench, left))
+}
+
+// Whether so many messages wait, all of them on disk.
+fn has_on_disk(bench: &Bench, left: u128) -> bool {
+    bench.topic.depths()
+        == Depths {
+            ring: 0,
+            disk: left,
+        }
 }
 
 // Whether each call of this row's topic succeeds, at once or where it is made once more.
-fn holds(alloc: Global, scratch: &mut [u8], row: &Row) -> Result<bool, Memory>
-    requires { 16777242 ≤ length scratch.old }
-{
+fn holds(alloc: Global, scratch: &mut Scratch, row: &Row) -> Result<bool, Memory> {
     let Some(name) = Topic::read(row.topic) else {
         return Ok(false);
     };
-    let mut folder = MemFolder::new(alloc, Vec::new(alloc), Vec::new(alloc))?;
-    let mut options = Options::defaults(alloc)?;
-    options.mem_queue_size = row.memory;
-    let mut topic = TopicQueue::fresh(alloc, name, &options)?;
-    if !puts(alloc, &mut topic, &mut folder, scratch)? || topic.depths() != row.waits {
+    let mut bench = Bench::new(alloc, name, row.memory, &[])?;
+    if !puts(alloc, &mut bench, scratch)? || bench.topic.depths() != row.waits {
         return Ok(false);
     }
-    if !takes(alloc, &mut topic, &mut folder, scratch)? {
+    if !takes(alloc, &mut bench, scratch)? || !flushes(&mut bench, scratch) {
         return Ok(false);
     }
-    if !flushes(&mut topic, &mut folder, scratch) {
-        return Ok(false);
-    }
-    Ok(
-        is_refused(alloc, &mut folder, name)?
-            && reopens(alloc, &mut folder, name, &options, row.left)?,
-    )
+    Ok(is_refused(alloc, &mut bench)? && reopens(alloc, &mut bench, row.left)?)
 }
 
-// Room for the longest message.
-fn room(alloc: Global) -> Result<Vec<u8>, Memory>
-    ensures { IfOk result (λ bytes. length bytes.items ≡ 16777242) }
-{
-    match scratch(alloc) {
-        Ok(bytes) => Ok(bytes),
-        Err(Memory) => scratch(alloc),
+// The name of the first row that doesn't hold. One that ends for want of memory begins once more.
+fn wrong(alloc: Global, scratch: &mut Scratch) -> Result<Option<&'static str>, Memory> {
+    for row in &ROWS {
+        let holds = match holds(alloc, scratch, row) {
+            Ok(holds) => holds,
+            Err(Memory) => holds(alloc, scratch, row)?,
+        };
+        if !holds {
+            return Ok(Some(row.name));
+        }
     }
+    Ok(None)
 }
 
-// Whether a row holds. One that ends for want of memory begins once more.
-fn holds_at_last(alloc: Global, scratch: &mut [u8], row: &Row) -> Result<bool, Memory>
-    requires { 16777242 ≤ length scratch.old }
-{
-    match holds(alloc, scratch, row) {
-        Ok(holds) => Ok(holds),
-        Err(Memory) => holds(alloc, scratch, row),
+// Room for the longest message. Where memory was wanting it is made once more.
+fn room(alloc: Global) -> Result<Scratch, Memory> {
+    match Scratch::new(alloc) {
+        Ok(scratch) => Ok(scratch),
+        Err(Memory) => Scratch::new(alloc),
     }
 }
 
 #[test]
 fn rows(rt: HostRuntime) -> Result<(), Fail> {
     let alloc = rt.alloc();
-    let mut scratch = room(alloc)?;
-    for row in &ROWS {
-        let holds = holds_at_last(alloc, &mut scratch, row)?;
-        assert!(rt; holds, "{}", row.name);
-    }
+    let wrong = wrong(alloc, &mut room(alloc)?)?;
+    assert!(rt; wrong.is_none(), "{}", wrong.unwrap_or(""));
     Ok(())
 }

@@ -1,0 +1,62 @@
+-- A hall, a topic and a channel as they are made.
+use Rattle.std.specs.Prelude.{◌≡◌, ◌+◌, ℕ, ◌^◌, ◌||◌, Bool, true, false, not, min, List, [], Some, None}
+use Rattle.nsq_base.specs.Name.{IsName, is_ephemeral}
+use Rattle.nsq_base.specs.declared.options.Options.{Options}
+use Rattle.nsq_outside.specs.Files.{Files}
+use Rattle.queue_image.specs.FileNames.{meta_file}
+use Rattle.queue_image.specs.Metas.{IsIdle}
+use Rattle.broker_history.specs.State.{State}
+use Rattle.topic_core.specs.Seen.{fresh_topic}
+use Rattle.channel_core.specs.Made.{IsFresh}
+use Rattle.channel_core.specs.Seen.{queue_name}
+use Rattle.floor_rooms.specs.declared.stall.Stall.{Stall}
+use Rattle.floor_rooms.specs.declared.room.Room.{Room}
+use Rattle.floor_rooms.specs.declared.hall.Hall.{Hall}
+use Rattle.floor_rooms.specs.Rooms.{room_in, put_room}
+
+-- the state of a daemon that has no topic and no client yet
+abbrev pub empty_state : Options → (epoch moment : ℕ) → State
+empty_state options epoch moment = record { options = options; epoch = epoch; ids_used = 0; moment = moment; stopped = false; began = []; clients = []; topics = [] }
+
+-- no queue that a topic or a channel could have would begin with a message
+pub record IsUnused (files : Files) : Type 0 where
+  pub topics : (name : List ℕ) → IsName name → IsIdle (files (meta_file name))
+  pub channels : (topic channel : List ℕ) → IsName topic → IsName channel → IsIdle (files (meta_file (queue_name topic channel)))
+
+-- a hall with no topic and no client
+pub record IsEmptyHall (options : Options) (epoch moment : ℕ) (h : Hall) : Type 0 where
+  pub options : h.options ≡ options
+  pub epoch : h.epoch ≡ epoch
+  pub began_at : h.began_at ≡ moment
+  pub ids_used : h.ids_used ≡ 0
+  pub moment : h.moment ≡ moment
+  pub stopped : h.stopped ≡ false
+  pub stuck : h.stuck ≡ false
+  pub unsaved_names : h.unsaved_names ≡ false
+  pub clients : h.clients.items ≡ []
+  pub rooms : h.rooms.items ≡ []
+  pub pending : h.pending.items ≡ []
+
+-- a topic as it is made: it has no channel, and its queue is saved
+pub record IsFreshRoom (topic : List ℕ) (options : Options) (r : Room) : Type 0 where
+  pub queue : r.queue ≡ fresh_topic topic options
+  pub since : r.since ≡ None
+  pub listed : r.listed ≡ false
+  pub names : r.names ≡ None
+  pub stalls : r.stalls.items ≡ []
+
+-- a channel as it is made: it has no client, and its queue is saved
+pub record IsFreshStall (topic channel : List ℕ) (options : Options) (s : Stall) : Type 0 where
+  pub channel : IsFresh topic channel options s.channel
+  pub since : s.since ≡ None
+  pub members : s.members.items ≡ []
+
+-- making a topic leaves one of that name as it is, and else puts a new one in, which changes durable names
+pub data MakesRoom (topic : List ℕ) (old new : Hall) : Type 0 where
+  was_there : (room : Room) → room_in old.rooms.items topic ≡ Some room → new.rooms.items ≡ old.rooms.items → new.unsaved_names ≡ old.unsaved_names → MakesRoom topic old new
+  is_new : (room : Room) → room_in old.rooms.items topic ≡ None → IsFreshRoom topic old.options room → new.rooms.items ≡ put_room old.rooms.items room → new.unsaved_names ≡ (old.unsaved_names || not (is_ephemeral topic)) → MakesRoom topic old new
+
+-- after want of memory a hall has the topics that it had
+pub record IsUnmade (old new : Hall) : Type 0 where
+  pub rooms : new.rooms.items ≡ old.rooms.items
+  pub unsaved_names : new.unsaved_names ≡ old.unsaved_names

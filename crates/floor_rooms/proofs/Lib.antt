@@ -3,4 +3,4 @@ pub mod Staying
 pub mod Changing
 pub mod Sounding
 pub mod Holding
-pub mod Marking
+pub mod Marked

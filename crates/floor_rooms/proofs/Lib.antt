@@ -4,3 +4,4 @@ pub mod Changing
 pub mod Sounding
 pub mod Holding
 pub mod Marked
+pub mod Forming

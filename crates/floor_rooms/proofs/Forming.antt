@@ -34,7 +34,7 @@ use Rattle.floor_rooms.specs.Sound.{AreMembers, HasItsChannel, IsMarked, IsRoomS
 use Rattle.floor_rooms.specs.Standing.{HoldsFor, IsRoomOf}
 use Rattle.floor_rooms.specs.Made.{IsEmptyHall, IsFreshRoom, IsUnused, MakesRoom, empty_state, is_new, was_there}
 use Rattle.floor_rooms.specs.Places.{IsThere}
-use Rattle.floor_rooms.proofs.Placing.{found_standing, none_belonging, put_itself, standing_at, there_standing}
+use Rattle.floor_rooms.proofs.Placing.{found_standing, inserted_at, none_belonging, put_itself, standing_at, there_standing}
 use Rattle.floor_rooms.proofs.Staying.{room_named}
 use Rattle.floor_rooms.proofs.Sounding.{KeepsRest, PutsRoom, sound_put_room}
 use Rattle.floor_rooms.proofs.Holding.{StaysElse, holds_put_room}

@@ -30,7 +30,7 @@ use Rattle.floor_rooms.specs.declared.stall.Stall.{Stall}
 use Rattle.floor_rooms.specs.declared.room.Room.{Room}
 use Rattle.floor_rooms.specs.declared.hall.Hall.{Hall}
 use Rattle.floor_rooms.specs.Rooms.{channel_name, topic_name, room_in, stall_in, stall_at, stall_names, put_room}
-use Rattle.floor_rooms.specs.Sound.{AreMembers, HasItsChannel, IsMarked, IsRoomSound, IsSound, IsStallSound, has_none_waiting, rests}
+use Rattle.floor_rooms.specs.Sound.{AreMembers, AsksForNone, HasItsChannel, IsMarked, IsRoomSound, IsSound, IsStallSound, has_none_waiting, rests}
 use Rattle.floor_rooms.specs.Standing.{HoldsFor, IsRoomOf}
 use Rattle.floor_rooms.specs.Made.{IsEmptyHall, IsFreshRoom, IsUnused, MakesRoom, empty_state, is_new, was_there}
 use Rattle.floor_rooms.specs.Places.{IsThere}
@@ -41,7 +41,7 @@ use Rattle.floor_rooms.proofs.Holding.{StaysElse, holds_put_room}
 use Rattle.floor_rooms.proofs.Marked.{IsElse, else_keeps, else_stays}
 
 -- in a list of none no two are out of order
-none_of_none : {X : Type 0} (R : X → X → Type 0) → AllPairs R []
+pub none_of_none : {X : Type 0} (R : X → X → Type 0) → AllPairs R []
 none_of_none R = λ i j d l m. absurd (let no : ⊥ = omega (arith, l, m) in no)
 
 -- a hall with no topic and no client
@@ -58,6 +58,7 @@ empty_sound o e m h in_range low early is =
       rooms = subst (All (IsRoomSound h)) (sym is.rooms) (All-nil (IsRoomSound h));
       members = subst (All (λ (r : Room). All (AreMembers h.clients.items (topic_name r)) r.stalls.items)) (sym is.rooms) (All-nil (λ (r : Room). All (AreMembers h.clients.items (topic_name r)) r.stalls.items));
       channels = subst (All (HasItsChannel h)) (sym is.clients) (All-nil (HasItsChannel h));
+      ready = subst (All AsksForNone) (sym is.clients) (All-nil AsksForNone);
     }
 
 pub empty_stands : (o : Options) (e m : ℕ) (h : Hall) (files : Files) → IsEmptyHall o e m h → IsUnused files → HoldsFor h files (empty_state o e m)
@@ -76,11 +77,11 @@ empty_stands o e m h files is unused =
     }
 
 -- a queue as it is made has its name, and is saved
-fresh_some : (b : Bool) (name : List ℕ) (o : QueueOptions) → is_some (if not b then Some (fresh_queue name o) else None) ≡ not b
+pub fresh_some : (b : Bool) (name : List ℕ) (o : QueueOptions) → is_some (if not b then Some (fresh_queue name o) else None) ≡ not b
 fresh_some true name o = refl
 fresh_some false name o = refl
 
-fresh_name : (b : Bool) (name : List ℕ) (o : QueueOptions) → IfSome (if b then Some (fresh_queue name o) else None) (λ (q : Queue). q.name ≡ name)
+pub fresh_name : (b : Bool) (name : List ℕ) (o : QueueOptions) → IfSome (if b then Some (fresh_queue name o) else None) (λ (q : Queue). q.name ≡ name)
 fresh_name true name o = refl
 fresh_name false name o = tt
 
@@ -112,11 +113,11 @@ fresh_room_sound h topic r f =
     }
 
 -- what is found of both
-both_some : {X Y : Type 0} (R : X → Y → Type 0) (x : X) (o : Option Y) → IfBoth R (Some x) o → (y : Y) × (o ≡ Some y) × R x y
+pub both_some : {X Y : Type 0} (R : X → Y → Type 0) (x : X) (o : Option Y) → IfBoth R (Some x) o → (y : Y) × (o ≡ Some y) × R x y
 both_some R x None h = absurd h
 both_some R x (Some y) h = (y, refl, h)
 
-both_none : {X Y : Type 0} (R : X → Y → Type 0) (o : Option Y) → IfBoth R None o → o ≡ None
+pub both_none : {X Y : Type 0} (R : X → Y → Type 0) (o : Option Y) → IfBoth R None o → o ≡ None
 both_none R None h = refl
 both_none R (Some y) h = absurd h
 
@@ -131,7 +132,7 @@ topic_there h files s topic room holds there = both_some (IsRoomOf files) room (
 pub no_topic : (h : Hall) (files : Files) (s : State) (topic : List ℕ) → HoldsFor h files s → room_in h.rooms.items topic ≡ None → topic_of s topic ≡ None
 no_topic h files s topic holds none = both_none (IsRoomOf files) (topic_of s topic) (subst (λ o. IfBoth (IsRoomOf files) o (topic_of s topic)) none (topics_found h files s topic holds))
 
-some_at : {X : Type 0} (xs : List X) (i : ℕ) → i < length xs → (x : X) × (slice_get xs i ≡ Some x)
+pub some_at : {X : Type 0} (xs : List X) (i : ℕ) → i < length xs → (x : X) × (slice_get xs i ≡ Some x)
 some_at [] i l = absurd (let no : ⊥ = omega (arith, l) in no)
 some_at (x ∷ xs) i l = (get_or (x ∷ xs) i x, slice_get-get_or (x ∷ xs) i x l)
 

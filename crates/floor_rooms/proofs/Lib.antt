@@ -5,3 +5,4 @@ pub mod Sounding
 pub mod Holding
 pub mod Marked
 pub mod Forming
+pub mod Growing

@@ -12,7 +12,8 @@ use Rattle.channel_core.specs.Seen.{queue_name}
 use Rattle.floor_rooms.specs.declared.stall.Stall.{Stall}
 use Rattle.floor_rooms.specs.declared.room.Room.{Room}
 use Rattle.floor_rooms.specs.declared.hall.Hall.{Hall}
-use Rattle.floor_rooms.specs.Rooms.{room_in, put_room}
+use Rattle.floor_rooms.specs.Rooms.{topic_name, room_in, put_room, put_stall}
+use Rattle.floor_rooms.specs.Changes.{listed_with}
 
 -- the state of a daemon that has no topic and no client yet
 abbrev pub empty_state : Options → (epoch moment : ℕ) → State
@@ -62,3 +63,14 @@ pub data MakesRoom (topic : List ℕ) (old new : Hall) : Type 0 where
 pub record IsUnmade (old new : Hall) : Type 0 where
   pub rooms : new.rooms.items ≡ old.rooms.items
   pub unsaved_names : new.unsaved_names ≡ old.unsaved_names
+
+-- a channel was put into a topic, which is among those that may have something to do from then on
+pub record AddsStall (stall : Stall) (before after : List (List ℕ)) (old new : Room) : Type 0 where
+  pub is : new ≡ record old { listed = true; names = None; stalls = new.stalls }
+  pub stalls : new.stalls.items ≡ put_stall old.stalls.items stall
+  pub pending : after ≡ listed_with before old.listed (topic_name old)
+
+-- a topic's list of channels has more room, and nothing else changed of it
+pub record SameStalls (old new : Room) : Type 0 where
+  pub is : new ≡ record old { stalls = new.stalls }
+  pub stalls : new.stalls.items ≡ old.stalls.items

@@ -3,3 +3,8 @@ pub mod Staying
 pub mod Changing
 pub mod Sounding
 pub mod Holding
+pub mod Rooming
+pub mod Orders
+pub mod Lifting
+pub mod Quieting
+pub mod Turning

@@ -6,3 +6,8 @@ pub mod Holding
 pub mod Marked
 pub mod Forming
 pub mod Growing
+pub mod Rooming
+pub mod Orders
+pub mod Lifting
+pub mod Quieting
+pub mod Turning

@@ -89,7 +89,7 @@ pub fresh_saved : (b : Bool) (name : List ℕ) (o : QueueOptions) → QueueIsSav
 fresh_saved true name o = record { none = refl; positions = refl; sound = λ failed. absurd cc }
 fresh_saved false name o = tt
 
-fresh_named : (name : List ℕ) (o : Options) → IsNamed name (fresh_topic name o).backlog
+pub fresh_named : (name : List ℕ) (o : Options) → IsNamed name (fresh_topic name o).backlog
 fresh_named name o = record { durable = fresh_some (is_ephemeral name) name (queue_options o); queue = fresh_name (not (is_ephemeral name)) name (queue_options o) }
 
 -- a topic as it is made is sound

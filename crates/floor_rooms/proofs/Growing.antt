@@ -1,11 +1,11 @@
 -- A channel that is made and put into a topic of a hall.
 use Rattle.std.proofs.Common.{◌≡◌, ◌⊎◌, inl, inr, ◌≤◌, ◌<◌, ◌^◌, ◌*◌, ◌==◌, ℕ, set, Bool, true, false, not, ◌&&◌, ◌||◌, if◌then◌else◌, nat_eq, List, [], ◌∷◌, ◌++◌, map, length, get_or, Option, Some, None, refl, sym, ap, subst, ◌∙◌, arith}
-use Rattle.std.specs.Prelude.{HoldsAt, IfSome, IsSome, is_some, is_none, option_and_then, unwrap_or}
+use Rattle.std.specs.Prelude.{HoldsAt, IfSome, IsSome, IsTrue, is_some, is_none, option_and_then, unwrap_or}
 use Rattle.std.specs.Global.{Vec}
 use Rattle.std.specs.List.{All, AllPairs, Contains, find, insert, list_any, slice_get}
 use Rattle.std.specs.Str.{bytes_eq}
 use Rattle.std.proofs.lemmas.Bool.{false≢true}
-use Rattle.std.proofs.lemmas.List.{get_or-set_same, set-set}
+use Rattle.std.proofs.lemmas.List.{get_or-set_same, length-set, set-set}
 use Rattle.std.proofs.lemmas.List.Elements.{All-cons, All-nil, All-weaker, Contains-append_left, Contains-push}
 use Rattle.std.proofs.lemmas.Option.{get_or_from_slice_get, slice_get_within}
 use Rattle.nsq_base.specs.Name.{IsName, is_ephemeral}
@@ -15,17 +15,20 @@ use Rattle.nsq_base.specs.Places.{BelongsAt, StandsAt}
 use Rattle.nsq_base.specs.declared.options.Options.{Options}
 use Rattle.nsq_base.proofs.PutBy.{All-put_by, IsAscendingBy-put_by, put_by-belongs}
 use Rattle.nsq_outside.specs.Files.{Files}
+use Rattle.queue_files.specs.declared.options.QueueOptions.{QueueOptions}
 use Rattle.queue_image.specs.FileNames.{meta_file}
 use Rattle.queue_image.specs.Metas.{IsIdle}
 use Rattle.v2_frame.specs.declared.message.Message.{Message}
 use Rattle.history.specs.Found.{Pairwise}
+use Rattle.disk_queue.specs.Seen.{fresh_queue}
 use Rattle.backlog.specs.Seen.{QueueIsSaved, ring_depth, disk_depth}
 use Rattle.backlog.specs.Lists.{OnDisk, Stands}
 use Rattle.broker_history.specs.State.{Client, Phase, Fresh, Subscribed, Closing, Lost, Route, Channel, Topic, State, has_channel, is_empty, is_ephemeral_channel, is_lost, is_on, new_channel, new_topic, channel_of, channel_or_new, topic_of, topic_or_new, with_channel, with_topic}
 use Rattle.broker_history.specs.Channels.{IsKept}
 use Rattle.broker_history.specs.Changes.{made_channel}
 use Rattle.broker_history.proofs.Lists.{exact_bytes, find_passes, find_put}
-use Rattle.topic_core.specs.Seen.{Seen as TopicSeen, fresh_topic, owed_of}
+use Rattle.topic_core.specs.Kept.{IsNamed}
+use Rattle.topic_core.specs.Seen.{Seen as TopicSeen, fresh_topic, owed_of, queue_options as topic_options}
 use Rattle.channel_copies.specs.Clients.{client_of}
 use Rattle.channel_core.specs.Answers.{all_due}
 use Rattle.channel_core.specs.Made.{FitsRun, IsFresh, about_of, fresh_of, queue_options}
@@ -40,14 +43,14 @@ use Rattle.floor_rooms.specs.Rooms.{channel_name, topic_name, stall_names, room_
 use Rattle.floor_rooms.specs.Sound.{AreMembers, HasItsChannel, IsMarked, IsQuietUntil, IsRoomSound, IsSound, IsStallSound, has_none_waiting, member_of, rests}
 use Rattle.floor_rooms.specs.Standing.{HoldsFor, IsRoomOf, IsStallOf}
 use Rattle.floor_rooms.specs.Changes.{AtRoom, listed_with}
-use Rattle.floor_rooms.specs.Made.{AddsStall, IsFreshRoom, IsFreshStall, SameStalls}
-use Rattle.floor_rooms.proofs.Placing.{found_at, found_standing, none_belonging, put_at, put_itself}
+use Rattle.floor_rooms.specs.Made.{AddsStall, IsFreshRoom, IsFreshStall, IsRoomWith, SameStalls}
+use Rattle.floor_rooms.proofs.Placing.{at_place, found_at, found_standing, none_belonging, put_at, put_itself, standing_at}
 use Rattle.floor_rooms.proofs.Staying.{other_channels, room_named, stall_named}
 use Rattle.floor_rooms.proofs.Changing.{all_found}
 use Rattle.floor_rooms.proofs.Sounding.{KeepsRest, Lowers, at_all, room_lowered, sound_at_room, sound_put_room}
 use Rattle.floor_rooms.proofs.Holding.{holds_at_room, holds_put_room}
 use Rattle.floor_rooms.proofs.Marked.{IsElse, ListsRoom, else_keeps, else_stays}
-use Rattle.floor_rooms.proofs.Forming.{both_some, both_none, fresh_name, fresh_room_sound, fresh_saved, fresh_some, no_topic, none_of_none, some_at, topic_there}
+use Rattle.floor_rooms.proofs.Forming.{both_some, both_none, fresh_name, fresh_named, fresh_saved, fresh_some, no_topic, none_of_none, some_at, topic_there}
 
 -- options in their ranges fit a run
 pub fits_run : (o : Options) → IsInRange o → FitsRun o
@@ -89,10 +92,9 @@ neither true false f = refl
 neither false c f = refl
 
 module _ (rooms : List Room) (topic name : List ℕ) (none : stall_at rooms topic name ≡ None) where
-  there_is : Option Route → Type 0
+  abbrev there_is : Option Route → Type 0
   there_is o = IfSome o (λ (r : Route). IsSome (stall_at rooms r.topic r.channel))
 
-  unfolding there_is
   not_on : (o : Option Route) → there_is o → is_on o topic name ≡ false
   not_on None h = refl
   not_on (Some r) h =
@@ -100,7 +102,6 @@ module _ (rooms : List Room) (topic name : List ℕ) (none : stall_at rooms topi
       (λ e f. let same : stall_at rooms topic name ≡ stall_at rooms r.topic r.channel = ap (λ t. stall_at rooms t name) (exact_bytes topic r.topic e) ∙ ap (stall_at rooms r.topic) (exact_bytes name r.channel f) in
       false≢true (ap is_some (sym none ∙ same) ∙ h))
 
-  unfolding there_is
   has_none : (phase : Phase) (o : Option Route) → there_is (held_channel phase o) → not (is_lost phase) && is_on o topic name ≡ false
   has_none Fresh o h = not_on o h
   has_none Subscribed o h = not_on o h
@@ -275,3 +276,174 @@ grown_at i j s before after xs ys b v a e place items =
         pending = a.does.1;
       };
     }
+
+-- what a name says of a room that was read after it was listed
+pub grown_name_at : (i : ℕ) (before after : List (List ℕ)) (xs ys : List Room) (b : Room) → AtRoom i (ListsRoom before after) xs ys → b ≡ get_or ys i b → (d : Room) → topic_name b ≡ topic_name (get_or xs i d)
+grown_name_at i before after xs ys b a e d =
+    let same : b ≡ a.after = e ∙ ap (λ (zs : List Room). get_or zs i b) a.is ∙ get_or-set_same xs i a.after b (slice_get_within xs i a.room a.there) in
+    ap topic_name same ∙ ap topic_name a.does.0 ∙ ap topic_name (sym (get_or_from_slice_get xs i a.room d a.there))
+
+-- nothing but rooms, the list of those that may have something to do, and names that are unsaved differs
+pub else_from : (h h' : Hall) → h' ≡ record h { rooms = h'.rooms; pending = h'.pending; unsaved_names = h'.unsaved_names } → IsElse h h'
+else_from h h' e = ap (λ (x : Hall). record x { rooms = h'.rooms; pending = h'.pending; unsaved_names = h'.unsaved_names; quiet_until = h'.quiet_until; unsaved_from = h'.unsaved_from }) e
+
+pub else_both : (h0 h1 h2 : Hall) → h1 ≡ record h0 { rooms = h1.rooms; pending = h1.pending } → h2 ≡ record h1 { rooms = h2.rooms; pending = h2.pending; unsaved_names = h2.unsaved_names } → h2 ≡ record h0 { rooms = h2.rooms; pending = h2.pending; unsaved_names = h2.unsaved_names }
+else_both h0 h1 h2 e f = f ∙ ap (λ (x : Hall). record x { rooms = h2.rooms; pending = h2.pending; unsaved_names = h2.unsaved_names }) e
+
+-- a topic whose list of channels has more room stands where it stood, and places in it are as they were
+pub reserved_place : (xs ys : List Room) (i j : ℕ) (name : List ℕ) → AtRoom i SameStalls xs ys → HoldsAt (λ (r : Room). BelongsAt channel_name r.stalls.items name j) xs i → HoldsAt (λ (r : Room). BelongsAt channel_name r.stalls.items name j) ys i
+reserved_place xs ys i j name at place =
+    λ d.
+    let now : get_or ys i d ≡ at.after = ap (λ (zs : List Room). get_or zs i d) at.is ∙ get_or-set_same xs i at.after d (slice_get_within xs i at.room at.there) in
+    subst (λ (r : Room). BelongsAt channel_name r.stalls.items name j) (sym now)
+    (subst (λ zs. BelongsAt channel_name zs name j) (sym at.does.stalls) (subst (λ (r : Room). BelongsAt channel_name r.stalls.items name j) (get_or_from_slice_get xs i at.room at.room at.there) (place at.room)))
+
+pub reserved_stands_at : (xs ys : List Room) (i : ℕ) (name : List ℕ) → AtRoom i SameStalls xs ys → IsAscendingBy topic_name ys → StandsAt topic_name xs name i → StandsAt topic_name ys name i
+reserved_stands_at xs ys i name at up stands =
+    let called : topic_name at.after ≡ name = ap topic_name at.does.is ∙ ap topic_name (sym (get_or_from_slice_get xs i at.room at.room at.there)) ∙ stands.is_key at.room in
+    let now : slice_get ys i ≡ Some at.after =
+    at_place ys i at.after (omega (arith, ap length at.is, length-set xs i at.after, slice_get_within xs i at.room at.there)) (sym (ap (λ (zs : List Room). get_or zs i at.after) at.is ∙ get_or-set_same xs i at.after at.after (slice_get_within xs i at.room at.there))) in
+    subst (λ k. StandsAt topic_name ys k i) called (standing_at topic_name ys i at.after up now)
+
+-- a fresh channel that was put into its topic
+module _ (h h' : Hall) (i j : ℕ) (topic name : List ℕ) (s : Stall) (sound : IsSound h) (rest : h' ≡ record h { rooms = h'.rooms; pending = h'.pending; unsaved_names = h'.unsaved_names }) (at : AtRoom i (AddsStall s h.pending.items h'.pending.items) h.rooms.items h'.rooms.items)
+    (stands : StandsAt topic_name h.rooms.items topic i) (place : HoldsAt (λ (r : Room). BelongsAt channel_name r.stalls.items name j) h.rooms.items i) (fresh : IsFreshStall topic name h.options s) where
+  room_called : topic_name at.room ≡ topic
+  room_called = ap topic_name (sym (get_or_from_slice_get h.rooms.items i at.room at.room at.there)) ∙ stands.is_key at.room
+
+  none_in : stall_in at.room.stalls.items name ≡ None
+  none_in = none_belonging channel_name at.room.stalls.items name j (subst (λ (r : Room). BelongsAt channel_name r.stalls.items name j) (get_or_from_slice_get h.rooms.items i at.room at.room at.there) (place at.room))
+
+  room_there : room_in h.rooms.items topic ≡ Some at.room
+  room_there = found_standing topic_name h.rooms.items topic i at.room stands ∙ ap Some (get_or_from_slice_get h.rooms.items i at.room at.room at.there)
+
+  none_at : stall_at h.rooms.items topic name ≡ None
+  none_at = ap (option_and_then (λ (r : Room). stall_in r.stalls.items name)) room_there ∙ none_in
+
+  stall_called : channel_name s ≡ name
+  stall_called = ap (λ (v : ChannelSeen). v.about.name) fresh.channel.is
+
+  pub added_stall_sound : IsSound h'
+  added_stall_sound =
+      let options : h'.options ≡ h.options = ap (λ (x : Hall). x.options) rest in
+      grown_sound h h' i s sound (else_from h h' rest) (ap (λ (x : Hall). x.quiet_until) rest) (ap (λ (x : Hall). x.unsaved_from) rest) at
+      (subst (λ n. IsStallSound h'.options n h'.quiet_until h'.unsaved_from s) (sym room_called)
+      (fresh_stall_sound h'.options topic name h'.quiet_until h'.unsaved_from s (subst (λ o. IsFreshStall topic name o s) (sym options) fresh)))
+      (subst (λ n. AreMembers h.clients.items n s) (sym room_called) (fresh_members h topic name h.options s sound none_at fresh))
+
+  pub added_stall_stands : (files : Files) (st : State) → (IsIdle (files (meta_file (queue_name topic name))) → IsStallOf files s (new_channel name)) → HoldsFor h files st → (t : State) × (t ≡ made_channel st topic name) × HoldsFor h' files t
+  added_stall_stands files st of holds =
+      let named : IsName topic = subst IsName room_called (grown_before h h' i s sound (else_from h h' rest) (ap (λ (x : Hall). x.quiet_until) rest) (ap (λ (x : Hall). x.unsaved_from) rest) at).named in
+      let done = grown_stands h h' i s sound (else_from h h' rest) (ap (λ (x : Hall). x.quiet_until) rest) (ap (λ (x : Hall). x.unsaved_from) rest) at files st name stall_called none_in (of (holds.idle_channels topic name named fresh.named none_at)) holds in
+      (done.0, done.1 ∙ ap (λ n. made_channel st n name) room_called, done.2)
+
+-- the channel is there already
+pub both_there : (h : Hall) (topic name : List ℕ) (i j : ℕ) (room : Room) → StandsAt topic_name h.rooms.items topic i → room ≡ get_or h.rooms.items i room → StandsAt channel_name room.stalls.items name j → (files : Files) (st : State) → HoldsFor h files st
+    → (t : State) × (t ≡ made_channel st topic name) × HoldsFor h files t
+both_there h topic name i j room stands e within files st holds =
+    let at : slice_get h.rooms.items i ≡ Some room = at_place h.rooms.items i room stands.in_range e in
+    let found : room_in h.rooms.items topic ≡ Some room = found_standing topic_name h.rooms.items topic i room stands ∙ ap Some (sym e) in
+    let called : topic_name room ≡ topic = ap topic_name e ∙ stands.is_key room in
+    let t = topic_there h files st topic room holds found in
+    let x = some_at room.stalls.items j within.in_range in
+    let is : get_or room.stalls.items j x.0 ≡ x.0 = get_or_from_slice_get room.stalls.items j x.0 x.0 x.1 in
+    let has : stall_in room.stalls.items name ≡ Some x.0 = found_standing channel_name room.stalls.items name j x.0 within ∙ ap Some is in
+    let k = both_some (IsStallOf files) x.0 (channel_of t.0 name)
+    (subst (λ o. IfBoth (IsStallOf files) o (channel_of t.0 name)) has
+    (pairs_found (IsStallOf files) (λ y. bytes_eq name (channel_name y)) (λ (c : Channel). bytes_eq name c.name) room.stalls.items t.0.channels (λ a b r. ap (bytes_eq name) (sym (stall_named files a b r))) t.2.channels)) in
+    let whole : put_stall room.stalls.items x.0 ≡ room.stalls.items =
+    subst (λ (y : Stall). put_stall room.stalls.items y ≡ room.stalls.items) is (put_itself channel_name room.stalls.items j x.0 (subst (λ n. StandsAt channel_name room.stalls.items n j) (sym (within.is_key x.0)) within)) in
+    let same : h.rooms.items ≡ put_room h.rooms.items room =
+    sym (subst (λ (r : Room). put_room h.rooms.items r ≡ h.rooms.items) (sym e) (put_itself topic_name h.rooms.items i room (subst (λ n. StandsAt topic_name h.rooms.items n i) (sym (stands.is_key room)) stands))) in
+    let to : Topic = with_channel t.0 k.0 in
+    let pairs : Pairwise (IsStallOf files) room.stalls.items to.channels =
+    subst (λ xs. Pairwise (IsStallOf files) xs to.channels) whole
+    (pairs_put channel_name (λ (c : Channel). c.name) (IsStallOf files) (IsStallOf files) x.0 k.0 room.stalls.items t.0.channels (λ a b r. stall_named files a b r) (λ a b apart r. r) (stall_named files x.0 k.0 k.2) k.2 t.2.channels) in
+    let after : IsRoomOf files room to = record { queue = other_channels files room t.0 to.channels t.2.queue; stands = t.2.stands; channels = pairs; delays = t.2.delays; taken = t.2.taken } in (
+      with_topic st to,
+      ap (λ o. with_topic st (with_channel t.0 (unwrap_or o (new_channel name)))) (sym k.1) ∙ ap (λ o. with_topic st (with_channel (unwrap_or o (new_topic topic)) (channel_or_new (unwrap_or o (new_topic topic)) name))) (sym t.1),
+      holds_put_room h h files st room to (else_stays h h refl) same after
+          (λ channel gone. ap (λ n. stall_at h.rooms.items n channel) called ∙ ap (option_and_then (λ (r : Room). stall_in r.stalls.items channel)) found ∙ gone) holds,
+    )
+
+-- a topic that is made with a channel
+fresh_rests : (b e : Bool) (name : List ℕ) (o : QueueOptions) → e || ((0 == 0) && (disk_depth (if not b then Some (fresh_queue name o) else None) == 0)) ≡ true
+fresh_rests true true name o = refl
+fresh_rests true false name o = refl
+fresh_rests false true name o = refl
+fresh_rests false false name o = refl
+
+one_pair : {X : Type 0} (R : X → X → Type 0) (x : X) → AllPairs R (x ∷ [])
+one_pair R x = λ i j d l m. absurd (let no : ⊥ = omega (arith, l, m) in no)
+
+module _ (h h' : Hall) (topic name : List ℕ) (r : Room) (sound : IsSound h) (rest : IsElse h h') (quiet : h'.quiet_until ≡ h.quiet_until) (from : h'.unsaved_from ≡ h.unsaved_from) (pending : h'.pending.items ≡ h.pending.items) (none : room_in h.rooms.items topic ≡ None) (f : IsRoomWith topic name h.options r)
+    (rooms : h'.rooms.items ≡ put_room h.rooms.items r) where
+  with_called : topic_name r ≡ topic
+  with_called = ap (λ (q : TopicSeen). q.name) f.queue
+
+  with_none : (channel : List ℕ) → stall_at h.rooms.items (topic_name r) channel ≡ None
+  with_none channel = ap (λ n. stall_at h.rooms.items n channel) with_called ∙ ap (option_and_then (λ (x : Room). stall_in x.stalls.items channel)) none
+
+  with_options : h'.options ≡ h.options
+  with_options = ap (λ (x : Hall). x.options) rest
+
+  with_stall : IsStallSound h'.options (topic_name r) h'.quiet_until h'.unsaved_from f.stall
+  with_stall =
+      subst (λ n. IsStallSound h'.options n h'.quiet_until h'.unsaved_from f.stall) (sym with_called)
+      (fresh_stall_sound h'.options topic name h'.quiet_until h'.unsaved_from f.stall (subst (λ o. IsFreshStall topic name o f.stall) (sym with_options) f.fresh))
+
+  with_room : IsRoomSound h' r
+  with_room =
+      let P : Stall → Type 0 = IsStallSound h'.options (topic_name r) h'.quiet_until h'.unsaved_from in
+      record {
+        named = subst IsName (sym with_called) f.named;
+        settled = ap (λ (q : TopicSeen). q.backlog.lent) f.queue;
+        backlog = subst (λ (q : TopicSeen). IsNamed q.name q.backlog) (sym f.queue) (fresh_named topic h.options);
+        capacity = ap (λ (q : TopicSeen). q.backlog.capacity) f.queue ∙ ap (λ (o : Options). o.mem_queue_size) (sym with_options);
+        names = subst (λ o. IfSome o (λ names. names ≡ (topic_name r, stall_names r) ∷ [])) (sym f.names) tt;
+        order = subst (IsAscendingBy channel_name) (sym f.stalls) (one_pair (λ (a b : Stall). IsTrue (is_before (channel_name a) (channel_name b))) f.stall);
+        stalls = subst (All P) (sym f.stalls) (All-cons P f.stall [] with_stall (All-nil P));
+        owed = subst (λ (q : TopicSeen). All (λ n. IsSome (stall_in r.stalls.items n)) (owed_of q.head)) (sym f.queue) (All-nil (λ n. IsSome (stall_in r.stalls.items n)));
+        marked = subst (λ since. IsMarked h'.unsaved_from since r.queue.backlog.queue) (sym f.since)
+            (record { saved = λ no. subst (λ (q : TopicSeen). QueueIsSaved q.backlog.queue) (sym f.queue) (fresh_saved (not (is_ephemeral topic)) topic (topic_options h.options)); later = tt });
+        listed = λ l. absurd (false≢true (sym f.listed ∙ l));
+        rests = λ l.
+            ap (λ (q : TopicSeen). is_none q.head && (q.paused || (is_empty r.stalls.items || ((ring_depth q.backlog == 0) && (disk_depth q.backlog.queue == 0))))) f.queue
+            ∙ fresh_rests (is_ephemeral topic) (is_empty r.stalls.items) topic (topic_options h.options);
+      }
+
+  pub with_sound : IsSound h'
+  with_sound =
+      let M : Stall → Type 0 = AreMembers h.clients.items (topic_name r) in
+      sound_put_room h h' r (record {
+        sound = sound;
+        keeps = else_keeps h h' sound rest (omega (arith, quiet)) (omega (arith, from)) (λ n has. subst (λ (xs : List (List ℕ)). Contains xs n) (sym pending) has);
+        rooms = rooms;
+        room = with_room;
+        members = subst (All M) (sym f.stalls)
+            (All-cons M f.stall [] (subst (λ n. AreMembers h.clients.items n f.stall) (sym with_called) (fresh_members h topic name h.options f.stall sound (ap (λ n. stall_at h.rooms.items n name) (sym with_called) ∙ with_none name) f.fresh)) (All-nil M));
+        channels = λ channel has. absurd (false≢true (sym (ap is_some (with_none channel)) ∙ has));
+      })
+
+  pub with_stands : (files : Files) (st : State) → IsName name → (IsIdle (files (meta_file topic)) → IsIdle (files (meta_file (queue_name topic name))) → IsRoomOf files r (with_channel (new_topic topic) (new_channel name))) → HoldsFor h files st
+      → (t : State) × (t ≡ made_channel st topic name) × HoldsFor h' files t
+  with_stands files st named of holds =
+      let idle = holds.idle topic f.named none in
+      let idle_channel = holds.idle_channels topic name f.named named (ap (λ n. stall_at h.rooms.items n name) (sym with_called) ∙ with_none name) in
+      let to : Topic = with_channel (new_topic topic) (new_channel name) in (
+        with_topic st to,
+        ap (λ o. with_topic st (with_channel (unwrap_or o (new_topic topic)) (channel_or_new (unwrap_or o (new_topic topic)) name))) (sym (no_topic h files st topic holds none)),
+        holds_put_room h h' files st r to (else_stays h h' rest) rooms (of idle idle_channel) (λ channel gone. with_none channel) holds,
+      )
+
+-- one channel of a new topic
+pub room_with_of : (files : Files) (topic name : List ℕ) (r r' : Room) (s : Stall) → r' ≡ record r { stalls = r'.stalls } → r'.stalls.items ≡ s ∷ [] → IsRoomOf files r (new_topic topic) → IsStallOf files s (new_channel name) → IsRoomOf files r' (with_channel (new_topic topic) (new_channel name))
+room_with_of files topic name r r' s is stalls of stall =
+    let to : Topic = with_channel (new_topic topic) (new_channel name) in
+    subst (λ x. IsRoomOf files x to) (sym is) (record {
+      queue = other_channels files r (new_topic topic) to.channels of.queue;
+      stands = of.stands;
+      channels = subst (λ xs. Pairwise (IsStallOf files) xs to.channels) (sym stalls) (stall, tt);
+      delays = of.delays;
+      taken = of.taken;
+    })

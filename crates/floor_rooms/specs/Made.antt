@@ -1,5 +1,5 @@
 -- A hall, a topic and a channel as they are made.
-use Rattle.std.specs.Prelude.{◌≡◌, ◌+◌, ℕ, ◌^◌, ◌||◌, Bool, true, false, not, min, List, [], Some, None}
+use Rattle.std.specs.Prelude.{◌≡◌, ℕ, ◌||◌, Bool, true, false, not, List, [], ◌∷◌, Some, None}
 use Rattle.nsq_base.specs.Name.{IsName, is_ephemeral}
 use Rattle.nsq_base.specs.declared.options.Options.{Options}
 use Rattle.nsq_outside.specs.Files.{Files}
@@ -53,6 +53,17 @@ pub record IsFreshStall (topic name : List ℕ) (options : Options) (s : Stall) 
   pub channel : IsFresh topic name options s.channel
   pub since : s.since ≡ None
   pub members : s.members.items ≡ []
+
+-- a topic with one channel, as both are made
+pub record IsRoomWith (topic name : List ℕ) (options : Options) (r : Room) : Type 0 where
+  pub named : IsName topic
+  pub queue : r.queue ≡ fresh_topic topic options
+  pub since : r.since ≡ None
+  pub listed : r.listed ≡ false
+  pub names : r.names ≡ None
+  pub stall : Stall
+  pub stalls : r.stalls.items ≡ stall ∷ []
+  pub fresh : IsFreshStall topic name options stall
 
 -- making a topic leaves one of that name as it is, and else puts a new one in, which changes durable names
 pub data MakesRoom (topic : List ℕ) (old new : Hall) : Type 0 where

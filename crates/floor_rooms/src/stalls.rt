@@ -1,20 +1,20 @@
 ghost use Rattle.std.specs.Prelude.{◌≡◌, ◌<◌, ◌||◌, HoldsAt, IfOk, OnErr, OnOk, length, not, vec_capacity, vec_len};
 ghost use Rattle.std.specs.VecDeque.{deque_capacity, deque_len};
 ghost use Rattle.nsq_base.specs.Options.{IsInRange};
-ghost use Rattle.nsq_base.specs.Places.{BelongsAt};
+ghost use Rattle.nsq_base.specs.Places.{BelongsAt, StandsAt};
 ghost use Rattle.nsq_outside.specs.Files.{Files};
 ghost use Rattle.queue_image.specs.FileNames.{meta_file};
 ghost use Rattle.queue_image.specs.Metas.{IsIdle};
-ghost use Rattle.broker_history.specs.State.{State, is_ephemeral_channel, new_channel};
+ghost use Rattle.broker_history.specs.State.{State, is_ephemeral_channel, new_channel, new_topic, with_channel};
 ghost use Rattle.broker_history.specs.Changes.{made_channel};
 ghost use Rattle.channel_core.specs.Seen.{queue_name};
 ghost use Rattle.floor_rooms.specs.Changes.{AtRoom};
-ghost use Rattle.floor_rooms.specs.Made.{AddsStall, IsFreshStall, SameStalls};
+ghost use Rattle.floor_rooms.specs.Made.{AddsStall, IsFreshStall, IsRoomWith, SameStalls};
 ghost use Rattle.floor_rooms.specs.Rooms.{channel_name, topic_name};
 ghost use Rattle.floor_rooms.specs.Sound.{IsSound};
-ghost use Rattle.floor_rooms.specs.Standing.{Carries, HoldsFor, IsStallOf};
+ghost use Rattle.floor_rooms.specs.Standing.{Carries, HoldsFor, IsRoomOf, IsStallOf};
 
-use crate::{Hall, Stall};
+use crate::{Hall, Room, Stall};
 use channel_core::Channel;
 use nsq_base::{Chan, Memory, Topic};
 
@@ -83,22 +83,53 @@ impl Hall {
         match self.place_of(topic) {
             Ok(i) => match self.rooms[i].place_of(channel) {
                 Ok(_) => Ok(()),
-                Err(j) => {
-                    let stall = self.free_stall(topic, channel)?;
-                    self.reserve_stall(i)?;
-                    self.add_stall(i, j, stall);
-                    Ok(())
-                }
+                Err(j) => self.grow(i, j, topic, channel),
             },
-            Err(i) => {
-                let stall = self.free_stall(topic, channel)?;
-                let mut room = self.free_room(topic)?;
-                room.stalls.push(stall)?;
-                self.reserve_room()?;
-                self.add_room(i, room);
-                Ok(())
-            }
+            Err(i) => self.make_both(i, topic, channel),
         }
+    }
+
+    // Makes a channel at the place where it belongs in its topic. After Memory the hall is as before.
+    fn grow(&mut self, i: usize, j: usize, topic: Topic, channel: Chan) -> Result<(), Memory>
+        requires sound { IsSound self.old }
+        requires there { StandsAt topic_name self.old.rooms.items topic i }
+        requires place { HoldsAt (λ r. BelongsAt channel_name r.stalls.items channel j) self.old.rooms.items i }
+        ensures rest { self.new ≡ record self.old { rooms = self.new.rooms; pending = self.new.pending; unsaved_names = self.new.unsaved_names } }
+        ensures sound { IsSound self.new }
+        ensures stands { (files : Files) → OnOk result (Carries self.old files self.new files (λ s t. t ≡ made_channel s topic channel)) }
+        ensures stays { (files : Files) → OnErr result (Carries self.old files self.new files (λ s t. t ≡ s)) }
+    {
+        self.reserve_stall(i)?;
+        let stall = self.free_stall(topic, channel)?;
+        self.add_stall(i, j, stall);
+        Ok(())
+    }
+
+    // Makes a topic with a channel at the place where it belongs. After Memory the hall is as before.
+    fn make_both(&mut self, i: usize, topic: Topic, channel: Chan) -> Result<(), Memory>
+        requires sound { IsSound self.old }
+        requires place { BelongsAt topic_name self.old.rooms.items topic i }
+        ensures rest { self.new ≡ record self.old { rooms = self.new.rooms; pending = self.new.pending; unsaved_names = self.new.unsaved_names } }
+        ensures sound { IsSound self.new }
+        ensures stands { (files : Files) → OnOk result (Carries self.old files self.new files (λ s t. t ≡ made_channel s topic channel)) }
+        ensures stays { (files : Files) → OnErr result (Carries self.old files self.new files (λ s t. t ≡ s)) }
+    {
+        self.reserve_room()?;
+        let room = self.room_with(topic, channel)?;
+        self.add_room(i, room);
+        Ok(())
+    }
+
+    // A topic of this name with a channel as both are made. Want of memory is the only error.
+    fn room_with(&self, topic: Topic, channel: Chan) -> Result<Room, Memory>
+        requires { IsInRange self.now.options }
+        ensures room { IfOk result (IsRoomWith topic channel self.now.options) }
+        ensures stands { IfOk result (λ r. (files : Files) → IsIdle (files (meta_file topic)) → IsIdle (files (meta_file (queue_name topic channel))) → IsRoomOf files r (with_channel (new_topic topic) (new_channel channel))) }
+    {
+        let mut room = self.free_room(topic)?;
+        room.stalls.reserve(1)?;
+        room.stalls.push_reserved(self.free_stall(topic, channel)?);
+        Ok(room)
     }
 }
 

@@ -290,6 +290,9 @@ else_from h h' e = ap (λ (x : Hall). record x { rooms = h'.rooms; pending = h'.
 pub else_both : (h0 h1 h2 : Hall) → h1 ≡ record h0 { rooms = h1.rooms; pending = h1.pending } → h2 ≡ record h1 { rooms = h2.rooms; pending = h2.pending; unsaved_names = h2.unsaved_names } → h2 ≡ record h0 { rooms = h2.rooms; pending = h2.pending; unsaved_names = h2.unsaved_names }
 else_both h0 h1 h2 e f = f ∙ ap (λ (x : Hall). record x { rooms = h2.rooms; pending = h2.pending; unsaved_names = h2.unsaved_names }) e
 
+pub else_added : (h h' : Hall) (unsaved : Bool) → h' ≡ record h { rooms = h'.rooms; unsaved_names = unsaved } → IsElse h h'
+else_added h h' unsaved e = ap (λ (x : Hall). record x { rooms = h'.rooms; pending = h'.pending; unsaved_names = h'.unsaved_names; quiet_until = h'.quiet_until; unsaved_from = h'.unsaved_from }) e
+
 -- a topic whose list of channels has more room stands where it stood, and places in it are as they were
 pub reserved_place : (xs ys : List Room) (i j : ℕ) (name : List ℕ) → AtRoom i SameStalls xs ys → HoldsAt (λ (r : Room). BelongsAt channel_name r.stalls.items name j) xs i → HoldsAt (λ (r : Room). BelongsAt channel_name r.stalls.items name j) ys i
 reserved_place xs ys i j name at place =

@@ -19,11 +19,13 @@ use Rattle.queue_image.specs.Metas.{IsIdle}
 use Rattle.history.specs.Found.{Pairwise}
 use Rattle.disk_queue.specs.Seen.{Seen as Queue, fresh_queue}
 use Rattle.backlog.specs.Seen.{QueueIsSaved}
+use Rattle.backlog.specs.Lists.{Stands}
 use Rattle.broker_history.specs.State.{Topic, State, is_empty, new_topic, topic_of, with_topic, topic_or_new}
 use Rattle.broker_history.specs.Changes.{made_topic}
 use Rattle.broker_history.proofs.Lists.{exact_bytes, find_passes}
 use Rattle.topic_core.specs.Seen.{Seen as TopicSeen, fresh_topic, owed_of, queue_options}
 use Rattle.topic_core.specs.Kept.{IsNamed}
+use Rattle.topic_core.specs.Rows.{IsTopicOf}
 use Rattle.floor_clients.specs.Places.{AreInOrder}
 use Rattle.floor_laws.proofs.Pairs.{IfBoth, pairs_found}
 use Rattle.floor_rooms.specs.declared.stall.Stall.{Stall}
@@ -31,8 +33,8 @@ use Rattle.floor_rooms.specs.declared.room.Room.{Room}
 use Rattle.floor_rooms.specs.declared.hall.Hall.{Hall}
 use Rattle.floor_rooms.specs.Rooms.{channel_name, topic_name, room_in, stall_in, stall_at, stall_names, put_room}
 use Rattle.floor_rooms.specs.Sound.{AreMembers, AsksForNone, HasItsChannel, IsMarked, IsRoomSound, IsSound, IsStallSound, has_none_waiting, rests}
-use Rattle.floor_rooms.specs.Standing.{HoldsFor, IsRoomOf}
-use Rattle.floor_rooms.specs.Made.{IsEmptyHall, IsFreshRoom, IsUnused, MakesRoom, empty_state, is_new, was_there}
+use Rattle.floor_rooms.specs.Standing.{HoldsFor, IsRoomOf, IsStallOf, longest_delay}
+use Rattle.floor_rooms.specs.Made.{BeginsIdle, IsEmptyHall, IsFreshRoom, IsUnused, MakesRoom, empty_state, is_new, was_there}
 use Rattle.floor_rooms.specs.Places.{IsThere}
 use Rattle.floor_rooms.proofs.Placing.{found_standing, inserted_at, none_belonging, put_itself, standing_at, there_standing}
 use Rattle.floor_rooms.proofs.Staying.{room_named}
@@ -182,11 +184,11 @@ module _ (h h' : Hall) (topic : List ℕ) (r : Room) (rest : IsElse h h') (none 
         channels = λ channel has. absurd (false≢true (sym (ap is_some (none_there channel)) ∙ has));
       })
 
-  pub new_stands : (files : Files) (s : State) → (IsIdle (files (meta_file topic)) → IsRoomOf files r (new_topic topic)) → HoldsFor h files s → (t : State) × (t ≡ made_topic s topic) × HoldsFor h' files t
+  pub new_stands : (files : Files) (s : State) → (BeginsIdle files topic → IsRoomOf files r (new_topic topic)) → HoldsFor h files s → (t : State) × (t ≡ made_topic s topic) × HoldsFor h' files t
   new_stands files s of holds = (
     with_topic s (new_topic topic),
     ap (λ o. with_topic s (unwrap_or o (new_topic topic))) (sym (no_topic h files s topic holds none)),
-    holds_put_room h h' files s r (new_topic topic) (else_stays h h' rest) rooms (of (holds.idle topic fresh.named none)) (λ channel gone. none_there channel) holds,
+    holds_put_room h h' files s r (new_topic topic) (else_stays h h' rest) rooms (of (λ durable. holds.idle topic (fresh.named, durable) none)) (λ channel gone. none_there channel) holds,
   )
 
 -- what is inserted where it belongs stands there
@@ -229,5 +231,19 @@ module _ (h0 h1 h2 : Hall) (topic : List ℕ) (i : ℕ) (r : Room) (unsaved : Bo
       let names : h2.pending.items ≡ h0.pending.items = ap (λ (x : Hall). x.pending.items) rest2 ∙ pending1 in
       new_sound h0 h2 topic r added_else none_before fresh added_rooms sound (omega (arith, quiet)) (omega (arith, from)) (λ name has. subst (λ (xs : List (List ℕ)). Contains xs name) (sym names) has)
 
-  pub added_stands : (files : Files) (s : State) → (IsIdle (files (meta_file topic)) → IsRoomOf files r (new_topic topic)) → HoldsFor h0 files s → (t : State) × (t ≡ made_topic s topic) × HoldsFor h2 files t
+  pub added_stands : (files : Files) (s : State) → (BeginsIdle files topic → IsRoomOf files r (new_topic topic)) → HoldsFor h0 files s → (t : State) × (t ≡ made_topic s topic) × HoldsFor h2 files t
   added_stands files s of holds = new_stands h0 h2 topic r added_else none_before fresh added_rooms files s of holds
+
+-- what a queue's last save left stands as it is made, where it would begin with nothing
+pub fresh_stands : (b : Bool) (queue : Option Queue) (name : List ℕ) (o : QueueOptions) (files : Files) (idle : Type 0) → queue ≡ (if not b then Some (fresh_queue name o) else None) → (idle → Stands queue files) → (b ≡ false → idle) → Stands queue files
+fresh_stands true queue name o files idle e f g = subst (λ q. Stands q files) (sym e) tt
+fresh_stands false queue name o files idle e f g = f (g refl)
+
+pub fresh_room_of : (files : Files) (topic : List ℕ) (o : Options) (r : Room) → r.queue ≡ fresh_topic topic o → r.stalls.items ≡ [] → IsTopicOf r.queue files (new_topic topic) → (IsIdle (files (meta_file topic)) → Stands r.queue.backlog.queue files) → BeginsIdle files topic → IsRoomOf files r (new_topic topic)
+fresh_room_of files topic o r is none of stands idle = record {
+  queue = of;
+  stands = fresh_stands (is_ephemeral topic) r.queue.backlog.queue topic (queue_options o) files (IsIdle (files (meta_file topic))) (ap (λ (q : TopicSeen). q.backlog.queue) is) stands idle;
+  channels = subst (λ xs. Pairwise (IsStallOf files) xs []) (sym none) tt;
+  delays = All-nil (λ w. w.message.delay ≤ longest_delay);
+  taken = tt;
+}

@@ -43,14 +43,14 @@ use Rattle.floor_rooms.specs.Rooms.{channel_name, topic_name, stall_names, room_
 use Rattle.floor_rooms.specs.Sound.{AreMembers, HasItsChannel, IsMarked, IsQuietUntil, IsRoomSound, IsSound, IsStallSound, has_none_waiting, member_of, rests}
 use Rattle.floor_rooms.specs.Standing.{HoldsFor, IsRoomOf, IsStallOf}
 use Rattle.floor_rooms.specs.Changes.{AtRoom, listed_with}
-use Rattle.floor_rooms.specs.Made.{AddsStall, IsFreshRoom, IsFreshStall, IsRoomWith, SameStalls}
+use Rattle.floor_rooms.specs.Made.{AddsStall, BeginsIdle, ChannelBeginsIdle, IsFreshRoom, IsFreshStall, IsRoomWith, SameStalls}
 use Rattle.floor_rooms.proofs.Placing.{at_place, found_at, found_standing, none_belonging, put_at, put_itself, standing_at}
 use Rattle.floor_rooms.proofs.Staying.{other_channels, room_named, stall_named}
 use Rattle.floor_rooms.proofs.Changing.{all_found}
 use Rattle.floor_rooms.proofs.Sounding.{KeepsRest, Lowers, at_all, room_lowered, sound_at_room, sound_put_room}
 use Rattle.floor_rooms.proofs.Holding.{holds_at_room, holds_put_room}
 use Rattle.floor_rooms.proofs.Marked.{IsElse, ListsRoom, else_keeps, else_stays}
-use Rattle.floor_rooms.proofs.Forming.{both_some, both_none, fresh_name, fresh_named, fresh_saved, fresh_some, no_topic, none_of_none, some_at, topic_there}
+use Rattle.floor_rooms.proofs.Forming.{both_some, both_none, fresh_name, fresh_named, fresh_saved, fresh_some, fresh_stands, no_topic, none_of_none, some_at, topic_there}
 
 -- options in their ranges fit a run
 pub fits_run : (o : Options) → IsInRange o → FitsRun o
@@ -63,8 +63,14 @@ fits_run o i =
 pub fresh_is_kept : (topic name : List ℕ) (o : Options) (v : ChannelSeen) → IsFresh topic name o v → IsKept (seen_channel v []) (new_channel name)
 fresh_is_kept topic name o v f = subst (λ (w : ChannelSeen). IsKept (seen_channel w []) (new_channel name)) (sym f.is) (new_kept (new_channel name) refl)
 
-pub fresh_stall_of : (files : Files) (topic name : List ℕ) (o : Options) (s : Stall) → IsFresh topic name o s.channel → OnDisk s.channel.backlog.queue files [] → Stands s.channel.backlog.queue files → IsStallOf files s (new_channel name)
-fresh_stall_of files topic name o s f disk stands = record { disk = []; on_disk = disk; is_kept = fresh_is_kept topic name o s.channel f; stands = stands }
+pub fresh_stall_of : (files : Files) (topic name : List ℕ) (o : Options) (s : Stall) → IsFresh topic name o s.channel → OnDisk s.channel.backlog.queue files [] → (IsIdle (files (meta_file (queue_name topic name))) → Stands s.channel.backlog.queue files) → ChannelBeginsIdle files topic name
+    → IsStallOf files s (new_channel name)
+fresh_stall_of files topic name o s f disk stands idle = record {
+  disk = [];
+  on_disk = disk;
+  is_kept = fresh_is_kept topic name o s.channel f;
+  stands = fresh_stands (is_ephemeral_channel topic name) s.channel.backlog.queue (queue_name topic name) (queue_options o) files (IsIdle (files (meta_file (queue_name topic name)))) (ap (λ (v : ChannelSeen). v.backlog.queue) f.is) stands idle;
+}
 
 -- and it is sound
 pub fresh_stall_sound : (o : Options) (topic name : List ℕ) (quiet unsaved : ℕ) (s : Stall) → IsFreshStall topic name o s → IsStallSound o topic quiet unsaved s
@@ -334,10 +340,10 @@ module _ (h h' : Hall) (i j : ℕ) (topic name : List ℕ) (s : Stall) (sound : 
       (fresh_stall_sound h'.options topic name h'.quiet_until h'.unsaved_from s (subst (λ o. IsFreshStall topic name o s) (sym options) fresh)))
       (subst (λ n. AreMembers h.clients.items n s) (sym room_called) (fresh_members h topic name h.options s sound none_at fresh))
 
-  pub added_stall_stands : (files : Files) (st : State) → (IsIdle (files (meta_file (queue_name topic name))) → IsStallOf files s (new_channel name)) → HoldsFor h files st → (t : State) × (t ≡ made_channel st topic name) × HoldsFor h' files t
+  pub added_stall_stands : (files : Files) (st : State) → (ChannelBeginsIdle files topic name → IsStallOf files s (new_channel name)) → HoldsFor h files st → (t : State) × (t ≡ made_channel st topic name) × HoldsFor h' files t
   added_stall_stands files st of holds =
       let named : IsName topic = subst IsName room_called (grown_before h h' i s sound (else_from h h' rest) (ap (λ (x : Hall). x.quiet_until) rest) (ap (λ (x : Hall). x.unsaved_from) rest) at).named in
-      let done = grown_stands h h' i s sound (else_from h h' rest) (ap (λ (x : Hall). x.quiet_until) rest) (ap (λ (x : Hall). x.unsaved_from) rest) at files st name stall_called none_in (of (holds.idle_channels topic name named fresh.named none_at)) holds in
+      let done = grown_stands h h' i s sound (else_from h h' rest) (ap (λ (x : Hall). x.quiet_until) rest) (ap (λ (x : Hall). x.unsaved_from) rest) at files st name stall_called none_in (of (λ durable. holds.idle_channels topic name named (fresh.named, durable) none_at)) holds in
       (done.0, done.1 ∙ ap (λ n. made_channel st n name) room_called, done.2)
 
 -- the channel is there already
@@ -428,11 +434,11 @@ module _ (h h' : Hall) (topic name : List ℕ) (r : Room) (sound : IsSound h) (r
         channels = λ channel has. absurd (false≢true (sym (ap is_some (with_none channel)) ∙ has));
       })
 
-  pub with_stands : (files : Files) (st : State) → IsName name → (IsIdle (files (meta_file topic)) → IsIdle (files (meta_file (queue_name topic name))) → IsRoomOf files r (with_channel (new_topic topic) (new_channel name))) → HoldsFor h files st
+  pub with_stands : (files : Files) (st : State) → IsName name → (BeginsIdle files topic → ChannelBeginsIdle files topic name → IsRoomOf files r (with_channel (new_topic topic) (new_channel name))) → HoldsFor h files st
       → (t : State) × (t ≡ made_channel st topic name) × HoldsFor h' files t
   with_stands files st named of holds =
-      let idle = holds.idle topic f.named none in
-      let idle_channel = holds.idle_channels topic name f.named named (ap (λ n. stall_at h.rooms.items n name) (sym with_called) ∙ with_none name) in
+      let idle : BeginsIdle files topic = λ durable. holds.idle topic (f.named, durable) none in
+      let idle_channel : ChannelBeginsIdle files topic name = λ durable. holds.idle_channels topic name f.named (named, durable) (ap (λ n. stall_at h.rooms.items n name) (sym with_called) ∙ with_none name) in
       let to : Topic = with_channel (new_topic topic) (new_channel name) in (
         with_topic st to,
         ap (λ o. with_topic st (with_channel (unwrap_or o (new_topic topic)) (channel_or_new (unwrap_or o (new_topic topic)) name))) (sym (no_topic h files st topic holds none)),

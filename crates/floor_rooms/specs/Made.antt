@@ -5,7 +5,7 @@ use Rattle.nsq_base.specs.declared.options.Options.{Options}
 use Rattle.nsq_outside.specs.Files.{Files}
 use Rattle.queue_image.specs.FileNames.{meta_file}
 use Rattle.queue_image.specs.Metas.{IsIdle}
-use Rattle.broker_history.specs.State.{State}
+use Rattle.broker_history.specs.State.{State, is_ephemeral_channel}
 use Rattle.topic_core.specs.Seen.{fresh_topic}
 use Rattle.channel_core.specs.Made.{IsFresh}
 use Rattle.channel_core.specs.Seen.{queue_name}
@@ -13,6 +13,7 @@ use Rattle.floor_rooms.specs.declared.stall.Stall.{Stall}
 use Rattle.floor_rooms.specs.declared.room.Room.{Room}
 use Rattle.floor_rooms.specs.declared.hall.Hall.{Hall}
 use Rattle.floor_rooms.specs.Rooms.{topic_name, room_in, put_room, put_stall}
+use Rattle.floor_rooms.specs.Standing.{IsDurableTopic, IsDurableChannel}
 use Rattle.floor_rooms.specs.Changes.{listed_with}
 
 -- the state of a daemon that has no topic and no client yet
@@ -21,8 +22,15 @@ empty_state options epoch moment = record { options = options; epoch = epoch; id
 
 -- no queue that a topic or a channel could have would begin with a message
 pub record IsUnused (files : Files) : Type 0 where
-  pub topics : (name : List ℕ) → IsName name → IsIdle (files (meta_file name))
-  pub channels : (topic channel : List ℕ) → IsName topic → IsName channel → IsIdle (files (meta_file (queue_name topic channel)))
+  pub topics : (name : List ℕ) → IsDurableTopic name → IsIdle (files (meta_file name))
+  pub channels : (topic channel : List ℕ) → IsName topic → IsDurableChannel topic channel → IsIdle (files (meta_file (queue_name topic channel)))
+
+-- where there is a queue of this topic, or of this channel, it would begin with nothing
+abbrev pub BeginsIdle : Files → (topic : List ℕ) → Type 0
+BeginsIdle files topic = is_ephemeral topic ≡ false → IsIdle (files (meta_file topic))
+
+abbrev pub ChannelBeginsIdle : Files → (topic name : List ℕ) → Type 0
+ChannelBeginsIdle files topic name = is_ephemeral_channel topic name ≡ false → IsIdle (files (meta_file (queue_name topic name)))
 
 -- a hall with no topic and no client
 pub record IsEmptyHall (with_options : Options) (of_epoch at : ℕ) (h : Hall) : Type 0 where

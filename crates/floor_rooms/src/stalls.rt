@@ -3,13 +3,10 @@ ghost use Rattle.std.specs.VecDeque.{deque_capacity, deque_len};
 ghost use Rattle.nsq_base.specs.Options.{IsInRange};
 ghost use Rattle.nsq_base.specs.Places.{BelongsAt, StandsAt};
 ghost use Rattle.nsq_outside.specs.Files.{Files};
-ghost use Rattle.queue_image.specs.FileNames.{meta_file};
-ghost use Rattle.queue_image.specs.Metas.{IsIdle};
 ghost use Rattle.broker_history.specs.State.{State, is_ephemeral_channel, new_channel, new_topic, with_channel};
 ghost use Rattle.broker_history.specs.Changes.{made_channel};
-ghost use Rattle.channel_core.specs.Seen.{queue_name};
 ghost use Rattle.floor_rooms.specs.Changes.{AtRoom};
-ghost use Rattle.floor_rooms.specs.Made.{AddsStall, IsFreshStall, IsRoomWith, SameStalls};
+ghost use Rattle.floor_rooms.specs.Made.{AddsStall, BeginsIdle, ChannelBeginsIdle, IsFreshStall, IsRoomWith, SameStalls};
 ghost use Rattle.floor_rooms.specs.Rooms.{channel_name, topic_name};
 ghost use Rattle.floor_rooms.specs.Sound.{IsSound};
 ghost use Rattle.floor_rooms.specs.Standing.{Carries, HoldsFor, IsRoomOf, IsStallOf};
@@ -24,7 +21,7 @@ impl Hall {
     pub fn free_stall(&self, topic: Topic, channel: Chan) -> Result<Stall, Memory>
         requires { IsInRange self.now.options }
         ensures stall { IfOk result (IsFreshStall topic channel self.now.options) }
-        ensures stands { IfOk result (λ s. (files : Files) → IsIdle (files (meta_file (queue_name topic channel))) → IsStallOf files s (new_channel channel)) }
+        ensures stands { IfOk result (λ s. (files : Files) → ChannelBeginsIdle files topic channel → IsStallOf files s (new_channel channel)) }
     {
         let _ = channel.bytes();
         Ok(Stall {
@@ -124,7 +121,7 @@ impl Hall {
     fn room_with(&self, topic: Topic, channel: Chan) -> Result<Room, Memory>
         requires { IsInRange self.now.options }
         ensures room { IfOk result (IsRoomWith topic channel self.now.options) }
-        ensures stands { IfOk result (λ r. (files : Files) → IsIdle (files (meta_file topic)) → IsIdle (files (meta_file (queue_name topic channel))) → IsRoomOf files r (with_channel (new_topic topic) (new_channel channel))) }
+        ensures stands { IfOk result (λ r. (files : Files) → BeginsIdle files topic → ChannelBeginsIdle files topic channel → IsRoomOf files r (with_channel (new_topic topic) (new_channel channel))) }
     {
         let mut room = self.free_room(topic)?;
         room.stalls.reserve(1)?;

@@ -7,8 +7,8 @@ use Rattle.backlog.specs.Seen.{ForMessages, FitsLimit, size_of}
 use Rattle.backlog.proofs.Putting.{Spilling, spilling_more, next_front, holds_spilled, unstaged_seen, not_staged, stage_rose, options_kept, short_at, written_long, own_more}
 use Rattle.backlog.proofs.backlog.putting.spill.Goals as goal
 
-pub stage-requires-after_bounds : goal.stage-requires-after_bounds
-stage-requires-after_bounds g c κs within =
+pub stage-requires : goal.stage-requires
+stage-requires g c =
     let options : ForMessages c.loop-message.queue.options = options_kept c.args.queue.now c.loop-message.queue (map size_of (take c.loop-message.message-index c.args.messages.now)) c.requires.options c.loop-message.invariant.spilling.queue in
     let long = written_long c.write_record-size.new.scratch c.write_record-size.result c.message-item.result c.write_record-size.ensures.size c.write_record-size.ensures.within in
     omega (arith, options.least, long)

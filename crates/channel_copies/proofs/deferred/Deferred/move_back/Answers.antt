@@ -17,7 +17,7 @@ pub unwrap-message-requires : goal.unwrap-message-requires
 unwrap-message-requires g c = some_popped c.self.inside.heap.entries c.first.result _ c.pop_due.result c.first.ensures.is c.unwrap-due.ensures c.pop_due.ensures.none
 
 pub put_back-requires-clause-short : goal.put_back-requires-clause-short
-put_back-requires-clause-short g c κs within = (popped_short (if_some _ c.unwrap-message.ensures c.pop_due.ensures.first) c.self.invariant).0
+put_back-requires-clause-short g c = (popped_short (if_some _ c.unwrap-message.ensures c.pop_due.ensures.first) c.self.invariant).0
 
 pub invariant_of-self : goal.invariant_of-self
 invariant_of-self g c = (popped_short (if_some _ c.unwrap-message.ensures c.pop_due.ensures.first) c.self.invariant).1

@@ -21,7 +21,7 @@ remove-message-requires g c =
     is_some_of (key_reaches c.self.inside.heap.entries (get (pointwise nat_eq) c.self.inside.keys) c.args.id _ c.self.invariant.indexed (sym c.get.ensures.value ∙ ap option_copied c.unwrap-key.ensures)).there
 
 pub put_back-requires-clause-short : goal.put_back-requires-clause-short
-put_back-requires-clause-short g c κs within = (fit_taken c.remove-message.ensures.one.1 c.self.invariant.indexed).short
+put_back-requires-clause-short g c = (fit_taken c.remove-message.ensures.one.1 c.self.invariant.indexed).short
 
 pub invariant_of-self : goal.invariant_of-self
 invariant_of-self g c =

@@ -11,7 +11,7 @@ use Rattle.channel_storing.proofs.Wrote.{keeps_drawn}
 use Rattle.channel_core.proofs.channel.Channel.draw_for.Goals as goal
 
 pub draw-requires-clause-nothing : goal.draw-requires-clause-nothing
-draw-requires-clause-nothing g c κs within = nothing_lent (ap (λ (v : Seen). v.drawn) c.self.view_is ∙ c.requires.nothing) c.self.invariant
+draw-requires-clause-nothing g c = nothing_lent (ap (λ (v : Seen). v.drawn) c.self.view_is ∙ c.requires.nothing) c.self.invariant
 
 pub invariant_of-self : goal.invariant_of-self
 invariant_of-self g c =

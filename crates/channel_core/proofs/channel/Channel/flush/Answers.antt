@@ -8,10 +8,10 @@ use Rattle.channel_storing.proofs.Wrote.{keeps_joined, same_there}
 use Rattle.channel_core.proofs.channel.Channel.flush.Goals as goal
 
 pub write_flights-requires-clause-durable : goal.write_flights-requires-clause-durable
-write_flights-requires-clause-durable g c κs within = durable_queue _ _ c.self.invariant.named (sym c.is_ephemeral.ensures ∙ c.if-is_ephemeral.false)
+write_flights-requires-clause-durable g c = durable_queue _ _ c.self.invariant.named (sym c.is_ephemeral.ensures ∙ c.if-is_ephemeral.false)
 
 pub write_flights-requires-clause-nothing : goal.write_flights-requires-clause-nothing
-write_flights-requires-clause-nothing g c κs within = nothing_lent (ap (λ (v : Seen). v.drawn) c.self.view_is ∙ c.requires.nothing) c.self.invariant
+write_flights-requires-clause-nothing g c = nothing_lent (ap (λ (v : Seen). v.drawn) c.self.view_is ∙ c.requires.nothing) c.self.invariant
 
 pub invariant_of-self : goal.invariant_of-self
 invariant_of-self g c =

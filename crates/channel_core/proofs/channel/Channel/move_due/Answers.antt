@@ -17,13 +17,13 @@ pub returns-in_default-clause-disk : goal.returns-in_default-clause-disk
 returns-in_default-clause-disk g c = keeps_none g.F.Folder.tells_files (around c.args.self.now.backlog (g.F.Folder.files c.args.folder.now) (g.F.Folder.folder_faults c.args.folder.now))
 
 pub time_out-requires-clause-there : goal.time_out-requires-clause-there
-time_out-requires-clause-there g c κs within = flies_there c.args.now c.args.self.now (search rules)
+time_out-requires-clause-there g c = flies_there c.args.now c.args.self.now (search rules)
 
 pub returns-then-flies-clause-row : goal.returns-then-flies-clause-row
 returns-then-flies-clause-row g c = λ told disk on. c.time_out.ensures.row told c.args.now (search rules) disk on
 
 pub come_due-requires-clause-there : goal.come_due-requires-clause-there
-come_due-requires-clause-there g c κs within = waits_there c.in-Some.id c.args.now c.args.self.now (search rules)
+come_due-requires-clause-there g c = waits_there c.in-Some.id c.args.now c.args.self.now (search rules)
 
 pub returns-clause-row : goal.returns-clause-row
 returns-clause-row g c = λ told disk on. c.come_due.ensures.row told c.args.now (search rules) disk on

@@ -47,7 +47,7 @@ pub returns-in_default-clause-disk : goal.returns-in_default-clause-disk
 returns-in_default-clause-disk g c = keeps_same g.F.Folder.tells_files (g.F.Folder.files c.args.folder.now) (g.F.Folder.folder_faults c.args.folder.now) c.args.self.now.backlog c.reserve.new.self.backlog (ap (λ (v : Seen). v.backlog) c.reserve.ensures.rest)
 
 pub draw_for-requires-clause-nothing : goal.draw_for-requires-clause-nothing
-draw_for-requires-clause-nothing g c κs within = ap (λ (v : Seen). v.drawn) c.reserve.ensures.rest ∙ c.requires.nothing
+draw_for-requires-clause-nothing g c = ap (λ (v : Seen). v.drawn) c.reserve.ensures.rest ∙ c.requires.nothing
 
 pub returns-clause-cause : goal.returns-clause-cause
 returns-clause-cause g c = λ waits.

@@ -29,10 +29,10 @@ returns-then-delay-ne0-clause-row g c = λ told disk on.
     (subst (λ (v : Seen). OnDisk v.backlog.queue (files c.args.folder.now) disk) (sym c.self.view_is) on) c.saturating_add-self-inside.ensures refl
 
 pub move_back-requires-clause-there : goal.move_back-requires-clause-there
-move_back-requires-clause-there g c κs within = asked c.self.view_is c.requires.yours
+move_back-requires-clause-there g c = asked c.self.view_is c.requires.yours
 
 pub move_back-requires-clause-nothing : goal.move_back-requires-clause-nothing
-move_back-requires-clause-nothing g c κs within = nothing_lent (ap (λ (v : Seen). v.drawn) c.self.view_is ∙ c.requires.nothing) c.self.invariant
+move_back-requires-clause-nothing g c = nothing_lent (ap (λ (v : Seen). v.drawn) c.self.view_is ∙ c.requires.nothing) c.self.invariant
 
 pub invariant_of-self-in-Done : goal.invariant_of-self-in-Done
 invariant_of-self-in-Done g c =

@@ -1,4 +1,4 @@
-use Rattle.std.proofs.Common.{rules, ◌∙◌, ◌+◌, sym, ap, subst, refl, arith, IsSome}
+use Rattle.std.proofs.Common.{◌∙◌, ◌+◌, sym, ap, subst, refl, arith, IsSome}
 use Rattle.backlog.specs.Lists.{OnDisk}
 use Rattle.channel_copies.specs.Clients.{client_of}
 use Rattle.channel_copies.specs.Putting.{around}
@@ -16,7 +16,7 @@ pub overflow_add-due : goal.overflow_add-due
 overflow_add-due g c = omega (arith, c.get.ensures.timeout, c.requires.now)
 
 pub settle-requires : goal.settle-requires
-settle-requires g c = (search rules, (to_send _ (ap (λ (v : Seen). v.drawn) c.self.view_is ∙ c.requires.drawn.is) c.self.invariant).lent)
+settle-requires g c = (to_send _ (ap (λ (v : Seen). v.drawn) c.self.view_is ∙ c.requires.drawn.is) c.self.invariant).lent
 
 pub put-requires-clause-room : goal.put-requires-clause-room
 put-requires-clause-room g c = (to_send _ (ap (λ (v : Seen). v.drawn) c.self.view_is ∙ c.requires.drawn.is) c.self.invariant).flying

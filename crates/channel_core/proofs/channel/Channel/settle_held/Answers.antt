@@ -1,4 +1,4 @@
-use Rattle.std.proofs.Common.{rules, ◌∙◌, ◌+◌, IsSome, sym, ap, subst, refl, arith}
+use Rattle.std.proofs.Common.{◌∙◌, ◌+◌, IsSome, sym, ap, subst, refl, arith}
 use Rattle.v2_frame.specs.declared.message.Message.{Message}
 use Rattle.backlog.specs.Lists.{OnDisk}
 use Rattle.channel_copies.specs.Flights.{Leaves}
@@ -18,7 +18,7 @@ pub unwrap-message-requires : goal.unwrap-message-requires
 unwrap-message-requires g c = subst IsSome (sym (c.held.ensures ∙ ap held_of c.replace-drawn.ensures.value)) (subst (λ (v : Seen). IsSome (held_of v.drawn)) (sym c.self.view_is) (is_held c.requires.drawn))
 
 pub settle-requires : goal.settle-requires
-settle-requires g c = (search rules, (to_hold c.requires.drawn.held c.args.now (ap (λ (v : Seen). v.drawn) c.self.view_is ∙ c.requires.drawn.is) c.self.invariant).lent)
+settle-requires g c = (to_hold c.requires.drawn.held c.args.now (ap (λ (v : Seen). v.drawn) c.self.view_is ∙ c.requires.drawn.is) c.self.invariant).lent
 
 pub put-requires-clause-room : goal.put-requires-clause-room
 put-requires-clause-room g c = omega (arith, (to_hold c.requires.drawn.held c.args.now (ap (λ (v : Seen). v.drawn) c.self.view_is ∙ c.requires.drawn.is) c.self.invariant).deferred)

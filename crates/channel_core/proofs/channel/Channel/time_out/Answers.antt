@@ -11,10 +11,10 @@ use Rattle.channel_storing.proofs.Wrote.{keeps_put}
 use Rattle.channel_core.proofs.channel.Channel.time_out.Goals as goal
 
 pub move_back-requires-clause-there : goal.move_back-requires-clause-there
-move_back-requires-clause-there g c κs within = subst (λ (v : Seen). 0 < flights_of_id c.args.id v.flights) (sym c.self.view_is) c.requires.there
+move_back-requires-clause-there g c = subst (λ (v : Seen). 0 < flights_of_id c.args.id v.flights) (sym c.self.view_is) c.requires.there
 
 pub move_back-requires-clause-nothing : goal.move_back-requires-clause-nothing
-move_back-requires-clause-nothing g c κs within = nothing_lent (ap (λ (v : Seen). v.drawn) c.self.view_is ∙ c.requires.nothing) c.self.invariant
+move_back-requires-clause-nothing g c = nothing_lent (ap (λ (v : Seen). v.drawn) c.self.view_is ∙ c.requires.nothing) c.self.invariant
 
 pub invariant_of-self : goal.invariant_of-self
 invariant_of-self g c =

@@ -1,5 +1,6 @@
 use Rattle.std.proofs.Common.{subst}
 use Rattle.disk_queue.specs.Holding.{OwnChange}
+use Rattle.disk_queue.specs.Parts.{OnlySaveChanges}
 use Rattle.disk_queue.proofs.Saves.{holds_dropped, stands_dropped, found_saved, unchanged_found}
 use Rattle.disk_queue.proofs.queue.Queue.sync.Goals as goal
 
@@ -18,6 +19,10 @@ returns-clause-found g c = λ told bodies waiting h s.
 
 pub returns-clause-stands : goal.returns-clause-stands
 returns-clause-stands g c = λ told s. c.save.ensures.stands told (stands_dropped c.args.self.now c.unmark.new.self (g.F.Folder.files c.args.folder.now) c.unmark.ensures s)
+
+pub returns-clause-files : goal.returns-clause-files
+returns-clause-files g c = λ told.
+    subst (λ q. OnlySaveChanges q (g.F.Folder.files c.args.folder.now) (g.F.Folder.files c.save.new.folder)) c.unmark.ensures (c.save.ensures.files told)
 
 pub returns-clause-others : goal.returns-clause-others
 returns-clause-others g c = λ told.

@@ -1,6 +1,6 @@
 //! Calls of a channel as plain answers: a message is its number, its letter and its attempts.
 
-ghost use Rattle.std.specs.Prelude.{◌≡◌, ◌≤◌, ◌^◌, length, IfOk, IsSome, OnOk};
+ghost use Rattle.std.specs.Prelude.{◌≡◌, ◌≤◌, ◌^◌, [], length, IfOk, IsSome, OnOk};
 ghost use Rattle.backlog.specs.Seen.{FitsLimit};
 ghost use Rattle.channel_copies.specs.Clients.{client_of};
 ghost use Rattle.channel_core.specs.declared.drawn.Drawn.TheVariants as drawn;
@@ -111,19 +111,46 @@ pub enum Opened {
 
 /// What a channel of the topic `t` is made with that has this name and keeps so many queued copies in memory; None where it is no name.
 pub fn set_up(alloc: Global, name: &[u8], memory: u64) -> Result<Option<Setup>, Memory> {
-    let Some(topic) = Topic::read(b"t") else {
-        return Ok(None);
-    };
-    let Some(name) = Chan::read(name) else {
-        return Ok(None);
-    };
     let mut options = Options::defaults(alloc)?;
     options.mem_queue_size = memory;
-    Ok(Some(Setup {
+    Ok(set_up_with(name, options))
+}
+
+/// The same with these options.
+pub fn set_up_with(name: &[u8], options: Options) -> Option<Setup>
+    requires { FitsRun options }
+{
+    let Some(topic) = Topic::read(b"t") else {
+        return None;
+    };
+    let Some(name) = Chan::read(name) else {
+        return None;
+    };
+    Some(Setup {
         topic,
         name,
         options,
-    }))
+    })
+}
+
+/// A channel in a folder.
+#[derive(Drop)]
+pub struct Stage {
+    pub setup: Setup,
+    pub channel: Channel,
+    pub folder: MemFolder,
+}
+
+/// A channel in this folder whose two clients have asked for no message yet.
+pub fn make_stage(alloc: Global, setup: Setup, folder: MemFolder) -> Result<Stage, Memory>
+    ensures { IfOk result (λ s. IsServed s.channel) }
+{
+    let channel = served(alloc, &setup)?;
+    Ok(Stage {
+        setup,
+        channel,
+        folder,
+    })
 }
 
 /// Room for the longest message.
@@ -179,7 +206,17 @@ fn letter_of(message: &Message) -> Option<u8> {
 pub fn served(alloc: Global, setup: &Setup) -> Result<Channel, Memory>
     ensures { IfOk result IsServed }
 {
-    let mut channel = Channel::fresh(alloc, setup.topic, setup.name, &setup.options)?;
+    let channel = Channel::fresh(alloc, setup.topic, setup.name, &setup.options)?;
+    subscribed(channel)
+}
+
+// The channel with both clients.
+fn subscribed(channel: Channel) -> Result<Channel, Memory>
+    requires nothing { channel.drawn ≡ drawn.Nothing }
+    requires none { channel.clients ≡ [] }
+    ensures { IfOk result IsServed }
+{
+    let mut channel = channel;
     channel.subscribe(1, FIRST_TIME)?;
     channel.subscribe(2, SECOND_TIME)?;
     Ok(channel)
@@ -460,10 +497,7 @@ pub fn open(
 {
     match Channel::open(alloc, folder, setup.topic, setup.name, &setup.options) {
         Ok(opened) => {
-            let mut opened = opened;
-            opened.subscribe(1, FIRST_TIME)?;
-            opened.subscribe(2, SECOND_TIME)?;
-            *channel = opened;
+            *channel = subscribed(opened)?;
             Ok(Opened::Done)
         }
         Err(Open::Memory) => Err(Memory),

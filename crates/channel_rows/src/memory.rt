@@ -5,8 +5,8 @@ ghost use Rattle.std.specs.Prelude.{◌≡◌, ◌≤◌, ◌<◌, ◌^◌, leng
 ghost use Rattle.channel_rows.specs.Served.{IsServed};
 
 use crate::calls::{
-    Given, MINUTE, Offered, Then, Who, events, finish, give, look, message, offer, places, ready,
-    scratch, served, set_up,
+    Given, MINUTE, Offered, Then, Who, events, finish, give, look, make_stage, message, offer,
+    places, ready, scratch, set_up,
 };
 use channel_core::{Channel, Counts, Look};
 use nsq_base::{Memory, Steps};
@@ -118,42 +118,56 @@ fn holds<L: Ledger>(
 ) -> Result<bool, Memory>
     requires { 16777242 ≤ length scratch.old }
 {
+    let folder = MemFolder::new(alloc, Vec::new(alloc), Vec::new(alloc))?;
     let Some(setup) = set_up(alloc, b"c", memory)? else {
         return Ok(false);
     };
-    let mut folder = MemFolder::new(alloc, Vec::new(alloc), Vec::new(alloc))?;
-    let mut channel = served(alloc, &setup)?;
-    ready(&mut channel, Who::First, 3);
-    if !joins(alloc, &mut channel, &mut folder, scratch, 0, 0, steps)?
-        || !joins(alloc, &mut channel, &mut folder, scratch, 1, MINUTE, steps)?
-    {
-        return Ok(false);
-    }
+    let mut stage = make_stage(alloc, setup, folder)?;
+    calls_hold(alloc, &mut stage.channel, &mut stage.folder, scratch, steps)
+}
+
+fn calls_hold<L: Ledger>(
+    alloc: Global,
+    channel: &mut Channel,
+    folder: &mut MemFolder,
+    scratch: &mut [u8],
+    steps: &mut Steps<L>,
+) -> Result<bool, Memory>
+    requires served { IsServed channel.old }
+    requires scratch { 16777242 ≤ length scratch.old }
+{
     let sent = Given::Send(0, b'm', 1);
-    if !gets(&mut channel, &mut folder, scratch, Then::Undo, sent, steps)
-        || !gets(
-            &mut channel,
-            &mut folder,
-            scratch,
-            Then::Settle,
-            sent,
-            steps,
-        )
-        || !joins(alloc, &mut channel, &mut folder, scratch, 0, 0, steps)?
-        || !gets(
-            &mut channel,
-            &mut folder,
-            scratch,
-            Then::Settle,
-            Given::Held(0),
-            steps,
-        )
-    {
+    ready(channel, Who::First, 3);
+    if !joins(alloc, channel, folder, scratch, 0, 0, steps)? {
         return Ok(false);
     }
-    let finished = finish(&mut channel, Who::First, 0, steps);
+    if !joins(alloc, channel, folder, scratch, 1, MINUTE, steps)? {
+        return Ok(false);
+    }
+    if !gets(channel, folder, scratch, Then::Undo, sent, steps) {
+        return Ok(false);
+    }
+    if !gets(channel, folder, scratch, Then::Settle, sent, steps) {
+        return Ok(false);
+    }
+    if !joins(alloc, channel, folder, scratch, 0, 0, steps)? {
+        return Ok(false);
+    }
+    if !gets(
+        channel,
+        folder,
+        scratch,
+        Then::Settle,
+        Given::Held(0),
+        steps,
+    ) {
+        return Ok(false);
+    }
+    if !finish(channel, Who::First, 0, steps) {
+        return Ok(false);
+    }
     let counts = channel.counts();
-    Ok(finished && places(counts) == (0, 0, 0, 2) && events(counts) == (3, 0, 0))
+    Ok(places(counts) == (0, 0, 0, 2) && events(counts) == (3, 0, 0))
 }
 
 // Whether all holds. What wants memory before the calls or between them ends it.

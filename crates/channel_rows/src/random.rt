@@ -1,18 +1,18 @@
 //! Random calls of a channel, beside a plain list of copies: what each answers, and what the channel tells afterwards, is what the list says.
 
-ghost use Rattle.std.specs.Prelude.{◌≡◌, ◌≤◌, ◌<◌, length, OnOk};
+ghost use Rattle.std.specs.Prelude.{◌≡◌, ◌≤◌, ◌<◌, length, IfOk, OnOk};
 ghost use Rattle.channel_rows.specs.Served.{IsServed};
 
 use crate::calls::{
     self, Came, Given, Offered, Opened, Setup, Then, Who, events, message, places, scratch, served,
-    set_up,
+    set_up_with,
 };
 use crate::dice::{Dice, NUMBERS};
 use crate::plain::{HELD, MOST, Plain};
 use backlog::Flushed;
 use channel_core::{Channel, Requeue};
 use disk_queue::{Emptied, Sync};
-use nsq_base::{Memory, Steps};
+use nsq_base::{Memory, Options, Steps};
 use nsq_fakes::MemFolder;
 use std::alloc::Global;
 use std::marker::Brand;
@@ -35,7 +35,7 @@ const CALLS: usize = 2_000;
 
 const SEEDS: u64 = 20;
 
-const RUNS: [Run; 9] = [
+static RUNS: [Run; 9] = [
     Run {
         name: "durable, with room for 3",
         channel: b"c",
@@ -493,29 +493,22 @@ fn holds<L: Ledger>(
 ) -> Result<bool, Memory>
     requires { 16777242 ≤ length scratch.old }
 {
-    let Some(made) = set_up(alloc, run.channel, run.memory)? else {
+    let Some(setup) = setup_of(alloc, run)? else {
         return Ok(false);
     };
-    let mut setup = made;
-    setup.options.msg_timeout = HELD;
-    setup.options.max_msg_timeout = MOST;
-    setup.options.max_bytes_per_file = 200;
-    setup.options.sync_every = 3;
-    let mut dice = Dice::new(seed);
-    let fails = if run.fails {
-        dice.faults(alloc)?
-    } else {
-        Vec::new(alloc)
-    };
-    let channel = served(alloc, &setup)?;
-    let mut pair = Pair {
-        plain: Plain::new(alloc, setup.name.ephemeral(), run.memory),
-        setup,
-        channel,
-        folder: MemFolder::new(alloc, Vec::new(alloc), fails)?,
-        fails: run.fails,
-        dice,
-    };
+    let mut pair = pair_of(alloc, setup, run, seed)?;
+    calls_hold(alloc, &mut pair, scratch, steps)
+}
+
+fn calls_hold<L: Ledger>(
+    alloc: Global,
+    pair: &mut Pair,
+    scratch: &mut [u8],
+    steps: &mut Steps<L>,
+) -> Result<bool, Memory>
+    requires served { IsServed pair.old.channel }
+    requires scratch { 16777242 ≤ length scratch.old }
+{
     for _ in 0..CALLS {
         if !pair.step(alloc, scratch, steps)? {
             return Ok(false);
@@ -524,7 +517,62 @@ fn holds<L: Ledger>(
     Ok(true)
 }
 
+// What the channel of a run is made with.
+fn setup_of(alloc: Global, run: &Run) -> Result<Option<Setup>, Memory> {
+    let mut options = Options::defaults(alloc)?;
+    options.mem_queue_size = run.memory;
+    options.msg_timeout = HELD;
+    options.max_msg_timeout = MOST;
+    options.max_bytes_per_file = 200;
+    options.sync_every = 3;
+    Ok(set_up_with(run.channel, options))
+}
+
+// A channel in a folder of this seed, and the list beside it.
+fn pair_of(alloc: Global, setup: Setup, run: &Run, seed: u64) -> Result<Pair, Memory>
+    ensures { IfOk result (λ p. IsServed p.channel) }
+{
+    let mut dice = Dice::new(seed);
+    let folder = folder_of(alloc, run, &mut dice)?;
+    let channel = served(alloc, &setup)?;
+    Ok(Pair {
+        plain: Plain::new(alloc, setup.name.ephemeral(), run.memory),
+        setup,
+        channel,
+        folder,
+        fails: run.fails,
+        dice,
+    })
+}
+
+// An empty folder, of which calls fail where the run says so.
+fn folder_of(alloc: Global, run: &Run, dice: &mut Dice) -> Result<MemFolder, Memory> {
+    let fails = if run.fails {
+        dice.faults(alloc)?
+    } else {
+        Vec::new(alloc)
+    };
+    MemFolder::new(alloc, Vec::new(alloc), fails)
+}
+
 // The seed and the name of the first run that doesn't hold, if any.
+fn first_wrong<L: Ledger>(
+    alloc: Global,
+    scratch: &mut [u8],
+    steps: &mut Steps<L>,
+) -> Result<Option<(u64, &'static str)>, Memory>
+    requires { 16777242 ≤ length scratch.old }
+{
+    for i in 0..SEEDS {
+        let seed = i + 1;
+        let run = RUNS[seed as usize % RUNS.len()];
+        if !holds(alloc, scratch, &run, seed, steps)? {
+            return Ok(Some((seed, run.name)));
+        }
+    }
+    Ok(None)
+}
+
 fn wrong_run<L: Ledger>(alloc: Global, blank: Blank) -> Result<Option<(u64, &'static str)>, Memory>
     requires name { blank.name ≡ L.name }
     requires parts { blank.parts ≡ L.parts }
@@ -532,13 +580,7 @@ fn wrong_run<L: Ledger>(alloc: Global, blank: Blank) -> Result<Option<(u64, &'st
 {
     let mut scratch = scratch(alloc)?;
     let mut steps: Steps<L> = Steps::new(blank);
-    for seed in 1..=SEEDS {
-        let run = RUNS[seed as usize % RUNS.len()];
-        if !holds(alloc, &mut scratch, &run, seed, &mut steps)? {
-            return Ok(Some((seed, run.name)));
-        }
-    }
-    Ok(None)
+    first_wrong(alloc, &mut scratch, &mut steps)
 }
 
 #[test]

@@ -4,8 +4,9 @@ ghost use Rattle.std.specs.Prelude.{◌≡◌, ◌≤◌, ◌<◌, length, OnOk}
 ghost use Rattle.channel_rows.specs.Served.{IsServed};
 
 use crate::calls::{
-    Came, Given, Offered, Opened, Setup, Then, Who, come_again, delete, events, finish, give, look,
-    message, move_due, offer, open, places, ready, requeue, scratch, served, set_up, touch,
+    Came, Given, Offered, Opened, Setup, Stage, Then, Who, come_again, delete, events, finish,
+    give, look, make_stage, message, move_due, offer, open, places, ready, requeue, scratch,
+    set_up, touch,
 };
 use crate::{sending, storing};
 use backlog::Flushed;
@@ -88,20 +89,33 @@ fn holds<L: Ledger>(
 ) -> Result<bool, Memory>
     requires { 16777242 ≤ length scratch.old }
 {
+    let folder = folder_of(alloc, script)?;
     let Some(setup) = set_up(alloc, script.channel, script.memory)? else {
         return Ok(false);
     };
-    let mut folder = folder_of(alloc, script)?;
-    let mut channel = served(alloc, &setup)?;
-    if channel.name() != setup.name {
+    let mut stage = make_stage(alloc, setup, folder)?;
+    steps_hold(alloc, &mut stage, scratch, script.steps, steps)
+}
+
+fn steps_hold<L: Ledger>(
+    alloc: Global,
+    stage: &mut Stage,
+    scratch: &mut [u8],
+    script: &[Step],
+    steps: &mut Steps<L>,
+) -> Result<bool, Memory>
+    requires served { IsServed stage.old.channel }
+    requires scratch { 16777242 ≤ length scratch.old }
+{
+    if stage.channel.name() != stage.setup.name {
         return Ok(false);
     }
-    for step in script.steps {
+    for step in script {
         if !step_holds(
             alloc,
-            &setup,
-            &mut channel,
-            &mut folder,
+            &stage.setup,
+            &mut stage.channel,
+            &mut stage.folder,
             scratch,
             *step,
             steps,
@@ -114,11 +128,21 @@ fn holds<L: Ledger>(
 
 // The folder that a script begins with.
 fn folder_of(alloc: Global, script: &Script) -> Result<MemFolder, Memory> {
+    let files = match script.meta {
+        Some(bytes) => meta_of(alloc, bytes)?,
+        None => Vec::new(alloc),
+    };
+    let fails = script.fails.to_vec(alloc)?;
+    MemFolder::new(alloc, files, fails)
+}
+
+// The file of these bytes under the metadata's name.
+fn meta_of(alloc: Global, bytes: &[u8]) -> Result<Vec<(String, Vec<u8>)>, Memory> {
     let mut files = Vec::new(alloc);
-    if let Some(bytes) = script.meta {
-        files.push((String::from_str(alloc, META)?, bytes.to_vec(alloc)?))?;
-    }
-    MemFolder::new(alloc, files, script.fails.to_vec(alloc)?)
+    let name = String::from_str(alloc, META)?;
+    let bytes = bytes.to_vec(alloc)?;
+    files.push((name, bytes))?;
+    Ok(files)
 }
 
 // Whether a step answers what it says.
@@ -257,7 +281,24 @@ fn is_made_of(bytes: &[u8], pieces: &[&[u8]]) -> bool {
     rest.is_empty()
 }
 
-// The name of the first script that doesn't hold, if any.
+// The name of the first of these scripts that doesn't hold, if any.
+fn first_wrong<L: Ledger>(
+    alloc: Global,
+    scratch: &mut [u8],
+    scripts: &[Script],
+    steps: &mut Steps<L>,
+) -> Result<Option<&'static str>, Memory>
+    requires { 16777242 ≤ length scratch.old }
+{
+    for script in scripts {
+        if !holds(alloc, scratch, script, steps)? {
+            return Ok(Some(script.name));
+        }
+    }
+    Ok(None)
+}
+
+// The name of the first script of all that doesn't hold, if any.
 fn wrong_script<L: Ledger>(alloc: Global, blank: Blank) -> Result<Option<&'static str>, Memory>
     requires name { blank.name ≡ L.name }
     requires parts { blank.parts ≡ L.parts }
@@ -275,10 +316,9 @@ fn wrong_script<L: Ledger>(alloc: Global, blank: Blank) -> Result<Option<&'stati
         storing::DROPPING.as_slice(),
         storing::STOPPING.as_slice(),
     ] {
-        for script in scripts {
-            if !holds(alloc, &mut scratch, script, &mut steps)? {
-                return Ok(Some(script.name));
-            }
+        let wrong = first_wrong(alloc, &mut scratch, scripts, &mut steps)?;
+        if wrong.is_some() {
+            return Ok(wrong);
         }
     }
     Ok(None)

@@ -6,7 +6,7 @@ use channel_core::{Look, Requeue};
 use nsq_fakes::{Failing, FolderCall};
 
 /// Who gets a copy.
-pub const CREDIT: [Script; 4] = [
+pub static CREDIT: [Script; 4] = [
     Script {
         name: "a client without credit gets none",
         channel: b"c",
@@ -90,7 +90,7 @@ pub const CREDIT: [Script; 4] = [
 ];
 
 /// What is drawn.
-pub const DRAWING: [Script; 5] = [
+pub static DRAWING: [Script; 5] = [
     Script {
         name: "a copy whose id is in flight is held back",
         channel: b"c",
@@ -185,7 +185,7 @@ pub const DRAWING: [Script; 5] = [
 ];
 
 /// What a client does with a copy that it has.
-pub const SETTLING: [Script; 4] = [
+pub static SETTLING: [Script; 4] = [
     Script {
         name: "what is given back at once is queued, and after a delay deferred",
         channel: b"c",
@@ -275,7 +275,7 @@ pub const SETTLING: [Script; 4] = [
 ];
 
 /// What comes due.
-pub const COMING_DUE: [Script; 4] = [
+pub static COMING_DUE: [Script; 4] = [
     Script {
         name: "the copies of a client that left stay in flight",
         channel: b"c",

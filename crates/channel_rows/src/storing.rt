@@ -22,7 +22,7 @@ const SECOND_WRITE_FAILS: Failing = Failing {
 };
 
 /// What joins.
-pub const JOINING: [Script; 6] = [
+pub static JOINING: [Script; 6] = [
     Script {
         name: "an offered delay counts from its joining",
         channel: b"c",
@@ -126,7 +126,7 @@ pub const JOINING: [Script; 6] = [
 ];
 
 /// A folder that fails.
-pub const FAILING: [Script; 6] = [
+pub static FAILING: [Script; 6] = [
     Script {
         name: "a fault hands the message back",
         channel: b"c",
@@ -224,7 +224,7 @@ pub const FAILING: [Script; 6] = [
 ];
 
 /// Copies that are dropped.
-pub const DROPPING: [Script; 2] = [
+pub static DROPPING: [Script; 2] = [
     Script {
         name: "emptying drops all copies, wherever they are",
         channel: b"c",
@@ -270,7 +270,7 @@ pub const DROPPING: [Script; 2] = [
 ];
 
 /// A stop and a start.
-pub const STOPPING: [Script; 6] = [
+pub static STOPPING: [Script; 6] = [
     Script {
         name: "a stop writes the ring, those in flight and the deferred ones",
         channel: b"c",

@@ -1,0 +1,19 @@
+//! Rows of channels: worked examples of their calls, and random calls beside plain lists. It has nothing but tests.
+#![tactic(auto)]
+
+#[cfg(test)]
+mod calls;
+#[cfg(test)]
+mod dice;
+#[cfg(test)]
+mod memory;
+#[cfg(test)]
+mod plain;
+#[cfg(test)]
+mod random;
+#[cfg(test)]
+mod script;
+#[cfg(test)]
+mod sending;
+#[cfg(test)]
+mod storing;

@@ -3,7 +3,7 @@ ghost use Rattle.broker_history.specs.State.{IsSame, raised};
 ghost use Rattle.broker_state.specs.Places.{place_of};
 ghost use Rattle.broker_changes.specs.Rows.{sent_at};
 
-use broker_state::{ChannelState, MessageCopy, Place, copy_all};
+use broker_state::{ChannelState, MessageCopy, Place};
 use nsq_base::{Memory, MsgId};
 use std::alloc::Global;
 use v2_frame::Message;
@@ -56,10 +56,13 @@ fn replaced(
 ) -> Result<Vec<MessageCopy>, Memory>
     requires { i < length copies.now }
 {
-    let mut all = copy_all(alloc, &copies[..i])?;
+    let mut all = Vec::new(alloc);
+    for before in 0..i {
+        all.push(copies[before].copy(alloc)?)?;
+    }
     all.push(copy)?;
-    for other in &copies[i + 1..] {
-        all.push(other.copy(alloc)?)?;
+    for after in i + 1..copies.len() {
+        all.push(copies[after].copy(alloc)?)?;
     }
     Ok(all)
 }

@@ -71,36 +71,66 @@ pub fn made_channel(
     name: &Topic,
     channel: &Chan,
 ) -> Result<State, Memory> {
-    let topic = topic_or_new(alloc, &state, name)?;
-    let channel = channel_or_new(alloc, &topic, channel)?;
-    let topic = topic.with_channel(alloc, channel)?;
+    let topic = topic_with_new(alloc, &state, name, channel)?;
     state.with_topic(alloc, topic)
+}
+
+// The topic of this name with the channel in it, each as it is made where there is none.
+fn topic_with_new(
+    alloc: Global,
+    state: &State,
+    name: &Topic,
+    channel: &Chan,
+) -> Result<TopicState, Memory> {
+    let topic = topic_or_new(alloc, state, name)?;
+    let channel = channel_or_new(alloc, &topic, channel)?;
+    topic.with_channel(alloc, channel)
 }
 
 // The state without the topic of this name (`without_topic`), its messages and what is left of its channels.
 fn without_topic(alloc: Global, mut state: State, name: &Topic) -> Result<State, Memory> {
-    let mut topics = Vec::new(alloc);
-    for topic in state.topics {
+    state.topics = other_topics(alloc, &state.topics, name)?;
+    Ok(state)
+}
+
+// Copies of the topics but the one of this name.
+fn other_topics(
+    alloc: Global,
+    topics: &[TopicState],
+    name: &Topic,
+) -> Result<Vec<TopicState>, Memory> {
+    let mut others = Vec::new(alloc);
+    for topic in topics {
         if !topic.is_named(name) {
-            topics.push(topic)?;
+            others.push(topic.copy(alloc)?)?;
         }
     }
-    state.topics = topics;
-    Ok(state)
+    Ok(others)
 }
 
 // The topic without the channel of this name (`without_channel`), which is owed nothing any more.
 fn without_channel(alloc: Global, topic: &TopicState, name: &Chan) -> Result<TopicState, Memory> {
+    let taken = owed_no_more(alloc, &topic.taken, name)?;
+    let channels = other_channels(alloc, &topic.channels, name)?;
     let mut fewer = topic.copy(alloc)?;
-    fewer.taken = owed_no_more(alloc, &topic.taken, name)?;
-    let mut channels = Vec::new(alloc);
-    for channel in &topic.channels {
-        if !channel.is_named(name) {
-            channels.push(channel.copy(alloc)?)?;
-        }
-    }
+    fewer.taken = taken;
     fewer.channels = channels;
     Ok(fewer)
+}
+
+// Copies of the channels but the one of this name.
+fn other_channels(
+    alloc: Global,
+    channels: &[ChannelState],
+    name: &Chan,
+) -> Result<Vec<ChannelState>, Memory> {
+    let mut others = Vec::new(alloc);
+    for channel in channels {
+        if !channel.is_named(name) {
+            others.push(channel.copy(alloc)?)?;
+        }
+    }
+    Ok(others)
 }
 
 // The state with this topic, one of whose channels went (`with_fewer`): an ephemeral topic goes with its last channel.
@@ -115,36 +145,72 @@ fn with_fewer(alloc: Global, state: State, topic: TopicState) -> Result<State, M
 // The clients after this channel was deleted (`lost`): those that had it are lost.
 fn lost(
     alloc: Global,
-    clients: Vec<Client>,
+    clients: &[Client],
     topic: &Topic,
     channel: &Chan,
 ) -> Result<Vec<Client>, Memory> {
     let mut others = Vec::new(alloc);
-    for mut client in clients {
-        if client.has_channel(topic, channel) {
-            client.phase = Phase::Lost;
-        }
-        others.push(client)?;
+    for client in clients {
+        others.push(lost_client(alloc, client, topic, channel)?)?;
     }
     Ok(others)
+}
+
+// The client after this channel was deleted.
+fn lost_client(
+    alloc: Global,
+    client: &Client,
+    topic: &Topic,
+    channel: &Chan,
+) -> Result<Client, Memory> {
+    let mut lost = client.copy(alloc)?;
+    if client.has_channel(topic, channel) {
+        lost.phase = Phase::Lost;
+    }
+    Ok(lost)
 }
 
 // The state after the channel was deleted (`deleted_channel`): its copies, its clients' part in it and what it was owed are gone.
 fn deleted_channel(
     alloc: Global,
-    mut state: State,
+    state: State,
     name: &Topic,
     channel: &Chan,
 ) -> Result<State, Memory> {
+    match fewer_channels(alloc, &state, name, channel)? {
+        None => Ok(state),
+        Some(fewer) => {
+            let state = with_lost(alloc, state, name, channel)?;
+            with_fewer(alloc, state, fewer)
+        }
+    }
+}
+
+// The topic without the channel, where it has it.
+fn fewer_channels(
+    alloc: Global,
+    state: &State,
+    name: &Topic,
+    channel: &Chan,
+) -> Result<Option<TopicState>, Memory> {
     let Some(topic) = state.topic_of(name) else {
-        return Ok(state);
+        return Ok(None);
     };
     if topic.channel_of(channel).is_none() {
-        return Ok(state);
+        return Ok(None);
     }
-    let fewer = without_channel(alloc, topic, channel)?;
-    state.clients = lost(alloc, state.clients, name, channel)?;
-    with_fewer(alloc, state, fewer)
+    Ok(Some(without_channel(alloc, topic, channel)?))
+}
+
+// The state whose clients that had this channel are lost.
+fn with_lost(
+    alloc: Global,
+    mut state: State,
+    topic: &Topic,
+    channel: &Chan,
+) -> Result<State, Memory> {
+    state.clients = lost(alloc, &state.clients, topic, channel)?;
+    Ok(state)
 }
 
 /// The names of a topic's channels (`channels_in`), none where it isn't there.
@@ -190,19 +256,11 @@ pub fn deleted(
     }
 }
 
-// The state after a topic, or a channel of it, was changed.
-fn with_changed(
-    alloc: Global,
-    state: State,
-    topic: TopicState,
-    channel: Option<ChannelState>,
-) -> Result<State, Memory> {
-    match channel {
-        None => state.with_topic(alloc, topic),
-        Some(channel) => {
-            let topic = topic.with_channel(alloc, channel)?;
-            state.with_topic(alloc, topic)
-        }
+// The state with this topic in place of the one of its name, where there is one.
+fn with_changed(alloc: Global, state: State, changed: Option<TopicState>) -> Result<State, Memory> {
+    match changed {
+        None => Ok(state),
+        Some(topic) => state.with_topic(alloc, topic),
     }
 }
 
@@ -214,23 +272,37 @@ pub fn emptied(
     name: &Topic,
     channel: &Option<Chan>,
 ) -> Result<State, Memory> {
-    let Some(topic) = state.topic_of(name) else {
-        return Ok(state);
+    let changed = match channel {
+        None => emptied_topic(alloc, state.topic_of(name))?,
+        Some(channel) => emptied_channel(alloc, state.topic_of(name), channel)?,
+    };
+    with_changed(alloc, state, changed)
+}
+
+// The topic after it was emptied.
+fn emptied_topic(alloc: Global, topic: Option<&TopicState>) -> Result<Option<TopicState>, Memory> {
+    let Some(topic) = topic else {
+        return Ok(None);
     };
     let mut topic = topic.copy(alloc)?;
-    match channel {
-        None => {
-            topic.waiting = Vec::new(alloc);
-            with_changed(alloc, state, topic, None)
-        }
-        Some(channel) => {
-            let Some(channel) = topic.channel_of(channel) else {
-                return Ok(state);
-            };
-            let channel = channels::emptied(alloc, channel)?;
-            with_changed(alloc, state, topic, Some(channel))
-        }
-    }
+    topic.waiting = Vec::new(alloc);
+    Ok(Some(topic))
+}
+
+// The topic after its channel was emptied.
+fn emptied_channel(
+    alloc: Global,
+    topic: Option<&TopicState>,
+    name: &Chan,
+) -> Result<Option<TopicState>, Memory> {
+    let Some(topic) = topic else {
+        return Ok(None);
+    };
+    let Some(channel) = topic.channel_of(name) else {
+        return Ok(None);
+    };
+    let channel = channels::emptied(alloc, channel)?;
+    Ok(Some(topic.copy(alloc)?.with_channel(alloc, channel)?))
 }
 
 /// The state after a topic or a channel was paused, or is not any more (`set_paused`).
@@ -241,32 +313,51 @@ pub fn set_paused(
     name: &Topic,
     channel: &Option<Chan>,
 ) -> Result<State, Memory> {
-    let Some(topic) = state.topic_of(name) else {
-        return Ok(state);
+    let changed = match channel {
+        None => paused_topic(alloc, on, state.topic_of(name))?,
+        Some(channel) => paused_channel(alloc, on, state.topic_of(name), channel)?,
+    };
+    with_changed(alloc, state, changed)
+}
+
+// The topic, paused or not.
+fn paused_topic(
+    alloc: Global,
+    on: bool,
+    topic: Option<&TopicState>,
+) -> Result<Option<TopicState>, Memory> {
+    let Some(topic) = topic else {
+        return Ok(None);
     };
     let mut topic = topic.copy(alloc)?;
-    match channel {
-        None => {
-            topic.paused = on;
-            with_changed(alloc, state, topic, None)
-        }
-        Some(channel) => {
-            let Some(channel) = topic.channel_of(channel) else {
-                return Ok(state);
-            };
-            let mut channel = channel.copy(alloc)?;
-            channel.paused = on;
-            with_changed(alloc, state, topic, Some(channel))
-        }
-    }
+    topic.paused = on;
+    Ok(Some(topic))
+}
+
+// The topic with its channel, paused or not.
+fn paused_channel(
+    alloc: Global,
+    on: bool,
+    topic: Option<&TopicState>,
+    name: &Chan,
+) -> Result<Option<TopicState>, Memory> {
+    let Some(topic) = topic else {
+        return Ok(None);
+    };
+    let Some(channel) = topic.channel_of(name) else {
+        return Ok(None);
+    };
+    let mut channel = channel.copy(alloc)?;
+    channel.paused = on;
+    Ok(Some(topic.copy(alloc)?.with_channel(alloc, channel)?))
 }
 
 // The clients without the one of this number.
-fn without_client(alloc: Global, clients: Vec<Client>, number: u64) -> Result<Vec<Client>, Memory> {
+fn without_client(alloc: Global, clients: &[Client], number: u64) -> Result<Vec<Client>, Memory> {
     let mut others = Vec::new(alloc);
     for client in clients {
         if client.number != number {
-            others.push(client)?;
+            others.push(client.copy(alloc)?)?;
         }
     }
     Ok(others)
@@ -287,7 +378,7 @@ pub fn gone(alloc: Global, mut state: State, number: u64) -> Result<State, Memor
         return Ok(state);
     };
     let route = left_route(client);
-    state.clients = without_client(alloc, state.clients, number)?;
+    state.clients = without_client(alloc, &state.clients, number)?;
     match route {
         None => Ok(state),
         Some(route) => left_channel(alloc, state, &route),

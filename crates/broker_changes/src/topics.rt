@@ -133,20 +133,37 @@ fn took_at(
 ) -> Result<TopicState, Memory>
     requires { i < length topic.now.waiting }
 {
-    let mut taken = topic.copy(alloc)?;
-    let mut waiting = Vec::new(alloc);
-    for before in &topic.waiting[..i] {
-        waiting.push(before.copy(alloc)?)?;
+    let waiting = without_waiting(alloc, &topic.waiting, i)?;
+    let taken = taken_by(alloc, &topic.channels, message)?;
+    let mut took = topic.copy(alloc)?;
+    took.waiting = waiting;
+    took.taken = Some(taken);
+    Ok(took)
+}
+
+// Copies of the waiting messages but the one at a place.
+fn without_waiting(alloc: Global, waiting: &[Waiting], i: usize) -> Result<Vec<Waiting>, Memory>
+    requires { i < length waiting.now }
+{
+    let mut others = Vec::new(alloc);
+    for before in 0..i {
+        others.push(waiting[before].copy(alloc)?)?;
     }
-    for after in &topic.waiting[i + 1..] {
-        waiting.push(after.copy(alloc)?)?;
+    for after in i + 1..waiting.len() {
+        others.push(waiting[after].copy(alloc)?)?;
     }
-    taken.waiting = waiting;
-    taken.taken = Some(TakenMessage {
-        message: message.copy(alloc)?,
-        owed: channel_names(alloc, &topic.channels)?,
-    });
-    Ok(taken)
+    Ok(others)
+}
+
+// A copy of the message that these channels are owed.
+fn taken_by(
+    alloc: Global,
+    channels: &[ChannelState],
+    message: &Message,
+) -> Result<TakenMessage, Memory> {
+    let owed = channel_names(alloc, channels)?;
+    let message = message.copy(alloc)?;
+    Ok(TakenMessage { message, owed })
 }
 
 // The names of channels.
@@ -260,7 +277,13 @@ pub fn copied(
         return Ok(None);
     }
     let channel = gets(alloc, channel, room, at, message)?;
+    Ok(Some(paid(alloc, topic, channel)?))
+}
+
+// The topic with this channel, which it owes no more.
+fn paid(alloc: Global, topic: &TopicState, channel: ChannelState) -> Result<TopicState, Memory> {
+    let taken = owed_no_more(alloc, &topic.taken, &channel.name)?;
     let mut paid = topic.copy(alloc)?.with_channel(alloc, channel)?;
-    paid.taken = owed_no_more(alloc, &topic.taken, name)?;
-    Ok(Some(paid))
+    paid.taken = taken;
+    Ok(paid)
 }

@@ -1,5 +1,5 @@
 use crate::credit::{is_beat_due, is_idle, is_lost, is_silent, may_be_sent};
-use crate::moves::moves;
+use broker_acts::{moved, says_done};
 use broker_changes::state::channels_in;
 use broker_changes::topics::{is_topic_at, takes};
 use broker_history::{Act, Ask, Entry, Said};
@@ -65,8 +65,8 @@ fn may_move(alloc: Global, state: &State, entry: &Entry, end: End) -> Result<boo
     match end {
         End::Done => Ok(true),
         End::Faulted(n) => {
-            let moved = moves(alloc, state, entry.at, &entry.act)?;
-            Ok(n == 0 && !moved.is_empty())
+            let states = moved(alloc, state, entry.at, &entry.act)?;
+            Ok(n == 0 && !states.is_empty())
         }
         End::Skip => Ok(false),
     }
@@ -256,14 +256,6 @@ fn may_ask(alloc: Global, state: &State, ask: &Ask, said: &Said, end: End) -> Re
             Ok(says_done(said) && can)
         }
         End::Skip => Ok(false),
-    }
-}
-
-// Whether it says that it was done.
-pub(crate) fn says_done(said: &Said) -> bool {
-    match said {
-        Said::Done => true,
-        _ => false,
     }
 }
 

@@ -1,6 +1,6 @@
-use crate::acts::acted;
 use crate::allowed::is_allowed;
 use crate::before::is_paid;
+use broker_acts::acted;
 use broker_history::Entry;
 use broker_state::State;
 use nsq_base::Memory;

@@ -1,15 +1,12 @@
 //! Where an entry may stand in a history of the broker, and to which states it leads: a plain program over lists that computes the
-//! definitions, for rows. Its parts go by their names in the history: `moves`, `commands`, `acts` and `allowed` compute `Step`, `credit`
-//! what `Credit` says of a client, `before` what has to stand before an entry (`IsPaid`), and `legal` what leads on (`Legal`). It has no
-//! contracts but for a few small ones: it is a second reading of the definitions by hand.
+//! definitions, for rows. Its parts go by their names in the history: `allowed` says where an entry may stand (`IsAllowedAct`), `credit` what
+//! `Credit` says of a client, `before` what has to stand before an entry (`IsPaid`), and `legal` what a step is (`Step`) and what leads on
+//! (`Legal`); what an act makes of a state stands in `broker_acts`. It has no contracts: it is a second reading of the definitions by hand.
 #![tactic(auto)]
 
-mod acts;
 mod allowed;
 mod before;
-mod commands;
 mod credit;
 mod legal;
-mod moves;
 
 pub use legal::{led_to, step};

@@ -7,6 +7,19 @@ use nsq_base::{Chan, Memory, MsgId, Names, Topic};
 use std::alloc::Global;
 use v2_frame::Message;
 
+// One state.
+pub(crate) fn one(alloc: Global, state: State) -> Result<Vec<State>, Memory> {
+    let mut states = Vec::new(alloc);
+    states.push(state)?;
+    Ok(states)
+}
+
+// The same state.
+pub(crate) fn same(alloc: Global, state: &State) -> Result<Vec<State>, Memory> {
+    let state = state.copy(alloc)?;
+    one(alloc, state)
+}
+
 // How much room a channel of a topic has (`room_of`).
 pub(crate) fn room_of(state: &State, topic: &Topic, channel: &Chan) -> Room {
     Room {
@@ -15,13 +28,9 @@ pub(crate) fn room_of(state: &State, topic: &Topic, channel: &Chan) -> Room {
     }
 }
 
-// The states that a move leads to (`DoesMove`), none where it isn't due, or where the act is no move.
-pub(crate) fn moves(
-    alloc: Global,
-    state: &State,
-    at: u64,
-    act: &Act,
-) -> Result<Vec<State>, Memory> {
+/// The states that a move leads to (`DoesMove`), none where it isn't due, or where the act is no move. Want of memory is the only error. It has
+/// no contract: it is a second reading of the definitions by hand.
+pub fn moved(alloc: Global, state: &State, at: u64, act: &Act) -> Result<Vec<State>, Memory> {
     match act {
         Act::Took(topic, message, names) => by_took(alloc, state, topic, message, names),
         Act::Copied(topic, channel, message) => by_copied(
@@ -47,7 +56,7 @@ fn by_took(
         return Ok(states);
     };
     for topic in took(alloc, topic, message, names)? {
-        states.push(state.copy(alloc)?.with_topic(alloc, topic)?)?;
+        states.push(at_topic(alloc, state, topic)?)?;
     }
     Ok(states)
 }
@@ -61,16 +70,38 @@ fn by_copied(
     channel: &Chan,
     message: &Message,
 ) -> Result<Vec<State>, Memory> {
-    let mut states = Vec::new(alloc);
     let Some(topic) = state.topic_of(name) else {
-        return Ok(states);
+        return Ok(Vec::new(alloc));
     };
     let room = room_of(state, name, channel);
-    let Some(topic) = copied(alloc, topic, channel, room, at, message)? else {
-        return Ok(states);
+    match copied(alloc, topic, channel, room, at, message)? {
+        None => Ok(Vec::new(alloc)),
+        Some(topic) => {
+            let state = at_topic(alloc, state, topic)?;
+            one(alloc, state)
+        }
+    }
+}
+
+// The state with another topic.
+fn at_topic(alloc: Global, state: &State, topic: TopicState) -> Result<State, Memory> {
+    let state = state.copy(alloc)?;
+    state.with_topic(alloc, topic)
+}
+
+// The topic and the channel of these names, where both are there.
+pub(crate) fn standing<'a>(
+    state: &'a State,
+    name: &Topic,
+    channel: &Chan,
+) -> Option<(&'a TopicState, &'a ChannelState)> {
+    let Some(topic) = state.topic_of(name) else {
+        return None;
     };
-    states.push(state.copy(alloc)?.with_topic(alloc, topic)?)?;
-    Ok(states)
+    match topic.channel_of(channel) {
+        Some(channel) => Some((topic, channel)),
+        None => None,
+    }
 }
 
 // The states that TimedOut leads to.
@@ -82,10 +113,7 @@ fn by_timed_out(
     channel: &Chan,
     id: &MsgId,
 ) -> Result<Vec<State>, Memory> {
-    let Some(topic) = state.topic_of(name) else {
-        return Ok(Vec::new(alloc));
-    };
-    let Some(from) = topic.channel_of(channel) else {
+    let Some((topic, from)) = standing(state, name, channel) else {
         return Ok(Vec::new(alloc));
     };
     let to = times_out(alloc, from, room_of(state, name, channel), id, at)?;
@@ -101,10 +129,7 @@ fn by_came_due(
     channel: &Chan,
     id: &MsgId,
 ) -> Result<Vec<State>, Memory> {
-    let Some(topic) = state.topic_of(name) else {
-        return Ok(Vec::new(alloc));
-    };
-    let Some(from) = topic.channel_of(channel) else {
+    let Some((topic, from)) = standing(state, name, channel) else {
         return Ok(Vec::new(alloc));
     };
     let to = comes_due(alloc, from, room_of(state, name, channel), id, at)?;
@@ -120,10 +145,7 @@ fn by_held_back(
     channel: &Chan,
     id: &MsgId,
 ) -> Result<Vec<State>, Memory> {
-    let Some(topic) = state.topic_of(name) else {
-        return Ok(Vec::new(alloc));
-    };
-    let Some(from) = topic.channel_of(channel) else {
+    let Some((topic, from)) = standing(state, name, channel) else {
         return Ok(Vec::new(alloc));
     };
     let until = u128::from(at) + u128::from(state.options.msg_timeout);
@@ -141,7 +163,7 @@ pub(crate) fn at_channel(
     let mut states = Vec::new(alloc);
     for channel in channels {
         let topic = topic.copy(alloc)?.with_channel(alloc, channel)?;
-        states.push(state.copy(alloc)?.with_topic(alloc, topic)?)?;
+        states.push(at_topic(alloc, state, topic)?)?;
     }
     Ok(states)
 }

@@ -1,6 +1,5 @@
-use crate::allowed::says_done;
-use crate::commands::{did, one, publish, sent};
-use crate::moves::moves;
+use crate::commands::{did, publish, sent};
+use crate::moves::{moved, one, same};
 use broker_changes::state::{deleted, deleted_first, emptied, gone, made, set_paused};
 use broker_history::{Act, Ask, Entry, Said};
 use broker_plain::{Phase, default_heartbeat};
@@ -10,13 +9,9 @@ use nsq_outside::End;
 use std::alloc::Global;
 use v2_frame::{Frame, FrameKind};
 
-// The states that the act of an entry with this end leads to (`DoesAct`), at the old moment.
-pub(crate) fn acted(
-    alloc: Global,
-    state: &State,
-    entry: &Entry,
-    end: End,
-) -> Result<Vec<State>, Memory> {
+/// The states that the act of an entry with this end leads to (`DoesAct`), at the old moment. Want of memory is the only error. It has no
+/// contract: it is a second reading of the definitions by hand.
+pub fn acted(alloc: Global, state: &State, entry: &Entry, end: End) -> Result<Vec<State>, Memory> {
     match &entry.act {
         Act::Began => begun(alloc, state, entry.at, entry.conn),
         Act::Did(command, given) => {
@@ -25,30 +20,36 @@ pub(crate) fn acted(
         }
         Act::Sent(message) => sent(alloc, state, entry.at, entry.conn, message),
         Act::Beat => beaten(alloc, state, entry.at, entry.conn),
-        Act::Gone => {
-            let state = gone(alloc, state.copy(alloc)?, entry.conn)?;
-            one(alloc, state)
-        }
+        Act::Gone => left(alloc, state, entry.conn),
         Act::Asked(ask, said) => asked(alloc, state, entry.at, ask, said, end),
-        Act::Stop => {
-            let mut state = state.copy(alloc)?;
-            state.stopped = true;
-            one(alloc, state)
-        }
+        Act::Stop => stopped(alloc, state),
         Act::Took(..)
         | Act::Copied(..)
         | Act::TimedOut(..)
         | Act::CameDue(..)
-        | Act::HeldBack(..) => moved(alloc, state, entry, end),
-        _ => one(alloc, state.copy(alloc)?),
+        | Act::HeldBack(..) => by_move(alloc, state, entry, end),
+        _ => same(alloc, state),
     }
 }
 
+// The state after a client went.
+fn left(alloc: Global, state: &State, number: u64) -> Result<Vec<State>, Memory> {
+    let state = gone(alloc, state.copy(alloc)?, number)?;
+    one(alloc, state)
+}
+
+// The state after a stop.
+fn stopped(alloc: Global, state: &State) -> Result<Vec<State>, Memory> {
+    let mut state = state.copy(alloc)?;
+    state.stopped = true;
+    one(alloc, state)
+}
+
 // The states that a move leads to (`DoesMoveTo`): one that met a disk fault changes nothing.
-fn moved(alloc: Global, state: &State, entry: &Entry, end: End) -> Result<Vec<State>, Memory> {
+fn by_move(alloc: Global, state: &State, entry: &Entry, end: End) -> Result<Vec<State>, Memory> {
     match end {
-        End::Done => moves(alloc, state, entry.at, &entry.act),
-        End::Faulted(_) | End::Skip => one(alloc, state.copy(alloc)?),
+        End::Done => moved(alloc, state, entry.at, &entry.act),
+        End::Faulted(_) | End::Skip => same(alloc, state),
     }
 }
 
@@ -79,7 +80,7 @@ fn begun(alloc: Global, state: &State, at: u64, number: u64) -> Result<Vec<State
 // The state after a heartbeat, from which the client's next one counts.
 fn beaten(alloc: Global, state: &State, at: u64, number: u64) -> Result<Vec<State>, Memory> {
     let Some(client) = state.client_of(number) else {
-        return one(alloc, state.copy(alloc)?);
+        return same(alloc, state);
     };
     let mut client = client.copy(alloc)?;
     client.beat_from = at;
@@ -120,34 +121,51 @@ fn asked(
         } else {
             one(alloc, state)
         },
-        End::Faulted(count) => {
-            let state = broken_off(alloc, state, ask, count)?;
-            one(alloc, state)
-        }
+        End::Faulted(count) => broken_off(alloc, state, ask, count),
         End::Skip => one(alloc, state),
     }
 }
 
 // The states after something was asked and done.
 fn carried_out(alloc: Global, state: State, at: u64, ask: &Ask) -> Result<Vec<State>, Memory> {
-    let state = match ask {
+    match ask {
         Ask::Publish(topic, delay, bodies) => {
-            return publish(alloc, state, at, *delay, topic, bodies.as_slice());
+            publish(alloc, &state, at, *delay, topic, bodies.as_slice())
         }
-        Ask::Stats(_, _) => state,
-        Ask::Create(topic, channel) => made(alloc, state, topic, channel)?,
-        Ask::Delete(topic, channel) => deleted(alloc, state, topic, channel)?,
-        Ask::Empty(topic, channel) => emptied(alloc, state, topic, channel)?,
-        Ask::Pause(topic, channel) => set_paused(alloc, state, true, topic, channel)?,
-        Ask::Unpause(topic, channel) => set_paused(alloc, state, false, topic, channel)?,
-    };
-    one(alloc, state)
+        _ => {
+            let state = changed(alloc, state, ask)?;
+            one(alloc, state)
+        }
+    }
+}
+
+// The state after something was asked and done that is no publish.
+fn changed(alloc: Global, state: State, ask: &Ask) -> Result<State, Memory> {
+    match ask {
+        Ask::Publish(_, _, _) | Ask::Stats(_, _) => Ok(state),
+        Ask::Create(topic, channel) => made(alloc, state, topic, channel),
+        Ask::Delete(topic, channel) => deleted(alloc, state, topic, channel),
+        Ask::Empty(topic, channel) => emptied(alloc, state, topic, channel),
+        Ask::Pause(topic, channel) => set_paused(alloc, state, true, topic, channel),
+        Ask::Unpause(topic, channel) => set_paused(alloc, state, false, topic, channel),
+    }
 }
 
 // What a disk fault leaves of what was asked: of a topic's deletion the channels that were deleted.
-fn broken_off(alloc: Global, state: State, ask: &Ask, count: u64) -> Result<State, Memory> {
+fn broken_off(alloc: Global, state: State, ask: &Ask, count: u64) -> Result<Vec<State>, Memory> {
     match ask {
-        Ask::Delete(topic, None) => deleted_first(alloc, state, topic, count),
-        _ => Ok(state),
+        Ask::Delete(topic, None) => {
+            let state = deleted_first(alloc, state, topic, count)?;
+            one(alloc, state)
+        }
+        _ => one(alloc, state),
+    }
+}
+
+/// Whether it says that it was done. It has no contract either.
+pub fn says_done(said: &Said) -> bool {
+    match said {
+        Said::Done => true,
+        _ => false,
     }
 }

@@ -1,9 +1,9 @@
 ghost use Rattle.std.specs.Prelude.{◌↔◌, ◌+◌, ◌≤◌, ◌^◌, IsTrue};
 
-use crate::moves::{at_channel, room_of};
+use crate::moves::{at_channel, one, room_of, same, standing};
 use broker_changes::channels::{counted, finishes, gives_back, sends, touches};
 use broker_changes::state::{made_channel, published};
-use broker_plain::{Phase, are_left, identity_of};
+use broker_plain::{Identity, Phase, are_left, identity_of};
 use broker_state::{ChannelState, Client, Route, State, TopicState};
 use nsq_base::{Body, Chan, Memory, MsgId, Topic};
 use std::alloc::Global;
@@ -23,11 +23,17 @@ pub(crate) fn did(
         return Ok(Vec::new(alloc));
     };
     let client = spoke(alloc, at, client)?;
-    let state = state.copy(alloc)?.with_client(alloc, client.copy(alloc)?)?;
+    let state = with_copy(alloc, state.copy(alloc)?, &client)?;
     if kept_off {
         return one(alloc, state);
     }
-    carried_out(alloc, state, at, client, command)
+    carried_out(alloc, &state, at, &client, command)
+}
+
+// The state with a copy of this client.
+fn with_copy(alloc: Global, state: State, client: &Client) -> Result<State, Memory> {
+    let client = client.copy(alloc)?;
+    state.with_client(alloc, client)
 }
 
 // A client that just gave a command.
@@ -37,41 +43,28 @@ fn spoke(alloc: Global, at: u64, client: &Client) -> Result<Client, Memory> {
     Ok(spoke)
 }
 
-// One state.
-pub(crate) fn one(alloc: Global, state: State) -> Result<Vec<State>, Memory> {
-    let mut states = Vec::new(alloc);
-    states.push(state)?;
-    Ok(states)
-}
-
 // The states that a command leads to that succeeds (`CarriesOut`), in which its client stands as its last command leaves it.
 fn carried_out(
     alloc: Global,
-    state: State,
+    state: &State,
     at: u64,
-    client: Client,
+    client: &Client,
     command: &Command,
 ) -> Result<Vec<State>, Memory> {
     match command {
-        Command::Identify(body) => {
-            let state = identified(alloc, state, at, client, body)?;
-            one(alloc, state)
-        }
-        Command::Sub(topic, channel) => {
-            let state = subscribed(alloc, state, client, topic, channel)?;
-            one(alloc, state)
-        }
+        Command::Identify(body) => identified(alloc, state, at, client, body),
+        Command::Sub(topic, channel) => subscribed(alloc, state, client, topic, channel),
         Command::Pub(topic, body) => publish_one(alloc, state, at, 0, topic, body),
         Command::Mpub(topic, bodies) => publish(alloc, state, at, 0, topic, bodies.as_slice()),
         Command::Dpub(topic, delay, body) => {
             publish_one(alloc, state, at, span_of(*delay), topic, body)
         }
         Command::Rdy(count) => readied(alloc, state, client, *count),
-        Command::Fin(id) => finished(alloc, &state, &client, id),
-        Command::Req(id, delay) => given_back(alloc, &state, at, &client, id, *delay),
-        Command::Touch(id) => touched(alloc, &state, at, &client, id),
+        Command::Fin(id) => finished(alloc, state, client, id),
+        Command::Req(id, delay) => given_back(alloc, state, at, client, id, *delay),
+        Command::Touch(id) => touched(alloc, state, at, client, id),
         Command::Cls => closing(alloc, state, client),
-        Command::Nop => one(alloc, state),
+        Command::Nop => same(alloc, state),
     }
 }
 
@@ -86,46 +79,71 @@ fn span_of(delay: i64) -> u64 {
 // The state after an accepted IDENTIFY, which sets all members anew; the client's next heartbeat counts from here.
 fn identified(
     alloc: Global,
-    state: State,
+    state: &State,
     at: u64,
-    client: Client,
+    client: &Client,
     body: &Body,
-) -> Result<State, Memory> {
-    let Some(identity) = identity_of(alloc, &state.options, body.bytes())? else {
-        return Ok(state);
-    };
-    let known = Client {
-        heartbeat: identity.heartbeat,
-        timeout: identity.timeout,
-        client_id: identity.client_id,
-        hostname: identity.hostname,
-        user_agent: identity.user_agent,
-        beat_from: at,
-        ..client
-    };
-    state.with_client(alloc, known)
+) -> Result<Vec<State>, Memory> {
+    match identity_of(alloc, &state.options, body.bytes())? {
+        None => same(alloc, state),
+        Some(identity) => {
+            let client = known(alloc, client, at, identity)?;
+            with_one(alloc, state, client)
+        }
+    }
+}
+
+// A client of whom this is known from a moment on.
+fn known(alloc: Global, client: &Client, at: u64, identity: Identity) -> Result<Client, Memory> {
+    let mut known = client.copy(alloc)?;
+    known.client_id = identity.client_id;
+    known.hostname = identity.hostname;
+    known.user_agent = identity.user_agent;
+    known.heartbeat = identity.heartbeat;
+    known.timeout = identity.timeout;
+    known.beat_from = at;
+    Ok(known)
+}
+
+// One state, with this client.
+fn with_one(alloc: Global, state: &State, client: Client) -> Result<Vec<State>, Memory> {
+    let state = state.copy(alloc)?.with_client(alloc, client)?;
+    one(alloc, state)
 }
 
 // The state after SUB.
 fn subscribed(
     alloc: Global,
-    state: State,
-    mut client: Client,
+    state: &State,
+    client: &Client,
     topic: &Topic,
     channel: &Chan,
-) -> Result<State, Memory> {
+) -> Result<Vec<State>, Memory> {
+    let state = made_channel(alloc, state.copy(alloc)?, topic, channel)?;
+    let client = subscriber(alloc, client, topic, channel)?;
+    with_one(alloc, &state, client)
+}
+
+// A client that subscribed to a channel.
+fn subscriber(
+    alloc: Global,
+    client: &Client,
+    topic: &Topic,
+    channel: &Chan,
+) -> Result<Client, Memory> {
+    let mut client = client.copy(alloc)?;
     client.phase = Phase::Subscribed;
     client.route = Some(Route {
         topic: *topic,
         channel: *channel,
     });
-    made_channel(alloc, state, topic, channel)?.with_client(alloc, client)
+    Ok(client)
 }
 
 // The state after a message was published, none where the ids are spent.
 fn publish_one(
     alloc: Global,
-    state: State,
+    state: &State,
     at: u64,
     delay: u64,
     topic: &Topic,
@@ -139,7 +157,7 @@ fn publish_one(
 // The state after messages were published, none where the ids are spent.
 pub(crate) fn publish(
     alloc: Global,
-    state: State,
+    state: &State,
     at: u64,
     delay: u64,
     topic: &Topic,
@@ -148,7 +166,7 @@ pub(crate) fn publish(
     if !has_ids(state.ids_used, bodies.len() as u64) {
         return Ok(Vec::new(alloc));
     }
-    let state = published(alloc, state, at, delay, topic, bodies)?;
+    let state = published(alloc, state.copy(alloc)?, at, delay, topic, bodies)?;
     one(alloc, state)
 }
 
@@ -162,15 +180,15 @@ fn has_ids(used: u64, count: u64) -> bool
 // The state after RDY, which a closing client gives in vain.
 fn readied(
     alloc: Global,
-    state: State,
-    mut client: Client,
+    state: &State,
+    client: &Client,
     count: i64,
 ) -> Result<Vec<State>, Memory> {
+    let mut client = client.copy(alloc)?;
     if client.phase == Phase::Subscribed {
         client.ready = count_of(count);
     }
-    let state = state.with_client(alloc, client)?;
-    one(alloc, state)
+    with_one(alloc, state, client)
 }
 
 // How many messages RDY asks for.
@@ -179,10 +197,10 @@ fn count_of(count: i64) -> u64 {
 }
 
 // The state after CLS.
-fn closing(alloc: Global, state: State, mut client: Client) -> Result<Vec<State>, Memory> {
+fn closing(alloc: Global, state: &State, client: &Client) -> Result<Vec<State>, Memory> {
+    let mut client = client.copy(alloc)?;
     client.phase = Phase::Closing;
-    let state = state.with_client(alloc, client)?;
-    one(alloc, state)
+    with_one(alloc, state, client)
 }
 
 // The states after FIN.
@@ -262,14 +280,8 @@ fn own_channel<'a>(
     state: &'a State,
     client: &Client,
 ) -> Option<(&'a TopicState, &'a ChannelState)> {
-    let Some(route) = &client.route else {
-        return None;
-    };
-    let Some(topic) = state.topic_of(&route.topic) else {
-        return None;
-    };
-    match topic.channel_of(&route.channel) {
-        Some(channel) => Some((topic, channel)),
+    match &client.route {
+        Some(route) => standing(state, &route.topic, &route.channel),
         None => None,
     }
 }
@@ -284,7 +296,7 @@ fn at_own(
 ) -> Result<Vec<State>, Memory> {
     let mut states = Vec::new(alloc);
     for state in at_channel(alloc, state, topic, channels)? {
-        states.push(state.with_client(alloc, client.copy(alloc)?)?)?;
+        states.push(with_copy(alloc, state, client)?)?;
     }
     Ok(states)
 }

@@ -1,5 +1,7 @@
 //! Random calls of a topic's queue, beside the plain list: after each call what it answers and what it shows is what the list says.
 
+ghost use Rattle.std.specs.Prelude.{◌≤◌};
+
 use crate::bench::{Bench, Scratch, delay_of};
 use crate::plain::Plain;
 use crate::script::is_opened;

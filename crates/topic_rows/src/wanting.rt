@@ -12,10 +12,11 @@ use std::alloc::Global;
 use std::test::Fail;
 use topic_core::Head;
 
-// A topic in an empty folder, into which two messages are put, of which the first is taken.
+// A topic in an empty folder, into which messages of these numbers are put, of which the first is taken.
 struct Row {
     name: &'static str,
     topic: &'static [u8],
+    numbers: &'static [u64],
     // How many messages find room in memory.
     memory: u64,
     // Where the two wait.
@@ -28,6 +29,7 @@ static ROWS: [Row; 3] = [
     Row {
         name: "messages in memory",
         topic: b"t",
+        numbers: &[1, 2],
         memory: 2,
         waits: Depths { ring: 2, disk: 0 },
         left: 2,
@@ -35,6 +37,7 @@ static ROWS: [Row; 3] = [
     Row {
         name: "messages on disk",
         topic: b"t",
+        numbers: &[1, 2],
         memory: 0,
         waits: Depths { ring: 0, disk: 2 },
         left: 2,
@@ -42,6 +45,7 @@ static ROWS: [Row; 3] = [
     Row {
         name: "messages of an ephemeral topic",
         topic: b"t#ephemeral",
+        numbers: &[1, 2],
         memory: 2,
         waits: Depths { ring: 2, disk: 0 },
         left: 0,
@@ -52,16 +56,21 @@ static ROWS: [Row; 3] = [
 const BEYOND: u64 = 1 << 57;
 
 // Whether the messages are put. Where that fails they are all left, and all is as before.
-fn puts(alloc: Global, bench: &mut Bench, scratch: &mut Scratch) -> Result<bool, Memory> {
+fn puts(
+    alloc: Global,
+    bench: &mut Bench,
+    scratch: &mut Scratch,
+    numbers: &[u64],
+) -> Result<bool, Memory> {
     let before = bench.shows();
-    let (answer, left) = bench.put(alloc, scratch, &[1, 2])?;
+    let (answer, left) = bench.put(alloc, scratch, numbers)?;
     if answer == PutAll::Done {
         return Ok(left == 0);
     }
-    if left != 2 || bench.shows() != before {
+    if left != numbers.len() || bench.shows() != before {
         return Ok(false);
     }
-    Ok(bench.put(alloc, scratch, &[1, 2])? == (PutAll::Done, 0))
+    Ok(bench.put(alloc, scratch, numbers)? == (PutAll::Done, 0))
 }
 
 // Whether the first message is taken. Where that fails all is as before.
@@ -89,10 +98,14 @@ fn flushes(bench: &mut Bench, scratch: &mut Scratch) -> bool {
 // The bytes of the files of the topic `t`.
 fn image(alloc: Global, folder: &MemFolder) -> Result<Vec<u8>, Memory> {
     let mut bytes = Vec::new(alloc);
-    for name in ["t.diskqueue.meta.dat", "t.diskqueue.000000.dat"] {
-        bytes.extend_from_slice(folder.file(name).unwrap_or(b""))?;
-    }
+    bytes.extend_from_slice(file(folder, "t.diskqueue.meta.dat"))?;
+    bytes.extend_from_slice(file(folder, "t.diskqueue.000000.dat"))?;
     Ok(bytes)
+}
+
+// The bytes of a file, or none.
+fn file<'a>(folder: &'a MemFolder, name: &str) -> &'a [u8] {
+    folder.file(name).unwrap_or(b"")
 }
 
 // Whether a ring that no memory has room for is refused, and the files are as they were.
@@ -142,7 +155,7 @@ fn holds(alloc: Global, scratch: &mut Scratch, row: &Row) -> Result<bool, Memory
         return Ok(false);
     };
     let mut bench = Bench::new(alloc, name, row.memory, &[])?;
-    if !puts(alloc, &mut bench, scratch)? || bench.topic.depths() != row.waits {
+    if !puts(alloc, &mut bench, scratch, row.numbers)? || bench.topic.depths() != row.waits {
         return Ok(false);
     }
     if !takes(alloc, &mut bench, scratch)? || !flushes(&mut bench, scratch) {

@@ -36,7 +36,7 @@ const MESSAGE_IS_DUE: [Line; 5] = [
     At(0, 1, Rdy(1, Nothing)),
 ];
 
-const BEATS: [Row; 20] = [
+static BEATS: [Row; 20] = [
     Row {
         name: "a heartbeat after one interval, silence after two",
         start: EMPTY,

@@ -85,7 +85,7 @@ const EPHEMERAL: [Line; 5] = [
     Moved(0, "t", &["c#ephemeral"], 0, 2),
 ];
 
-const OWED: [Row; 15] = [
+static OWED: [Row; 15] = [
     Row {
         name: "what waits goes to the channel that comes first, and nothing to one that comes later",
         start: EMPTY,
@@ -232,7 +232,7 @@ const OWED: [Row; 15] = [
     },
 ];
 
-const DEFERRED: [Row; 10] = [
+static DEFERRED: [Row; 10] = [
     Row {
         name: "a message with a delay is deferred in its channel from its copying on",
         start: EMPTY,
@@ -351,7 +351,7 @@ const DEFERRED: [Row; 10] = [
     },
 ];
 
-const GOING: [Row; 15] = [
+static GOING: [Row; 15] = [
     Row {
         name: "the last client of a deleted channel is closed",
         start: EMPTY,

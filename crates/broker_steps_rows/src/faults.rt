@@ -30,7 +30,7 @@ const TWO_DUE: [Line; 6] = [
 
 const ONE_SENT: [Line; 1] = [At(0, 2, Sent(0, 1))];
 
-const FAULTS: [Row; 15] = [
+static FAULTS: [Row; 15] = [
     Row {
         name: "REQ of a message that a disk fault keeps in flight",
         start: EMPTY,

@@ -116,7 +116,7 @@ const SENT_OF_TWO: [Line; 4] = [
     At(0, 2, Sent(0, 1)),
 ];
 
-const SENDINGS: [Row; 20] = [
+static SENDINGS: [Row; 20] = [
     Row {
         name: "messages are sent in turn, as credit allows",
         start: EMPTY,
@@ -288,7 +288,7 @@ const SENDINGS: [Row; 20] = [
     },
 ];
 
-const RETURNS: [Row; 21] = [
+static RETURNS: [Row; 21] = [
     Row {
         name: "FIN of a message that was finished is refused, and the connection goes on",
         start: EMPTY,

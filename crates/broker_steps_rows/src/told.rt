@@ -170,7 +170,7 @@ const FINISHED_TWO: ToldChannel = ToldChannel {
     ..FINISHED_ONE
 };
 
-const STATISTICS: [Row; 14] = [
+static STATISTICS: [Row; 14] = [
     Row {
         name: "what is given back at once waits, and what is given back for later is deferred",
         start: EMPTY,

@@ -47,7 +47,7 @@ const ONE_TURN_AFTER_ANOTHER: [Line; 14] = [
     At(0, 2, Dropped),
 ];
 
-const TURNS: [Row; 21] = [
+static TURNS: [Row; 21] = [
     Row {
         name: "a turn makes moves until nothing is due",
         start: EMPTY,

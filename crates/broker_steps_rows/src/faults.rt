@@ -6,7 +6,7 @@ use crate::lines::Line::{self, At, Faulted, Moved};
 use crate::lines::What::*;
 use crate::lines::{Gets, OK, Says};
 use crate::story::Leads::{Nowhere, On, To};
-use crate::story::{EMPTY, Row, Start, holds};
+use crate::story::{EMPTY, Row, Start, wrong};
 use nsq_base::Memory;
 
 const IDS_SPENT: Start = Start {
@@ -30,7 +30,7 @@ const TWO_DUE: [Line; 6] = [
 
 const ONE_SENT: [Line; 1] = [At(0, 2, Sent(0, 1))];
 
-const FAULTS: [Row; 15] = [
+static FIRST_FAULTS: [Row; 5] = [
     Row {
         name: "REQ of a message that a disk fault keeps in flight",
         start: EMPTY,
@@ -69,6 +69,9 @@ const FAULTS: [Row; 15] = [
         then: &[Faulted(0, 1, Pub("t", 2, OK), 1)],
         leads: Nowhere,
     },
+];
+
+static MORE_FAULTS: [Row; 5] = [
     Row {
         name: "a disk fault at FIN",
         start: EMPTY,
@@ -110,6 +113,9 @@ const FAULTS: [Row; 15] = [
         ],
         leads: Nowhere,
     },
+];
+
+static LAST_FAULTS: [Row; 5] = [
     Row {
         name: "a message is sent and meets a disk fault",
         start: EMPTY,
@@ -150,11 +156,22 @@ const FAULTS: [Row; 15] = [
     },
 ];
 
+fn first_faults() -> &'static [Row] {
+    &FIRST_FAULTS
+}
+
+fn more_faults() -> &'static [Row] {
+    &MORE_FAULTS
+}
+
+fn last_faults() -> &'static [Row] {
+    &LAST_FAULTS
+}
+
 #[test]
 fn faults(rt: HostRuntime) -> Result<(), Memory> {
-    for row in &FAULTS {
-        let holds = holds(rt.alloc(), row)?;
-        assert!(rt; holds, "{}", row.name);
-    }
+    let parts = [first_faults(), more_faults(), last_faults()];
+    let wrong = wrong(rt.alloc(), &parts)?;
+    assert!(rt; wrong.is_none(), "{}", wrong.unwrap_or(""));
     Ok(())
 }

@@ -6,7 +6,7 @@ use crate::lines::Line::{self, At, Moved};
 use crate::lines::What::*;
 use crate::lines::{Gets, OK, Says};
 use crate::story::Leads::{Nowhere, On, To};
-use crate::story::{EMPTY, MILLISECOND, Row, SECOND, Start, holds};
+use crate::story::{EMPTY, MILLISECOND, Row, SECOND, Start, wrong};
 use nsq_base::Memory;
 
 const NOT_FINISHED: Gets = Error(b"E_FIN_FAILED message not in flight");
@@ -116,7 +116,7 @@ const SENT_OF_TWO: [Line; 4] = [
     At(0, 2, Sent(0, 1)),
 ];
 
-const SENDINGS: [Row; 20] = [
+static FIRST_SENDINGS: [Row; 7] = [
     Row {
         name: "messages are sent in turn, as credit allows",
         start: EMPTY,
@@ -172,6 +172,9 @@ const SENDINGS: [Row; 20] = [
         then: &[At(0, 2, Fin(4, Nothing)), At(0, 2, Sent(5, 1))],
         leads: To("t", "c", [0, 1, 0]),
     },
+];
+
+static MORE_SENDINGS: [Row; 7] = [
     Row {
         name: "after a lower RDY a message while one is in flight",
         start: EMPTY,
@@ -234,6 +237,9 @@ const SENDINGS: [Row; 20] = [
         ],
         leads: To("t", "c", [1, 0, 0]),
     },
+];
+
+static LAST_SENDINGS: [Row; 6] = [
     Row {
         name: "with nothing that may be sent a client waits, held back or not",
         start: FOUND_TWICE,
@@ -288,7 +294,19 @@ const SENDINGS: [Row; 20] = [
     },
 ];
 
-const RETURNS: [Row; 21] = [
+fn first_sendings() -> &'static [Row] {
+    &FIRST_SENDINGS
+}
+
+fn more_sendings() -> &'static [Row] {
+    &MORE_SENDINGS
+}
+
+fn last_sendings() -> &'static [Row] {
+    &LAST_SENDINGS
+}
+
+static FIRST_RETURNS: [Row; 7] = [
     Row {
         name: "FIN of a message that was finished is refused, and the connection goes on",
         start: EMPTY,
@@ -350,6 +368,9 @@ const RETURNS: [Row; 21] = [
         then: &[At(SECOND - 1, 0, TimedOut("t", "c", 0))],
         leads: Nowhere,
     },
+];
+
+static MORE_RETURNS: [Row; 7] = [
     Row {
         name: "a message that timed out is still in flight, and so finished",
         start: SHORT,
@@ -424,6 +445,9 @@ const RETURNS: [Row; 21] = [
         ],
         leads: Nowhere,
     },
+];
+
+static LAST_RETURNS: [Row; 7] = [
     Row {
         name: "a deferred message comes one nanosecond early",
         start: EMPTY,
@@ -494,20 +518,30 @@ const RETURNS: [Row; 21] = [
     },
 ];
 
+fn first_returns() -> &'static [Row] {
+    &FIRST_RETURNS
+}
+
+fn more_returns() -> &'static [Row] {
+    &MORE_RETURNS
+}
+
+fn last_returns() -> &'static [Row] {
+    &LAST_RETURNS
+}
+
 #[test]
 fn sendings(rt: HostRuntime) -> Result<(), Memory> {
-    for row in &SENDINGS {
-        let holds = holds(rt.alloc(), row)?;
-        assert!(rt; holds, "{}", row.name);
-    }
+    let parts = [first_sendings(), more_sendings(), last_sendings()];
+    let wrong = wrong(rt.alloc(), &parts)?;
+    assert!(rt; wrong.is_none(), "{}", wrong.unwrap_or(""));
     Ok(())
 }
 
 #[test]
 fn returns(rt: HostRuntime) -> Result<(), Memory> {
-    for row in &RETURNS {
-        let holds = holds(rt.alloc(), row)?;
-        assert!(rt; holds, "{}", row.name);
-    }
+    let parts = [first_returns(), more_returns(), last_returns()];
+    let wrong = wrong(rt.alloc(), &parts)?;
+    assert!(rt; wrong.is_none(), "{}", wrong.unwrap_or(""));
     Ok(())
 }

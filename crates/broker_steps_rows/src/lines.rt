@@ -128,35 +128,67 @@ pub fn tell(
 
 fn tell_line(
     alloc: Global,
-    mut entries: Vec<(Entry, End)>,
+    entries: Vec<(Entry, End)>,
     line: Line,
 ) -> Result<Vec<(Entry, End)>, Memory> {
     match line {
-        Line::At(at, conn, what) => {
-            let act = act_of(alloc, what)?;
-            entries.push((Entry { conn, at, act }, End::Done))?;
-        }
+        Line::At(at, conn, what) => tell_one(alloc, entries, at, conn, what, End::Done),
         Line::Faulted(at, conn, what, count) => {
-            let act = act_of(alloc, what)?;
-            entries.push((Entry { conn, at, act }, End::Faulted(count)))?;
+            tell_one(alloc, entries, at, conn, what, End::Faulted(count))
         }
         Line::Moved(at, topic, channels, first, count) => {
-            for i in 0..count {
-                let n = first.saturating_add(i);
-                let act = act_of(alloc, What::Took(topic, n, 0, channels))?;
-                entries.push((Entry { conn: 0, at, act }, End::Done))?;
-                let act = act_of(alloc, What::Copied(topic, channels[0], n, 0))?;
-                entries.push((Entry { conn: 0, at, act }, End::Done))?;
-            }
+            tell_moves(alloc, entries, at, topic, channels, first, count)
         }
     }
+}
+
+// One entry more.
+fn tell_one(
+    alloc: Global,
+    mut entries: Vec<(Entry, End)>,
+    at: u64,
+    conn: u64,
+    what: What,
+    end: End,
+) -> Result<Vec<(Entry, End)>, Memory> {
+    let act = act_of(alloc, what)?;
+    entries.push((Entry { conn, at, act }, end))?;
     Ok(entries)
+}
+
+// So many messages are taken and copied, one after another.
+fn tell_moves(
+    alloc: Global,
+    mut entries: Vec<(Entry, End)>,
+    at: u64,
+    topic: &'static str,
+    channels: &'static [&'static str; 1],
+    first: u64,
+    count: u64,
+) -> Result<Vec<(Entry, End)>, Memory> {
+    for i in 0..count {
+        entries = tell_move(alloc, entries, at, topic, channels, first.saturating_add(i))?;
+    }
+    Ok(entries)
+}
+
+fn tell_move(
+    alloc: Global,
+    entries: Vec<(Entry, End)>,
+    at: u64,
+    topic: &'static str,
+    channels: &'static [&'static str; 1],
+    n: u64,
+) -> Result<Vec<(Entry, End)>, Memory> {
+    let took = What::Took(topic, n, 0, channels);
+    let entries = tell_one(alloc, entries, at, 0, took, End::Done)?;
+    let copied = What::Copied(topic, channels[0], n, 0);
+    tell_one(alloc, entries, at, 0, copied, End::Done)
 }
 
 fn act_of(alloc: Global, what: What) -> Result<Act, Memory> {
     match what {
         What::Began => Ok(Act::Began),
-        What::Sent(n, attempts) => Ok(Act::Sent(message(alloc, n, attempts, 0)?)),
         What::Beat => Ok(Act::Beat),
         What::Idle => Ok(Act::Idle),
         What::Silent => Ok(Act::Silent),
@@ -164,68 +196,92 @@ fn act_of(alloc: Global, what: What) -> Result<Act, Memory> {
         What::Gone => Ok(Act::Gone),
         What::Ticked => Ok(Act::Ticked),
         What::Stop => Ok(Act::Stop),
+        What::Sent(n, attempts) => sent(alloc, n, attempts),
         What::Refused(kind, gets) => refused(alloc, kind, gets),
-        What::Asked(asks, says) => Ok(Act::Asked(ask_of(alloc, asks)?, said_of(says))),
-        What::Told(name, joined, channels) => {
-            let said = Said::Stats(stats_of(alloc, name, joined, channels)?);
-            Ok(Act::Asked(Ask::Stats(None, None), said))
-        }
-        What::Listed(names) => Ok(Act::Listed(names_of(alloc, names)?)),
-        What::Took(_, _, _, _)
-        | What::Copied(_, _, _, _)
-        | What::TimedOut(_, _, _)
-        | What::CameDue(_, _, _)
-        | What::HeldBack(_, _, _)
-        | What::Stuck(_, _) => move_of(alloc, what),
+        What::Asked(asks, says) => asked(alloc, asks, says),
+        What::Told(name, joined, channels) => told(alloc, name, joined, channels),
+        What::Listed(names) => listed(alloc, names),
+        What::Took(name, n, delay, channels) => took(alloc, name, n, delay, channels),
+        What::Copied(name, to, n, delay) => copied(alloc, name, to, n, delay),
+        What::TimedOut(name, of, n) => Ok(Act::TimedOut(topic(name)?, channel(of)?, id(n))),
+        What::CameDue(name, of, n) => Ok(Act::CameDue(topic(name)?, channel(of)?, id(n))),
+        What::HeldBack(name, of, n) => Ok(Act::HeldBack(topic(name)?, channel(of)?, id(n))),
+        What::Stuck(name, of) => Ok(Act::Stuck(topic(name)?, some_channel(of)?)),
         _ => command_act(alloc, what),
     }
 }
 
-// A move, or a Stuck.
-fn move_of(alloc: Global, what: What) -> Result<Act, Memory> {
-    Ok(match what {
-        What::Took(name, n, delay, channels) => Act::Took(
-            topic(name)?,
-            message(alloc, n, 0, delay)?,
-            names_of(alloc, Some((name, channels)))?,
-        ),
-        What::Copied(name, to, n, delay) => {
-            Act::Copied(topic(name)?, channel(to)?, message(alloc, n, 0, delay)?)
-        }
-        What::TimedOut(name, of, n) => Act::TimedOut(topic(name)?, channel(of)?, id(n)),
-        What::CameDue(name, of, n) => Act::CameDue(topic(name)?, channel(of)?, id(n)),
-        What::HeldBack(name, of, n) => Act::HeldBack(topic(name)?, channel(of)?, id(n)),
-        What::Stuck(name, of) => Act::Stuck(topic(name)?, some_channel(of)?),
-        _ => Act::Ticked,
-    })
+fn sent(alloc: Global, n: u64, attempts: u16) -> Result<Act, Memory> {
+    let message = message(alloc, n, attempts, 0)?;
+    Ok(Act::Sent(message))
+}
+
+fn asked(alloc: Global, asks: Asks, says: Says) -> Result<Act, Memory> {
+    let ask = ask_of(alloc, asks)?;
+    Ok(Act::Asked(ask, said_of(says)))
+}
+
+fn told(alloc: Global, name: &str, joined: u64, channels: &[ToldChannel]) -> Result<Act, Memory> {
+    let stats = stats_of(alloc, name, joined, channels)?;
+    Ok(Act::Asked(Ask::Stats(None, None), Said::Stats(stats)))
+}
+
+fn listed(alloc: Global, names: Option<(&str, &[&str])>) -> Result<Act, Memory> {
+    let names = names_of(alloc, names)?;
+    Ok(Act::Listed(names))
+}
+
+fn took(alloc: Global, name: &str, n: u64, delay: u64, channels: &[&str]) -> Result<Act, Memory> {
+    let names = names_of(alloc, Some((name, channels)))?;
+    let message = message(alloc, n, 0, delay)?;
+    Ok(Act::Took(topic(name)?, message, names))
+}
+
+fn copied(alloc: Global, name: &str, to: &str, n: u64, delay: u64) -> Result<Act, Memory> {
+    let (name, to) = (topic(name)?, channel(to)?);
+    let message = message(alloc, n, 0, delay)?;
+    Ok(Act::Copied(name, to, message))
 }
 
 // A command with its reply.
 fn command_act(alloc: Global, what: What) -> Result<Act, Memory> {
-    let (command, gets) = match what {
-        What::Identify(text, gets) => (
-            Command::Identify(Body::copy(alloc, text.as_bytes())?),
-            gets,
-        ),
-        What::Sub(name, of, gets) => (Command::Sub(topic(name)?, channel(of)?), gets),
-        What::Pub(name, n, gets) => (Command::Pub(topic(name)?, body(alloc, n)?), gets),
-        What::Mpub(name, first, count, gets) => {
-            (
-                Command::Mpub(topic(name)?, bodies(alloc, first, count)?),
-                gets,
-            )
+    let reply = frame_of(alloc, gets_of(what))?;
+    let command = command_of(alloc, what)?;
+    Ok(Act::Did(command, reply))
+}
+
+fn command_of(alloc: Global, what: What) -> Result<Command, Memory> {
+    match what {
+        What::Identify(text, _) => Ok(Command::Identify(Body::copy(alloc, text.as_bytes())?)),
+        What::Sub(name, of, _) => Ok(Command::Sub(topic(name)?, channel(of)?)),
+        What::Pub(name, n, _) => Ok(Command::Pub(topic(name)?, body(alloc, n)?)),
+        What::Mpub(name, first, count, _) => {
+            Ok(Command::Mpub(topic(name)?, bodies(alloc, first, count)?))
         }
-        What::Dpub(name, delay, n, gets) => {
-            (Command::Dpub(topic(name)?, delay, body(alloc, n)?), gets)
-        }
-        What::Rdy(count, gets) => (Command::Rdy(count), gets),
-        What::Fin(n, gets) => (Command::Fin(id(n)), gets),
-        What::Req(n, delay, gets) => (Command::Req(id(n), delay), gets),
-        What::Touch(n, gets) => (Command::Touch(id(n)), gets),
-        What::Cls(gets) => (Command::Cls, gets),
-        _ => (Command::Nop, Gets::Nothing),
-    };
-    Ok(Act::Did(command, frame_of(alloc, gets)?))
+        What::Dpub(name, delay, n, _) => { Ok(Command::Dpub(topic(name)?, delay, body(alloc, n)?)) }
+        What::Rdy(count, _) => Ok(Command::Rdy(count)),
+        What::Fin(n, _) => Ok(Command::Fin(id(n))),
+        What::Req(n, delay, _) => Ok(Command::Req(id(n), delay)),
+        What::Touch(n, _) => Ok(Command::Touch(id(n))),
+        What::Cls(_) => Ok(Command::Cls),
+        _ => Ok(Command::Nop),
+    }
+}
+
+fn gets_of(what: What) -> Gets {
+    match what {
+        What::Identify(_, gets)
+        | What::Sub(_, _, gets)
+        | What::Pub(_, _, gets)
+        | What::Mpub(_, _, _, gets)
+        | What::Dpub(_, _, _, gets)
+        | What::Rdy(_, gets)
+        | What::Fin(_, gets)
+        | What::Req(_, _, gets)
+        | What::Touch(_, gets)
+        | What::Cls(gets) => gets,
+        _ => Gets::Nothing,
+    }
 }
 
 // A fault of a client's bytes, with what it is answered.
@@ -238,24 +294,29 @@ fn refused(alloc: Global, kind: FaultKind, gets: Gets) -> Result<Act, Memory> {
 }
 
 fn frame_of(alloc: Global, gets: Gets) -> Result<Option<Frame>, Memory> {
-    let (kind, text) = match gets {
-        Gets::Nothing => return Ok(None),
-        Gets::Response(text) => (FrameKind::Response, text),
-        Gets::Error(text) => (FrameKind::Error, text),
-    };
+    match gets {
+        Gets::Nothing => Ok(None),
+        Gets::Response(text) => frame(alloc, FrameKind::Response, text),
+        Gets::Error(text) => frame(alloc, FrameKind::Error, text),
+    }
+}
+
+fn frame(alloc: Global, kind: FrameKind, text: &[u8]) -> Result<Option<Frame>, Memory> {
     let body = Body::copy(alloc, text)?;
     Ok(Some(Frame { kind, body }))
 }
 
 fn ask_of(alloc: Global, asks: Asks) -> Result<Ask, Memory> {
-    Ok(match asks {
-        Asks::Publish(name, delay, n) => Ask::Publish(topic(name)?, delay, bodies(alloc, n, 1)?),
-        Asks::Create(name, of) => Ask::Create(topic(name)?, some_channel(of)?),
-        Asks::Delete(name, of) => Ask::Delete(topic(name)?, some_channel(of)?),
-        Asks::Empty(name, of) => Ask::Empty(topic(name)?, some_channel(of)?),
-        Asks::Pause(name, of) => Ask::Pause(topic(name)?, some_channel(of)?),
-        Asks::Unpause(name, of) => Ask::Unpause(topic(name)?, some_channel(of)?),
-    })
+    match asks {
+        Asks::Publish(name, delay, n) => {
+            Ok(Ask::Publish(topic(name)?, delay, bodies(alloc, n, 1)?))
+        }
+        Asks::Create(name, of) => Ok(Ask::Create(topic(name)?, some_channel(of)?)),
+        Asks::Delete(name, of) => Ok(Ask::Delete(topic(name)?, some_channel(of)?)),
+        Asks::Empty(name, of) => Ok(Ask::Empty(topic(name)?, some_channel(of)?)),
+        Asks::Pause(name, of) => Ok(Ask::Pause(topic(name)?, some_channel(of)?)),
+        Asks::Unpause(name, of) => Ok(Ask::Unpause(topic(name)?, some_channel(of)?)),
+    }
 }
 
 fn said_of(says: Says) -> Said {

@@ -1,11 +1,13 @@
 //! Whether a row of a table of histories holds.
 
 use crate::lines::{Line, channel, message, tell, topic};
+use broker_history::Entry;
 use broker_state::{
     ChannelState, MessageCopy, Place, State, TopicState, deferred, in_flight, queued,
 };
 use broker_steps::led_to;
 use nsq_base::{Memory, Options};
+use nsq_outside::End;
 use std::alloc::Global;
 
 /// What a run starts from: the size of memory, the time for a message, how many ids were used, and the messages with their attempts that an
@@ -54,18 +56,45 @@ pub struct Row {
     pub leads: Leads,
 }
 
-/// Whether the row's story is legal, and leads on as it says.
-pub fn holds(alloc: Global, row: &Row) -> Result<bool, Memory> {
+/// The name of the first row of these tables that doesn't hold, if there is one.
+pub fn wrong(alloc: Global, tables: &[&'static [Row]]) -> Result<Option<&'static str>, Memory> {
+    for rows in tables {
+        for row in *rows {
+            if !holds(alloc, row)? {
+                return Ok(Some(row.name));
+            }
+        }
+    }
+    Ok(None)
+}
+
+// Whether the row's story is legal, and leads on as it says.
+fn holds(alloc: Global, row: &Row) -> Result<bool, Memory> {
     let start = start_of(alloc, row.start)?;
+    if !is_legal(alloc, &start, row)? {
+        return Ok(false);
+    }
+    leads_on(alloc, &start, row)
+}
+
+fn story_of(alloc: Global, row: &Row) -> Result<Vec<(Entry, End)>, Memory> {
     let mut entries = Vec::new(alloc);
     for part in row.story {
         entries = tell(alloc, entries, part)?;
     }
-    if led_to(alloc, &start, &entries)?.is_empty() {
-        return Ok(false);
-    }
-    let entries = tell(alloc, entries, row.then)?;
-    let states = led_to(alloc, &start, &entries)?;
+    Ok(entries)
+}
+
+fn is_legal(alloc: Global, start: &State, row: &Row) -> Result<bool, Memory> {
+    let entries = story_of(alloc, row)?;
+    let states = led_to(alloc, start, &entries)?;
+    Ok(!states.is_empty())
+}
+
+fn leads_on(alloc: Global, start: &State, row: &Row) -> Result<bool, Memory> {
+    let story = story_of(alloc, row)?;
+    let entries = tell(alloc, story, row.then)?;
+    let states = led_to(alloc, start, &entries)?;
     leads_so(&states, row.leads)
 }
 

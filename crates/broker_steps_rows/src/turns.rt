@@ -6,7 +6,7 @@ use crate::lines::Line::{self, At, Faulted, Moved};
 use crate::lines::What::*;
 use crate::lines::{OK, Says};
 use crate::story::Leads::{Nowhere, On, To};
-use crate::story::{EMPTY, Row, holds};
+use crate::story::{EMPTY, Row, wrong};
 use nsq_base::Memory;
 
 // The greatest moment.
@@ -47,7 +47,7 @@ const ONE_TURN_AFTER_ANOTHER: [Line; 14] = [
     At(0, 2, Dropped),
 ];
 
-const TURNS: [Row; 21] = [
+static FIRST_TURNS: [Row; 7] = [
     Row {
         name: "a turn makes moves until nothing is due",
         start: EMPTY,
@@ -100,6 +100,9 @@ const TURNS: [Row; 21] = [
         then: &[Faulted(0, 0, Stuck("t", None), 0)],
         leads: Nowhere,
     },
+];
+
+static MORE_TURNS: [Row; 7] = [
     Row {
         name: "turns of two clients, a deletion and a stop",
         start: EMPTY,
@@ -157,6 +160,9 @@ const TURNS: [Row; 21] = [
         then: &[At(0, 0, Stop)],
         leads: Nowhere,
     },
+];
+
+static LAST_TURNS: [Row; 7] = [
     Row {
         name: "a stop that a disk fault kept from paying",
         start: EMPTY,
@@ -212,11 +218,22 @@ const TURNS: [Row; 21] = [
     },
 ];
 
+fn first_turns() -> &'static [Row] {
+    &FIRST_TURNS
+}
+
+fn more_turns() -> &'static [Row] {
+    &MORE_TURNS
+}
+
+fn last_turns() -> &'static [Row] {
+    &LAST_TURNS
+}
+
 #[test]
 fn turns(rt: HostRuntime) -> Result<(), Memory> {
-    for row in &TURNS {
-        let holds = holds(rt.alloc(), row)?;
-        assert!(rt; holds, "{}", row.name);
-    }
+    let parts = [first_turns(), more_turns(), last_turns()];
+    let wrong = wrong(rt.alloc(), &parts)?;
+    assert!(rt; wrong.is_none(), "{}", wrong.unwrap_or(""));
     Ok(())
 }

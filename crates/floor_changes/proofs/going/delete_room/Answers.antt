@@ -1,0 +1,94 @@
+use Rattle.std.proofs.Common.{List, ℕ, true, refl, ap, subst, ◌∙◌}
+use Rattle.std.specs.List.{insert}
+use Rattle.broker_history.specs.Changes.{without_topic}
+use Rattle.floor_rooms.specs.declared.room.Room.{Room}
+use Rattle.floor_rooms.specs.Rooms.{topic_name}
+use Rattle.floor_rooms.specs.Changes.{AtRoom, OthersStay}
+use Rattle.floor_rooms.proofs.Marked.{else_stays}
+use Rattle.floor_changes.proofs.Goes.{KeepsBack, back_sound, back_stands, keeps_rooms, left_sound, left_stands, marked_at, marked_idle, marked_name, marked_none, marked_others, marked_range, put_back_at}
+use Rattle.floor_changes.proofs.going.delete_room.Goals as goal
+
+pub returns-in-Done-clause-sound : goal.returns-in-Done-clause-sound
+returns-in-Done-clause-sound g c =
+    let h0 = c.args.hall.now in
+    let h1 = c.mark_room.new.self in
+    let room = c.remove-queue.result in
+    let mark = c.mark_room.ensures in
+    left_sound h1 (record h1 { rooms = c.remove-queue.new.self; unsaved_names = true }) c.args.i room mark.sound (marked_at h0 h1 c.args.i room mark.sound c.requires.room mark.room c.requires.none c.remove-queue.ensures.value)
+    (marked_none h0 h1 c.args.i room mark.sound c.requires.room mark.room c.requires.none c.remove-queue.ensures.value) c.remove-queue.ensures.items
+    (keeps_rooms h1 c.remove-queue.new.self true mark.sound)
+
+pub returns-in-Done-clause-stands : goal.returns-in-Done-clause-stands
+returns-in-Done-clause-stands g c = λ told d s holds.
+    let h0 = c.args.hall.now in
+    let h1 = c.mark_room.new.self in
+    let room = c.remove-queue.result in
+    let mark = c.mark_room.ensures in
+    let old = g.F.Folder.files c.args.folder.now in
+    let new = g.F.Folder.files c.delete.new.folder in (
+      without_topic s (topic_name room),
+      ap (without_topic s) (marked_name h0 h1 c.args.i room mark.sound c.requires.room mark.room c.requires.none c.remove-queue.ensures.value d),
+      left_stands h1 (record h1 { rooms = c.remove-queue.new.self; unsaved_names = true }) c.args.i room mark.sound (marked_at h0 h1 c.args.i room mark.sound c.requires.room mark.room c.requires.none c.remove-queue.ensures.value)
+          (marked_none h0 h1 c.args.i room mark.sound c.requires.room mark.room c.requires.none c.remove-queue.ensures.value) c.remove-queue.ensures.items old new s (else_stays h1 (record h1 { rooms = c.remove-queue.new.self; unsaved_names = true }) refl)
+          (marked_others h0 h1 c.args.i room mark.sound c.requires.room mark.room c.requires.none c.remove-queue.ensures.value old new (c.delete.ensures.others told))
+          (marked_idle h0 h1 c.args.i room mark.sound c.requires.room mark.room c.requires.none c.remove-queue.ensures.value new (c.in-Done.ensures.found told)) (mark.stands old s holds),
+    )
+
+pub returns-in-Done-clause-others : goal.returns-in-Done-clause-others
+returns-in-Done-clause-others g c = λ told d.
+    let h0 = c.args.hall.now in
+    let h1 = c.mark_room.new.self in
+    let room = c.remove-queue.result in
+    let mark = c.mark_room.ensures in
+    let old = g.F.Folder.files c.args.folder.now in
+    let new = g.F.Folder.files c.delete.new.folder in
+    subst (λ (n : List ℕ). OthersStay n old new) (marked_name h0 h1 c.args.i room mark.sound c.requires.room mark.room c.requires.none c.remove-queue.ensures.value d)
+    (marked_others h0 h1 c.args.i room mark.sound c.requires.room mark.room c.requires.none c.remove-queue.ensures.value old new (c.delete.ensures.others told))
+
+pub returns-in-Ok-clause-sound : goal.returns-in-Ok-clause-sound
+returns-in-Ok-clause-sound g c =
+    let h0 = c.args.hall.now in
+    let h1 = c.mark_room.new.self in
+    let room = c.remove-queue.result in
+    let mark = c.mark_room.ensures in
+    let back : AtRoom c.args.i KeepsBack h1.rooms.items c.insert.new.self.items = record {
+      room = room;
+      after = record room { queue = c.in-Fault.queue };
+      there = marked_at h0 h1 c.args.i room mark.sound c.requires.room mark.room c.requires.none c.remove-queue.ensures.value;
+      is = c.in-Ok.ensures.items ∙ ap (λ (xs : List Room). insert xs c.args.i (record room { queue = c.in-Fault.queue })) c.remove-queue.ensures.items
+          ∙ put_back_at h1.rooms.items c.args.i (record room { queue = c.in-Fault.queue }) (marked_range h0 h1 c.args.i room mark.sound c.requires.room mark.room c.requires.none c.remove-queue.ensures.value);
+      does = (refl, c.in-Fault.ensures.seen);
+    } in
+    back_sound h0 h1 c.args.i room mark.sound c.requires.room mark.room c.requires.none c.remove-queue.ensures.value (record h1 { rooms = c.insert.new.self }) refl back (keeps_rooms h1 c.insert.new.self h1.unsaved_names mark.sound)
+
+pub returns-in-Ok-clause-stands : goal.returns-in-Ok-clause-stands
+returns-in-Ok-clause-stands g c = λ told d s holds.
+    let h0 = c.args.hall.now in
+    let h1 = c.mark_room.new.self in
+    let room = c.remove-queue.result in
+    let mark = c.mark_room.ensures in
+    let old = g.F.Folder.files c.args.folder.now in
+    let new = g.F.Folder.files c.delete.new.folder in
+    let back : AtRoom c.args.i KeepsBack h1.rooms.items c.insert.new.self.items = record {
+      room = room;
+      after = record room { queue = c.in-Fault.queue };
+      there = marked_at h0 h1 c.args.i room mark.sound c.requires.room mark.room c.requires.none c.remove-queue.ensures.value;
+      is = c.in-Ok.ensures.items ∙ ap (λ (xs : List Room). insert xs c.args.i (record room { queue = c.in-Fault.queue })) c.remove-queue.ensures.items
+          ∙ put_back_at h1.rooms.items c.args.i (record room { queue = c.in-Fault.queue }) (marked_range h0 h1 c.args.i room mark.sound c.requires.room mark.room c.requires.none c.remove-queue.ensures.value);
+      does = (refl, c.in-Fault.ensures.seen);
+    } in (
+      s,
+      refl,
+      back_stands h0 h1 c.args.i room mark.sound c.requires.room mark.room c.requires.none c.remove-queue.ensures.value (record h1 { rooms = c.insert.new.self }) refl back old new s (c.delete.ensures.others told) (c.in-Fault.ensures.row told) (c.in-Fault.ensures.stands told) (mark.stands old s holds),
+    )
+
+pub returns-in-Ok-clause-others : goal.returns-in-Ok-clause-others
+returns-in-Ok-clause-others g c = λ told d.
+    let h0 = c.args.hall.now in
+    let h1 = c.mark_room.new.self in
+    let room = c.remove-queue.result in
+    let mark = c.mark_room.ensures in
+    let old = g.F.Folder.files c.args.folder.now in
+    let new = g.F.Folder.files c.delete.new.folder in
+    subst (λ (n : List ℕ). OthersStay n old new) (marked_name h0 h1 c.args.i room mark.sound c.requires.room mark.room c.requires.none c.remove-queue.ensures.value d)
+    (marked_others h0 h1 c.args.i room mark.sound c.requires.room mark.room c.requires.none c.remove-queue.ensures.value old new (c.delete.ensures.others told))

@@ -1,0 +1,28 @@
+use Rattle.std.proofs.Common.{◌≡◌, true, false, List, ℕ, get_or, refl, sym, ◌∙◌}
+use Rattle.std.proofs.lemmas.Bool.{false≢true}
+use Rattle.std.proofs.lemmas.Option.{slice_get-get_or}
+use Rattle.broker_history.specs.Changes.{without_topic}
+use Rattle.floor_rooms.specs.Rooms.{topic_name}
+use Rattle.floor_rooms.proofs.Forming.{some_at}
+use Rattle.floor_rooms.proofs.Marked.{else_stays}
+use Rattle.floor_changes.proofs.Goes.{keeps_rooms, left_rooms, left_sound, left_stands, none_there}
+use Rattle.floor_changes.proofs.going.forget_room.Goals as goal
+
+pub returns-clause-rooms : goal.returns-clause-rooms
+returns-clause-rooms c = λ d.
+    left_rooms c.args.hall.now (record (c.args.hall.now) { rooms = c.remove.new.self }) c.args.i (get_or c.args.hall.now.rooms.items c.args.i d) c.requires.sound (slice_get-get_or c.args.hall.now.rooms.items c.args.i d c.requires.room) (c.requires.none d) c.remove.ensures.items
+
+pub returns-clause-sound : goal.returns-clause-sound
+returns-clause-sound c =
+    let room = some_at c.args.hall.now.rooms.items c.args.i c.requires.room in
+    left_sound c.args.hall.now (record (c.args.hall.now) { rooms = c.remove.new.self }) c.args.i room.0 c.requires.sound room.1 (none_there c.args.hall.now.rooms.items c.args.i room.0 c.requires.none room.1) c.remove.ensures.items
+    (keeps_rooms c.args.hall.now c.remove.new.self c.args.hall.now.unsaved_names c.requires.sound)
+
+pub returns-clause-stands : goal.returns-clause-stands
+returns-clause-stands c = λ d ephemeral files s holds.
+    let room = get_or c.args.hall.now.rooms.items c.args.i d in (
+      without_topic s (topic_name room),
+      refl,
+      left_stands c.args.hall.now (record (c.args.hall.now) { rooms = c.remove.new.self }) c.args.i room c.requires.sound (slice_get-get_or c.args.hall.now.rooms.items c.args.i d c.requires.room) (c.requires.none d) c.remove.ensures.items files files s (else_stays c.args.hall.now (record (c.args.hall.now) { rooms = c.remove.new.self }) refl)
+          (λ name apart file own. refl) (λ durable. absurd (false≢true (sym durable ∙ ephemeral))) holds,
+    )

@@ -1,0 +1,8 @@
+/// How a deletion ended.
+#[derive(Clone, Copy, PartialEq, Eq)]
+pub enum Lost {
+    /// It is gone, with its messages.
+    Done,
+    /// The folder failed, and its count of faults rose in this call. All is as it was.
+    Fault,
+}

@@ -89,7 +89,7 @@ flies_there files number id x k found looks of =
     ∙ ap (nat_lt 0) ((counts_alike (channel_with x.channel (queued_in x.channel of.disk)) k of.is_kept).with_client number id)
 
 -- a client that isn't lost has its route's channel
-held_route : (phase : Phase) (route : Option Route) → is_lost phase ≡ false → held_channel phase route ≡ route
+pub held_route : (phase : Phase) (route : Option Route) → is_lost phase ≡ false → held_channel phase route ≡ route
 held_route Fresh route h = refl
 held_route Subscribed route h = refl
 held_route Closing route h = refl

@@ -1,0 +1,4 @@
+pub mod Naming
+pub mod Planning
+pub mod Saying
+pub mod Sending

@@ -1,13 +1,13 @@
 ghost use Rattle.std.specs.Prelude.{◌≡◌, if◌then◌else◌, false, IfOk};
 ghost use Rattle.broker_history.specs.State.{is_fresh};
 ghost use Rattle.broker_history.specs.Identify.{identity_of};
-ghost use Rattle.broker_history.specs.Reply.{identified, wrong_state};
+ghost use Rattle.broker_history.specs.Reply.{disk_reply, identified, wrong_state};
 ghost use Rattle.broker_history.specs.Step.{is_error};
 ghost use Rattle.floor_rooms.specs.Sound.{IsSound};
 ghost use Rattle.floor_replies.specs.Replies.{IsShort, KnowsOf, RepliesTo, SaysOf};
 
 use crate::finding::flies;
-use crate::frames::wrong_state;
+use crate::frames::{error, wrong_state};
 use crate::replies::{
     close_reply, delayed_reply, flight_reply, publish_reply, ready_reply, subscribe_reply,
 };
@@ -69,6 +69,27 @@ pub fn reply_to(
         }
         Command::Cls => Ok(plain(Some(close_reply(alloc, client)?))),
         Command::Nop => Ok(plain(None)),
+    }
+}
+
+/// The reply to a command that a disk fault kept from being carried out; None for those that never write to disk. Want of memory is the only
+/// error.
+pub fn disk_reply(alloc: Global, command: &Command) -> Result<Option<Frame>, Memory>
+    ensures value { IfOk result (λ reply. reply ≡ disk_reply command.now) }
+    ensures short { IfOk result IsShort }
+{
+    match command {
+        Command::Pub(_, _) => Ok(Some(error(alloc, b"E_PUB_FAILED", b" disk fault")?)),
+        Command::Mpub(_, _) => Ok(Some(error(alloc, b"E_MPUB_FAILED", b" disk fault")?)),
+        Command::Dpub(_, _, _) => Ok(Some(error(alloc, b"E_DPUB_FAILED", b" disk fault")?)),
+        Command::Req(_, _) => Ok(Some(error(alloc, b"E_REQ_FAILED", b" disk fault")?)),
+        Command::Identify(_) => Ok(None),
+        Command::Sub(_, _) => Ok(None),
+        Command::Rdy(_) => Ok(None),
+        Command::Fin(_) => Ok(None),
+        Command::Touch(_) => Ok(None),
+        Command::Cls => Ok(None),
+        Command::Nop => Ok(None),
     }
 }
 

@@ -1,10 +1,10 @@
-ghost use Rattle.std.specs.Prelude.{◌≡◌, ◌<◌, ◌+◌, ◌++◌, ◌^◌, length, IfOk};
-ghost use Rattle.broker_history.specs.Reply.{beat_frame, closes, error, leaves_open, ok_frame, refusal, wrong_state};
+ghost use Rattle.std.specs.Prelude.{◌≡◌, ◌<◌, ◌≤◌, ◌+◌, ◌++◌, ◌^◌, length, IfOk};
+ghost use Rattle.broker_history.specs.Reply.{beat_frame, closes, error, leaves_open, message_frame, ok_frame, refusal, wrong_state};
 ghost use Rattle.floor_replies.specs.Replies.{IsShortFrame};
 
 use nsq_base::{Body, Memory};
 use std::alloc::Global;
-use v2_frame::{Fault, Frame, FrameKind};
+use v2_frame::{Fault, Frame, FrameKind, Message};
 
 /// The frame of a heartbeat. Want of memory is the only error.
 pub fn beat_frame(alloc: Global) -> Result<Frame, Memory>
@@ -12,6 +12,21 @@ pub fn beat_frame(alloc: Global) -> Result<Frame, Memory>
     ensures short { IfOk result IsShortFrame }
 {
     frame(alloc, FrameKind::Response, b"_heartbeat_")
+}
+
+/// The frame of a message. Want of memory is the only error. Requires a body of at most 16,777,216 bytes.
+pub fn message_frame(alloc: Global, message: &Message) -> Result<Frame, Memory>
+    requires { length message.now.body ≤ 16777216 }
+    ensures value { IfOk result (λ frame. frame ≡ message_frame message.now) }
+    ensures short { IfOk result IsShortFrame }
+{
+    let size = 26 + message.body.bytes().len();
+    let mut bytes = vec![in alloc; 0u8; size]?;
+    message.put(&mut bytes);
+    Ok(Frame {
+        kind: FrameKind::Message,
+        body: Body::of(bytes),
+    })
 }
 
 /// The answer to a fault in a client's bytes. Want of memory is the only error.

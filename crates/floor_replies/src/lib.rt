@@ -9,7 +9,7 @@ mod frames;
 mod numbers;
 mod replies;
 
-pub use command::{Replied, reply_to};
+pub use command::{Replied, disk_reply, reply_to};
 pub use finding::{find_client, find_room, find_stall, flies};
-pub use frames::{beat_frame, closes, refusal};
+pub use frames::{beat_frame, closes, message_frame, refusal};
 pub use numbers::are_left;

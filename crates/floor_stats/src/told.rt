@@ -148,7 +148,7 @@ fn is_wanted_topic(wanted: Option<Topic>, name: Topic) -> bool
     ensures { result ≡ is_wanted wanted name }
 {
     match wanted {
-        Some(wanted) => wanted == name,
+        Some(topic) => topic == name,
         None => true,
     }
 }
@@ -158,7 +158,7 @@ fn is_wanted_channel(wanted: Option<Chan>, name: Chan) -> bool
     ensures { result ≡ is_wanted wanted name }
 {
     match wanted {
-        Some(wanted) => wanted == name,
+        Some(channel) => channel == name,
         None => true,
     }
 }

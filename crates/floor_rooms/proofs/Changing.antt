@@ -1,5 +1,5 @@
 -- A change of one channel of a hall is that change of the state that the hall stands for.
-use Rattle.std.proofs.Common.{◌≡◌, ◌≢◌, ◌⊎◌, inl, inr, ◌≤◌, ℕ, Bool, true, false, if◌then◌else◌, List, [], ◌∷◌, Option, Some, None, refl, sym, ap, subst, ◌∙◌, arith}
+use Rattle.std.proofs.Common.{◌≡◌, ◌≢◌, ◌⊎◌, inl, inr, ℕ, Bool, true, false, if◌then◌else◌, List, [], ◌∷◌, Option, Some, None, refl, sym, ap, subst, ◌∙◌, arith}
 use Rattle.std.specs.Prelude.{IfSome, option_and_then}
 use Rattle.std.specs.List.{All, find}
 use Rattle.std.specs.Str.{bytes_eq}
@@ -24,10 +24,10 @@ use Rattle.floor_laws.proofs.Pairs.{IfBoth, pairs_become, pairs_found, pairs_put
 use Rattle.floor_rooms.specs.declared.stall.Stall.{Stall}
 use Rattle.floor_rooms.specs.declared.room.Room.{Room}
 use Rattle.floor_rooms.specs.declared.hall.Hall.{Hall}
-use Rattle.floor_rooms.specs.Rooms.{channel_name, topic_name, room_in, stall_in, stall_at, put_room, put_stall}
+use Rattle.floor_rooms.specs.Rooms.{channel_name, topic_name, room_in, stall_in, stall_at, put_stall}
 use Rattle.floor_rooms.specs.Sound.{IsRoomSound, IsStallSound, IsSound}
-use Rattle.floor_rooms.specs.Standing.{IsStallOf, IsRoomOf, HoldsFor, LiftsTo}
-use Rattle.floor_rooms.specs.Changes.{OthersStay, StallChange}
+use Rattle.floor_rooms.specs.Standing.{IsDurableChannel, IsDurableTopic, IsStallOf, IsRoomOf, HoldsFor, LiftsTo}
+use Rattle.floor_rooms.specs.Changes.{StallChange}
 use Rattle.floor_rooms.proofs.Staying.{IsElsewhere, stall_stays, room_stays, queue_disk, other_channels, idle_stays, stall_named, room_named, topic_is_no_channel, other_topic, other_channel}
 
 -- what is found of a list of which all are so is so
@@ -39,17 +39,17 @@ pub all_found : {X : Type 0} (P : X → Type 0) (p : X → Bool) (xs : List X) (
 all_found P p [] y all e = absurd cc
 all_found P p (x ∷ xs) y all e = found_one P p x y xs (p x) (All-head P x xs all) (all_found P p xs y (All-tail P x xs all)) e
 
-both_some : {X Y : Type 0} (R : X → Y → Type 0) (x : X) (o : Option Y) → IfBoth R (Some x) o → (y : Y) × (o ≡ Some y) × R x y
+pub both_some : {X Y : Type 0} (R : X → Y → Type 0) (x : X) (o : Option Y) → IfBoth R (Some x) o → (y : Y) × (o ≡ Some y) × R x y
 both_some R x None h = absurd h
 both_some R x (Some y) h = (y, refl, h)
 
 -- the names of a room and of its queues
-record IsNamedRoom (r : Room) : Type 0 where
-  named : IsName (topic_name r)
-  queue : IfSome r.queue.backlog.queue (λ q. q.name ≡ topic_name r)
-  stalls : All (λ s. IfSome s.channel.backlog.queue (λ q. q.name ≡ queue_name (topic_name r) (channel_name s))) r.stalls.items
+pub record IsNamedRoom (r : Room) : Type 0 where
+  pub named : IsName (topic_name r)
+  pub queue : IfSome r.queue.backlog.queue (λ q. q.name ≡ topic_name r)
+  pub stalls : All (λ s. IfSome s.channel.backlog.queue (λ q. q.name ≡ queue_name (topic_name r) (channel_name s))) r.stalls.items
 
-named_room : (h : Hall) (r : Room) → IsRoomSound h r → IsNamedRoom r
+pub named_room : (h : Hall) (r : Room) → IsRoomSound h r → IsNamedRoom r
 named_room h r i = record {
   named = i.named;
   queue = i.backlog.queue;
@@ -57,14 +57,14 @@ named_room h r i = record {
 }
 
 -- names that bytes tell apart are two
-apart_names : (a b : List ℕ) → bytes_eq a b ≡ false → b ≢ a
+pub apart_names : (a b : List ℕ) → bytes_eq a b ≡ false → b ≢ a
 apart_names a b e same = false≢true (sym e ∙ ap (bytes_eq a) same ∙ same_bytes a)
 
 none_some : {X A : Type 0} (x : X) → Some x ≡ None → A
 none_some x e = cc
 
 -- where none of a name is found behind a change, none was before, and the changed one has another name
-none_one : {X : Type 0} (x : X) (o : Option X) (b : Bool) → (if b then Some x else o) ≡ None → (b ≡ false) × (o ≡ None)
+pub none_one : {X : Type 0} (x : X) (o : Option X) (b : Bool) → (if b then Some x else o) ≡ None → (b ≡ false) × (o ≡ None)
 none_one x o true e = none_some x e
 none_one x o false e = (refl, e)
 
@@ -153,10 +153,10 @@ module _ (h h' : Hall) (old new : Files) (s : State) (topic channel : List ℕ) 
     none_before name none =
         (none_one c.after (room_in h.rooms.items name) (bytes_eq name (topic_name c.after)) (sym (find_put topic_name h.rooms.items c.after name) ∙ ap (λ xs. room_in xs name) (sym c.rooms) ∙ none)).1
 
-    idle_now : (name : List ℕ) → IsName name → room_in h'.rooms.items name ≡ None → IsIdle (new (meta_file name))
-    idle_now name named none = idle_stays old new (queue_name topic channel) name c.others (topic_is_no_channel name topic channel named) (holds.idle name named (none_before name none))
+    idle_now : (name : List ℕ) → IsDurableTopic name → room_in h'.rooms.items name ≡ None → IsIdle (new (meta_file name))
+    idle_now name named none = idle_stays old new (queue_name topic channel) name c.others (topic_is_no_channel name topic channel named.0) (holds.idle name named (none_before name none))
 
-    idle_channels_now : (t k : List ℕ) → IsName t → IsName k → stall_at h'.rooms.items t k ≡ None → IsIdle (new (meta_file (queue_name t k)))
+    idle_channels_now : (t k : List ℕ) → IsName t → IsDurableChannel t k → stall_at h'.rooms.items t k ≡ None → IsIdle (new (meta_file (queue_name t k)))
     idle_channels_now t k nt nk none =
         elim (in_one k c.after (room_in h.rooms.items t) (bytes_eq t (topic_name c.after)) (ap (option_and_then (λ (r : Room). stall_in r.stalls.items k)) (sym (find_put topic_name h.rooms.items c.after t) ∙ ap (λ xs. room_in xs t) (sym c.rooms)) ∙ none)) [
           | inl here ↦

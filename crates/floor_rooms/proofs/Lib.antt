@@ -1,2 +1,13 @@
+pub mod Placing
 pub mod Staying
 pub mod Changing
+pub mod Sounding
+pub mod Holding
+pub mod Marked
+pub mod Forming
+pub mod Growing
+pub mod Rooming
+pub mod Orders
+pub mod Lifting
+pub mod Quieting
+pub mod Turning

@@ -1,16 +1,17 @@
 -- What changes of a hall as one of its topics or of its channels does.
-use Rattle.std.specs.Prelude.{◌≡◌, ◌≢◌, ◌⊎◌, ◌≤◌, ℕ, min, Bool, true, List, ◌∷◌, [], ◌++◌, if◌then◌else◌, Option, Some, None, IsSome, slice_get, slice_set}
+use Rattle.std.specs.Prelude.{◌≡◌, ◌≢◌, ◌⊎◌, ◌≤◌, ℕ, Bool, true, false, List, ◌∷◌, [], ◌++◌, All, if◌then◌else◌, Option, Some, None, IfSome, IsSome, slice_get, slice_set}
 use Rattle.nsq_outside.specs.Files.{Files}
 use Rattle.backlog.specs.Seen.{SameQueue}
 use Rattle.topic_core.specs.Laws.{OwnFilesStay}
+use Rattle.topic_core.specs.Seen.{IsSettled, owed_of}
 use Rattle.channel_copies.specs.Clients.{client_of}
 use Rattle.channel_core.specs.Seen.{queue_name}
 use Rattle.channel_core.specs.declared.drawn.Drawn.TheVariants.{Nothing}
 use Rattle.floor_rooms.specs.declared.stall.Stall.{Stall}
 use Rattle.floor_rooms.specs.declared.room.Room.{Room}
 use Rattle.floor_rooms.specs.declared.hall.Hall.{Hall}
-use Rattle.floor_rooms.specs.Rooms.{channel_name, topic_name, room_in, stall_in, put_room, put_stall}
-use Rattle.floor_rooms.specs.Sound.{IsSound}
+use Rattle.floor_rooms.specs.Rooms.{channel_name, topic_name, stall_names, room_in, stall_in, put_room, put_stall}
+use Rattle.floor_rooms.specs.Sound.{IsSound, rests}
 
 -- the files of all queues but the one of this name are as they were
 abbrev pub OthersStay : (changed : List ℕ) → Files → Files → Type 0
@@ -70,6 +71,21 @@ pub record TouchesStall (old new : Stall) : Type 0 where
   pub members : new.members.items ≡ old.members.items
   pub since : new.since ≡ old.since
   pub marked : IsSome old.since ⊎ (new.channel.backlog.queue ≡ old.channel.backlog.queue)
+
+-- calls of its queue leave of a room its name, its queue's name and room, its channels and its mark, nothing is drawn afterwards, each channel that
+-- is owed a copy is there, where it isn't marked the queue on disk stays, and where it isn't listed it rests
+pub record TouchesRoom (old new : Room) : Type 0 where
+  pub name : new.queue.name ≡ old.queue.name
+  pub settled : IsSettled new.queue
+  pub queue : SameQueue old.queue.backlog.queue new.queue.backlog.queue
+  pub capacity : new.queue.backlog.capacity ≡ old.queue.backlog.capacity
+  pub names : IfSome new.names (λ names. names ≡ (topic_name old, stall_names old) ∷ [])
+  pub stalls : new.stalls.items ≡ old.stalls.items
+  pub owed : All (λ name. IsSome (stall_in old.stalls.items name)) (owed_of new.queue.head)
+  pub since : new.since ≡ old.since
+  pub marked : IsSome old.since ⊎ (new.queue.backlog.queue ≡ old.queue.backlog.queue)
+  pub listed : new.listed ≡ true → old.listed ≡ true
+  pub rests : new.listed ≡ false → rests new ≡ true
 
 -- so one channel of a sound hall was touched, and nothing else
 pub record Touches (i j : ℕ) (old new : Hall) : Type 0 where

@@ -4,3 +4,4 @@ pub mod Sound
 pub mod Standing
 pub mod Changes
 pub mod Made
+pub mod RoomChanges

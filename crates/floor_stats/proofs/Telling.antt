@@ -1,7 +1,6 @@
 -- What is told of a part of a hall is told of each part of a state for which it stands.
-use Rattle.std.proofs.Common.{◌≡◌, ◌<◌, ◌≤◌, ℕ, zero, suc, add-one, ◌+◌, ◌-◌, nat_eq, ◌==◌, ◌||◌, if◌then◌else◌, Bool, true, false, List, [], ◌∷◌, ◌++◌, length, map, take, get_or, Option, Some, None, is_some, refl, sym, ap, subst, ◌∙◌, arith}
-use Rattle.std.specs.List.{All, AllPairs, filter, list_any}
-use Rattle.std.specs.Str.{bytes_eq}
+use Rattle.std.proofs.Common.{◌≡◌, ◌<◌, ◌≤◌, ℕ, zero, suc, add-one, ◌+◌, ◌-◌, nat_eq, ◌==◌, ◌||◌, if◌then◌else◌, Bool, true, false, List, [], ◌∷◌, ◌++◌, length, take, get_or, Option, Some, None, is_some, refl, sym, ap, subst, ◌∙◌, arith}
+use Rattle.std.specs.List.{AllPairs, filter, list_any}
 use Rattle.std.proofs.lemmas.Bool.{false≢true, eq-eqb, eqb-true}
 use Rattle.std.proofs.lemmas.List.{append-nil, get_or_default}
 use Rattle.std.proofs.Math.Seq.{take-suc}
@@ -15,8 +14,7 @@ use Rattle.backlog.specs.Lists.{OnDisk}
 use Rattle.broker_history.specs.declared.stats.ClientStats.{ClientStats}
 use Rattle.broker_history.specs.declared.stats.ChannelStats.{ChannelStats}
 use Rattle.broker_history.specs.declared.stats.TopicStats.{TopicStats}
-use Rattle.broker_history.specs.declared.stats.Stats.{Stats}
-use Rattle.broker_history.specs.State.{Channel, Client, State, Topic, clients_of, flying, has_channel, is_ephemeral_channel, queued}
+use Rattle.broker_history.specs.State.{Channel, Client, State, Topic, flying, has_channel, is_ephemeral_channel, queued}
 use Rattle.broker_history.specs.Said.{IsBackendDepth, Tells, TellsChannel, TellsClient, TellsTopic, is_wanted}
 use Rattle.channel_core.specs.declared.answers.Counts.{Counts}
 use Rattle.channel_core.specs.Answers as channels

@@ -1,13 +1,12 @@
 -- What is kept of a hall is what is kept of each state that it stands for.
-use Rattle.std.proofs.Common.{◌≡◌, ◌<◌, ℕ, add-one, ◌+◌, Bool, true, false, not, if◌then◌else◌, List, [], ◌∷◌, ◌++◌, length, map, take, get_or, refl, sym, ap, subst, ◌∙◌}
+use Rattle.std.proofs.Common.{◌≡◌, ◌<◌, ℕ, add-one, ◌+◌, Bool, true, false, not, if◌then◌else◌, List, [], ◌∷◌, ◌++◌, length, map, take, get_or, sym, ap, ◌∙◌}
 use Rattle.std.specs.List.{filter}
 use Rattle.std.proofs.Math.Seq.{take-suc}
 use Rattle.std.proofs.lemmas.List.{append-nil, map-append}
 use Rattle.std.proofs.lemmas.List.Elements.{filter-append}
 use Rattle.nsq_base.specs.Name.{is_ephemeral}
 use Rattle.nsq_outside.specs.Files.{Files}
-use Rattle.history.specs.Data.{KeptChannel, KeptTopic, durable}
-use Rattle.history.specs.Found.{Pairwise}
+use Rattle.history.specs.Data.{durable}
 use Rattle.broker_history.specs.State.{Channel, State, Topic}
 use Rattle.broker_history.specs.Left.{kept_channel, kept_names, kept_topic}
 use Rattle.floor_laws.proofs.Counting.{counts_alike}

@@ -1,4 +1,4 @@
-use Rattle.std.proofs.Common.{subst, sym, get_or, List, ℕ, ◌∙◌}
+use Rattle.std.proofs.Common.{subst, get_or, List, ℕ, ◌∙◌}
 use Rattle.std.proofs.lemmas.List.{take_all, get_or_default}
 use Rattle.history.specs.Found.{Pairwise}
 use Rattle.floor_stats.specs.Stats.{IsToldOfNumber}

@@ -1,5 +1,5 @@
 -- What is found in a hall is what is found in each state that it stands for.
-use Rattle.std.proofs.Common.{◌≡◌, ◌≤◌, ℕ, Bool, true, false, ◌&&◌, List, [], ◌∷◌, Option, Some, None, nat_lt, refl, sym, ap, subst, ◌∙◌, arith}
+use Rattle.std.proofs.Common.{◌≡◌, ◌≤◌, ℕ, Bool, true, false, ◌&&◌, List, [], ◌∷◌, Option, Some, None, nat_lt, refl, sym, ap, ◌∙◌, arith}
 use Rattle.std.specs.Prelude.{option_and_then}
 use Rattle.std.specs.List.{HoldsAt}
 use Rattle.std.specs.Str.{bytes_eq}
@@ -8,8 +8,9 @@ use Rattle.nsq_outside.specs.Files.{Files}
 use Rattle.v2_frame.specs.declared.message.Message.{Message}
 use Rattle.broker_history.specs.State.{Place, Queued, InFlight, Deferred, Finished, Emptied, Dropped, Phase, Fresh, Subscribed, Closing, Lost, Client, Copy, Channel, Topic, State, Route, channel_at, channel_of, client_channel, flying_with, flying_of, is_in_flight, is_lost, is_with, topic_of}
 use Rattle.broker_history.specs.Channels.{one}
-use Rattle.broker_history.specs.Reply.{copies_in}
+use Rattle.broker_history.specs.Reply.{copies_in, has_in_flight}
 use Rattle.broker_history.proofs.Counting.{count-cons}
+use Rattle.channel_core.proofs.Copies.{flying_with_is}
 use Rattle.channel_core.specs.Answers.{Looks}
 use Rattle.channel_core.specs.Seen.{channel_with, queued_in}
 use Rattle.channel_core.specs.declared.answers.Look.{Look}
@@ -24,7 +25,7 @@ use Rattle.floor_rooms.specs.Places.{IsThere}
 use Rattle.floor_rooms.specs.Rooms.{channel_name, topic_name, room_in, stall_at, stall_in}
 use Rattle.floor_rooms.specs.Standing.{IsStallOf, IsRoomOf, HoldsFor}
 use Rattle.floor_rooms.proofs.Staying.{room_named, stall_named}
-use Rattle.floor_replies.specs.Replies.{TellsFlight}
+use Rattle.floor_replies.specs.Replies.{copies_at, flies_in, stall_of, stall_on}
 
 -- the topic of a name is there in both, or in neither
 pub found_room : (h : Hall) (files : Files) (s : State) → HoldsFor h files s → (topic : List ℕ) → IfBoth (IsRoomOf files) (room_in h.rooms.items topic) (topic_of s topic)
@@ -82,12 +83,6 @@ looks_right number id k Yours h = sym (lt-ltb 0 (flying_with number id k.copies)
 looks_right number id k NotYours h = sym (ap (nat_lt 0) h.1)
 looks_right number id k NotInFlight h = let none : flying_with number id k.copies ≡ 0 = omega (arith, h, with_fewer number id k.copies) in sym (ap (nat_lt 0) none)
 
--- so it is of the state's channel
-flies_there : (files : Files) (number : ℕ) (id : List ℕ) (x : Stall) (k : Channel) (found : Look) → ((waits : List Message) → Looks number id (channel_with x.channel waits) found) → IsStallOf files x k → is_yours found ≡ nat_lt 0 (flying_with number id k.copies)
-flies_there files number id x k found looks of =
-    looks_right number id (channel_with x.channel (queued_in x.channel of.disk)) found (looks (queued_in x.channel of.disk))
-    ∙ ap (nat_lt 0) ((counts_alike (channel_with x.channel (queued_in x.channel of.disk)) k of.is_kept).with_client number id)
-
 -- a client that isn't lost has its route's channel
 pub held_route : (phase : Phase) (route : Option Route) → is_lost phase ≡ false → held_channel phase route ≡ route
 held_route Fresh route h = refl
@@ -95,29 +90,26 @@ held_route Subscribed route h = refl
 held_route Closing route h = refl
 held_route Lost route h = absurd (false≢true (sym h))
 
--- where a client has no channel, or that isn't there, none is in flight with it
-none_there : (files : Files) (number : ℕ) (id : List ℕ) (k : Option Channel) → IfBoth (IsStallOf files) None k → false ≡ nat_lt 0 (flying_with number id (copies_in k))
-none_there files number id None h = refl
-none_there files number id (Some k) h = absurd h
+-- so a look tells whether one flies in the hall
+pub looked : (h : Hall) (c : Client) (id : List ℕ) (x : Stall) (found : Look) → Some x ≡ stall_of h c → ((waits : List Message) → Looks c.number id (channel_with x.channel waits) found) → is_yours found ≡ flies_in h c id
+looked h c id x found some looks = looks_right c.number id (channel_with x.channel []) found (looks []) ∙ ap (λ o. nat_lt 0 (flying_with c.number id (copies_at o))) some
 
-some_there : (files : Files) (number : ℕ) (id : List ℕ) (x : Stall) (k : Option Channel) (found : Look) → ((waits : List Message) → Looks number id (channel_with x.channel waits) found) → IfBoth (IsStallOf files) (Some x) k
-    → is_yours found ≡ nat_lt 0 (flying_with number id (copies_in k))
-some_there files number id x None found looks h = absurd h
-some_there files number id x (Some k) found looks h = flies_there files number id x k found looks h
+-- as many fly in the hall as in each state that it stands for
+both_fly : (files : Files) (number : ℕ) (id : List ℕ) (o : Option Stall) (u : Option Channel) → IfBoth (IsStallOf files) o u → flying_with number id (copies_at o) ≡ flying_with number id (copies_in u)
+both_fly files number id None None h = refl
+both_fly files number id None (Some k) h = absurd h
+both_fly files number id (Some x) None h = absurd h
+both_fly files number id (Some x) (Some k) h =
+    flying_with_is number id [] x.channel.flights x.channel.deferred ∙ sym (flying_with_is number id (queued_in x.channel h.disk) x.channel.flights x.channel.deferred)
+    ∙ (counts_alike (channel_with x.channel (queued_in x.channel h.disk)) k h.is_kept).with_client number id
 
-pub no_channel : (h : Hall) (c : Client) (id : List ℕ) → held_channel c.phase c.route ≡ None → TellsFlight h c id false
-no_channel h c id none lost files s holds = sym (ap (λ r. nat_lt 0 (flying_with c.number id (copies_in (client_channel s r)))) (sym (held_route c.phase c.route lost) ∙ none))
+fly_on : (h : Hall) (files : Files) (s : State) → HoldsFor h files s → (number : ℕ) (id : List ℕ) (route : Option Route) → flying_with number id (copies_at (stall_on h.rooms.items route)) ≡ flying_with number id (copies_in (client_channel s route))
+fly_on h files s holds number id None = refl
+fly_on h files s holds number id (Some r) = both_fly files number id (stall_at h.rooms.items r.topic r.channel) (channel_at s r.topic r.channel) (found_channel h files s holds r.topic r.channel)
 
-pub no_stall : (h : Hall) (c : Client) (id topic channel : List ℕ) → held_channel c.phase c.route ≡ Some (record { topic = topic; channel = channel }) → stall_at h.rooms.items topic channel ≡ None → TellsFlight h c id false
-no_stall h c id topic channel held none lost files s holds =
-    none_there files c.number id (channel_at s topic channel) (subst (λ o. IfBoth (IsStallOf files) o (channel_at s topic channel)) none (found_channel h files s holds topic channel))
-    ∙ sym (ap (λ r. nat_lt 0 (flying_with c.number id (copies_in (client_channel s r)))) (sym (held_route c.phase c.route lost) ∙ held))
-
-pub looked : (h : Hall) (c : Client) (id topic channel : List ℕ) (x : Stall) (found : Look) → held_channel c.phase c.route ≡ Some (record { topic = topic; channel = channel }) → stall_at h.rooms.items topic channel ≡ Some x
-    → ((waits : List Message) → Looks c.number id (channel_with x.channel waits) found) → TellsFlight h c id (is_yours found)
-looked h c id topic channel x found held some looks lost files s holds =
-    some_there files c.number id x (channel_at s topic channel) found looks (subst (λ o. IfBoth (IsStallOf files) o (channel_at s topic channel)) some (found_channel h files s holds topic channel))
-    ∙ sym (ap (λ r. nat_lt 0 (flying_with c.number id (copies_in (client_channel s r)))) (sym (held_route c.phase c.route lost) ∙ held))
+pub flies_alike : (h : Hall) (c : Client) → is_lost c.phase ≡ false → (files : Files) (s : State) → HoldsFor h files s → (id : List ℕ) → flies_in h c id ≡ has_in_flight s c id
+flies_alike h c lost files s holds id =
+    ap (λ r. nat_lt 0 (flying_with c.number id (copies_at (stall_on h.rooms.items r)))) (held_route c.phase c.route lost) ∙ ap (nat_lt 0) (fly_on h files s holds c.number id c.route)
 
 -- a topic that is there has no channel of a name that isn't
 pub none_at : (rooms : List Room) (topic channel : List ℕ) (i : ℕ) → IsThere topic_name rooms topic i → HoldsAt (λ r. stall_in r.stalls.items channel ≡ None) rooms i → None ≡ stall_at rooms topic channel

@@ -1,25 +1,30 @@
--- The reply to a command, by what a hall has.
-use Rattle.std.proofs.Common.{◌≡◌, ℕ, Bool, codes, length, List, Option, Some, sym, ap, ◌∙◌}
-use Rattle.std.specs.Prelude.{ℤ}
-use Rattle.v2_frame.specs.declared.command.Command.TheVariants as command
+-- The reply to a command by what a hall has is the reply in each state that it stands for.
+use Rattle.std.proofs.Common.{◌≡◌, ℕ, Bool, codes, List, Option, refl, sym, ap, ◌∙◌}
+use Rattle.nsq_base.specs.declared.options.Options.{Options}
+use Rattle.v2_frame.specs.declared.command.Command.{Command}
+use Rattle.v2_frame.specs.declared.command.Command.TheVariants.{Identify, Sub, Pub, Mpub, Dpub, Rdy, Fin, Req, Touch, Cls, Nop}
 use Rattle.v2_frame.specs.declared.frame.Frame.{Frame}
-use Rattle.broker_history.specs.State.{Client}
-use Rattle.broker_history.specs.Reply.{flight_reply, publish_reply}
+use Rattle.broker_history.specs.State.{Client, Phase}
+use Rattle.broker_history.specs.Reply.{flight_reply, has_in_flight, reply_by}
 use Rattle.floor_rooms.specs.declared.hall.Hall.{Hall}
-use Rattle.floor_replies.specs.Replies.{RepliesTo, TellsFlight}
+use Rattle.floor_replies.specs.Replies.{RepliesTo, flies_in, reply_in}
+use Rattle.floor_replies.proofs.Found.{flies_alike}
 
--- the reply to a batch, by how many ids the hall used
-pub batch_reply : (h : Hall) (c : Client) (topic : List ℕ) (bodies : List (List ℕ)) (count : ℕ) (frame : Frame) (reply : Option Frame) → reply ≡ Some frame → frame ≡ publish_reply h.ids_used (codes "E_MPUB_FAILED") count → count ≡ length bodies
-    → RepliesTo h c (command.Mpub topic bodies) reply
-batch_reply h c topic bodies count frame reply is by counts lost files s holds =
-    is ∙ ap Some by ∙ ap (λ n. Some (publish_reply h.ids_used (codes "E_MPUB_FAILED") n)) counts ∙ ap (λ used. Some (publish_reply used (codes "E_MPUB_FAILED") (length bodies))) (sym holds.ids_used)
+-- a reply rests on nothing but which ids fly
+same_reply : (o : Options) (used : ℕ) (phase : Phase) (f g : List ℕ → Bool) → ((id : List ℕ) → f id ≡ g id) → (command : Command) → reply_by o used phase f command ≡ reply_by o used phase g command
+same_reply o used phase f g same (Identify body) = refl
+same_reply o used phase f g same (Sub topic channel) = refl
+same_reply o used phase f g same (Pub topic body) = refl
+same_reply o used phase f g same (Mpub topic bodies) = refl
+same_reply o used phase f g same (Dpub topic delay body) = refl
+same_reply o used phase f g same (Rdy count) = refl
+same_reply o used phase f g same (Fin id) = ap (flight_reply phase (codes "E_FIN_FAILED")) (same id)
+same_reply o used phase f g same (Req id delay) = ap (flight_reply phase (codes "E_REQ_FAILED")) (same id)
+same_reply o used phase f g same (Touch id) = ap (flight_reply phase (codes "E_TOUCH_FAILED")) (same id)
+same_reply o used phase f g same Cls = refl
+same_reply o used phase f g same Nop = refl
 
--- a reply by whether the copy of the id is in flight with the client
-pub fin_reply : (h : Hall) (c : Client) (id : List ℕ) (flies : Bool) (reply : Option Frame) → reply ≡ flight_reply c.phase (codes "E_FIN_FAILED") flies → TellsFlight h c id flies → RepliesTo h c (command.Fin id) reply
-fin_reply h c id flies reply by tells lost files s holds = by ∙ ap (flight_reply c.phase (codes "E_FIN_FAILED")) (tells lost files s holds)
-
-pub req_reply : (h : Hall) (c : Client) (id : List ℕ) (delay : ℤ) (flies : Bool) (reply : Option Frame) → reply ≡ flight_reply c.phase (codes "E_REQ_FAILED") flies → TellsFlight h c id flies → RepliesTo h c (command.Req id delay) reply
-req_reply h c id delay flies reply by tells lost files s holds = by ∙ ap (flight_reply c.phase (codes "E_REQ_FAILED")) (tells lost files s holds)
-
-pub touch_reply : (h : Hall) (c : Client) (id : List ℕ) (flies : Bool) (reply : Option Frame) → reply ≡ flight_reply c.phase (codes "E_TOUCH_FAILED") flies → TellsFlight h c id flies → RepliesTo h c (command.Touch id) reply
-touch_reply h c id flies reply by tells lost files s holds = by ∙ ap (flight_reply c.phase (codes "E_TOUCH_FAILED")) (tells lost files s holds)
+pub told_reply : (h : Hall) (c : Client) (command : Command) (reply : Option Frame) → reply ≡ reply_in h c command → RepliesTo h c command reply
+told_reply h c command reply is lost files s holds =
+    is ∙ same_reply h.options h.ids_used c.phase (flies_in h c) (has_in_flight s c) (flies_alike h c lost files s holds) command
+    ∙ ap (λ o. reply_by o h.ids_used c.phase (has_in_flight s c) command) (sym holds.options) ∙ ap (λ used. reply_by s.options used c.phase (has_in_flight s c) command) (sym holds.ids_used)

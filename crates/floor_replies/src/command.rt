@@ -1,20 +1,21 @@
-ghost use Rattle.std.specs.Prelude.{◌≡◌, if◌then◌else◌, false, IfOk};
+ghost use Rattle.std.specs.Prelude.{◌≡◌, ◌≤◌, if◌then◌else◌, false, length, IfOk};
 ghost use Rattle.broker_history.specs.State.{is_fresh};
 ghost use Rattle.broker_history.specs.Identify.{identity_of};
-ghost use Rattle.broker_history.specs.Reply.{disk_reply, identified, wrong_state};
+ghost use Rattle.broker_history.specs.Reply.{disk_reply, flight_reply, identified, wrong_state};
 ghost use Rattle.broker_history.specs.Step.{is_error};
 ghost use Rattle.floor_rooms.specs.Sound.{IsSound};
-ghost use Rattle.floor_replies.specs.Replies.{IsShort, KnowsOf, RepliesTo, SaysOf};
+ghost use Rattle.floor_replies.specs.Replies.{IsShort, KnowsOf, RepliesTo, SaysOf, flies_in, reply_in};
 
 use crate::finding::flies;
 use crate::frames::{error, wrong_state};
 use crate::replies::{
-    close_reply, delayed_reply, flight_reply, publish_reply, ready_reply, subscribe_reply,
+    batch_reply, close_reply, delayed_reply, flight_reply, publish_reply, ready_reply,
+    subscribe_reply,
 };
 use floor_clients::Client;
 use floor_rooms::Hall;
 use negotiation::{Identity, identify_reply, read_identity};
-use nsq_base::{Memory, Options};
+use nsq_base::{Memory, MsgId, Options};
 use std::alloc::Global;
 use v2_frame::{Command, Frame};
 
@@ -35,7 +36,18 @@ pub fn reply_to(
     command: &Command,
 ) -> Result<Replied, Memory>
     requires { IsSound hall.now }
-    ensures value { IfOk result (λ r. RepliesTo hall.now client.now command.now r.reply) }
+    ensures value { IfOk result (λ r. r.reply ≡ reply_in hall.now client.now command.now) }
+    ensures told { IfOk result (λ r. RepliesTo hall.now client.now command.now r.reply) }
+    ensures said { IfOk result (λ r. KnowsOf hall.now.options command.now r.reply r.said) }
+    ensures short { IfOk result (λ r. IsShort r.reply) }
+{
+    Ok(answer(hall, alloc, client, command)?)
+}
+
+// The same, by what the hall has.
+fn answer(hall: &Hall, alloc: Global, client: &Client, command: &Command) -> Result<Replied, Memory>
+    requires { IsSound hall.now }
+    ensures value { IfOk result (λ r. r.reply ≡ reply_in hall.now client.now command.now) }
     ensures said { IfOk result (λ r. KnowsOf hall.now.options command.now r.reply r.said) }
     ensures short { IfOk result (λ r. IsShort r.reply) }
 {
@@ -44,32 +56,35 @@ pub fn reply_to(
         Command::Identify(body) => introduce(alloc, &hall.options, client, body.bytes()),
         Command::Sub(_, _) => Ok(plain(Some(subscribe_reply(alloc, client)?))),
         Command::Pub(_, _) => Ok(plain(Some(publish_reply(alloc, used, b"E_PUB_FAILED", 1)?))),
-        Command::Mpub(_, bodies) => {
-            let count = bodies.count() as u64;
-            Ok(plain(Some(publish_reply(alloc, used, b"E_MPUB_FAILED", count)?)))
+        Command::Mpub(_, bodies) => Ok(plain(Some(batch_reply(alloc, used, bodies)?))),
+        Command::Dpub(_, delay, _) => {
+            Ok(plain(Some(delayed_reply(alloc, &hall.options, used, *delay)?)))
         }
-        Command::Dpub(_, delay, _) => Ok(plain(Some(delayed_reply(
-            alloc,
-            &hall.options,
-            used,
-            *delay,
-        )?))),
         Command::Rdy(count) => Ok(plain(ready_reply(alloc, &hall.options, client, *count)?)),
-        Command::Fin(id) => {
-            let flies = flies(hall, client, *id);
-            Ok(plain(flight_reply(alloc, client, b"E_FIN_FAILED", flies)?))
-        }
-        Command::Req(id, _) => {
-            let flies = flies(hall, client, *id);
-            Ok(plain(flight_reply(alloc, client, b"E_REQ_FAILED", flies)?))
-        }
-        Command::Touch(id) => {
-            let flies = flies(hall, client, *id);
-            Ok(plain(flight_reply(alloc, client, b"E_TOUCH_FAILED", flies)?))
-        }
+        Command::Fin(id) => message_reply(hall, alloc, client, b"E_FIN_FAILED", *id),
+        Command::Req(id, _) => message_reply(hall, alloc, client, b"E_REQ_FAILED", *id),
+        Command::Touch(id) => message_reply(hall, alloc, client, b"E_TOUCH_FAILED", *id),
         Command::Cls => Ok(plain(Some(close_reply(alloc, client)?))),
         Command::Nop => Ok(plain(None)),
     }
+}
+
+// The reply to a command on a message of this id.
+fn message_reply(
+    hall: &Hall,
+    alloc: Global,
+    client: &Client,
+    word: &[u8],
+    id: MsgId,
+) -> Result<Replied, Memory>
+    requires sound { IsSound hall.now }
+    requires word { length word.now ≤ 100 }
+    ensures value { IfOk result (λ r. r.reply ≡ flight_reply client.now.phase word.now (flies_in hall.now client.now id)) }
+    ensures said { IfOk result (λ r. r.said ≡ None) }
+    ensures short { IfOk result (λ r. IsShort r.reply) }
+{
+    let flies = flies(hall, client, id);
+    Ok(plain(flight_reply(alloc, client, word, flies)?))
 }
 
 /// The reply to a command that a disk fault kept from being carried out; None for those that never write to disk. Want of memory is the only

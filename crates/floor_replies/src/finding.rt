@@ -1,7 +1,7 @@
 ghost use Rattle.std.specs.Prelude.{◌≡◌, option_copied};
 ghost use Rattle.floor_rooms.specs.Rooms.{client_in, room_in, stall_at};
 ghost use Rattle.floor_rooms.specs.Sound.{IsSound};
-ghost use Rattle.floor_replies.specs.Replies.{TellsFlight};
+ghost use Rattle.floor_replies.specs.Replies.{flies_in, stall_of};
 
 use channel_core::Look;
 use floor_clients::Client;
@@ -44,15 +44,23 @@ pub fn find_stall(hall: &Hall, topic: Topic, channel: Chan) -> Option<&Stall>
     Some(&hall.rooms[i].stalls[j])
 }
 
-/// Whether a copy of this id is in flight with the client, whose channel wasn't deleted.
-pub fn flies(hall: &Hall, client: &Client, id: MsgId) -> bool
+/// The channel of a client, where it has one that is there.
+pub fn stall_of<'a>(hall: &'a Hall, client: &Client) -> Option<&'a Stall>
     requires { IsSound hall.now }
-    ensures { TellsFlight hall.now client.now id result }
+    ensures { option_copied result ≡ stall_of hall.now client.now }
 {
     let Some(names) = client.channel() else {
-        return false;
+        return None;
     };
-    let Some(stall) = find_stall(hall, names.0, names.1) else {
+    find_stall(hall, names.0, names.1)
+}
+
+/// Whether a copy of this id is in flight with the client.
+pub fn flies(hall: &Hall, client: &Client, id: MsgId) -> bool
+    requires { IsSound hall.now }
+    ensures { result ≡ flies_in hall.now client.now id }
+{
+    let Some(stall) = stall_of(hall, client) else {
         return false;
     };
     match stall.channel.look(client.number(), id) {

@@ -10,6 +10,6 @@ mod numbers;
 mod replies;
 
 pub use command::{Replied, disk_reply, reply_to};
-pub use finding::{find_client, find_room, find_stall, flies};
+pub use finding::{find_client, find_room, find_stall, flies, stall_of};
 pub use frames::{beat_frame, closes, message_frame, refusal};
 pub use numbers::are_left;

@@ -6,7 +6,7 @@ ghost use Rattle.floor_replies.specs.Replies.{IsShort, IsShortFrame};
 use crate::frames::{error, frame, ok_frame, wrong_state};
 use crate::numbers::{are_left, is_count_to, is_span_to};
 use floor_clients::Client;
-use nsq_base::{Memory, Options};
+use nsq_base::{Bodies, Memory, Options};
 use std::alloc::Global;
 use v2_frame::{Frame, FrameKind};
 
@@ -50,6 +50,15 @@ pub(crate) fn publish_reply(
     } else {
         error(alloc, word, b" ids spent")
     }
+}
+
+// The reply to MPUB.
+pub(crate) fn batch_reply(alloc: Global, used: u64, bodies: &Bodies) -> Result<Frame, Memory>
+    ensures value { IfOk result (λ frame. frame ≡ publish_reply used (codes "E_MPUB_FAILED") (length bodies.now)) }
+    ensures short { IfOk result IsShortFrame }
+{
+    let count = bodies.count() as u64;
+    publish_reply(alloc, used, b"E_MPUB_FAILED", count)
 }
 
 // The reply to DPUB.

@@ -1,0 +1,5 @@
+pub mod Keeping
+pub mod Naming
+pub mod Planning
+pub mod Saying
+pub mod Sending

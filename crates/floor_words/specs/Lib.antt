@@ -1,0 +1,4 @@
+pub mod Asked
+pub mod Dues
+pub mod Kept
+pub mod Plans

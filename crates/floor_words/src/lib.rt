@@ -1,0 +1,17 @@
+//! What a call leads to on a floor, over a hall that stays as it is: which act, what is said to what is asked over HTTP, the names of all topics
+//! and channels, and what of them is kept on disk.
+//!
+//! Each answer is the definition's, for every state that the hall stands for. Want of memory is the only error.
+#![tactic(auto)]
+
+mod asked;
+mod due;
+mod durable;
+mod listed;
+mod plan;
+
+pub use asked::said_to;
+pub use due::{Due, next_due_to};
+pub use durable::{KeptChannel, KeptTopic, kept};
+pub use listed::names;
+pub use plan::{Plan, Planned, is_strange, plan_call};

@@ -1,0 +1,12 @@
+//! The moves of a floor: what is due in a hall is moved, one move an entry.
+//!
+//! `specs/Moves.antt` says what a move makes of a hall, of what is noted and of the folder's files.
+#![tactic(auto)]
+
+mod due;
+mod made;
+mod moving;
+
+pub use due::{Place, find_due};
+pub use made::Made;
+pub use moving::move_due;

@@ -1,17 +1,23 @@
 -- What is due of a channel is put back: that is the move, of each state that the hall stood for.
-use Rattle.std.proofs.Common.{◌≡◌, ◌⊎◌, inl, inr, ◌<◌, ◌≤◌, ℕ, Bool, true, false, if◌then◌else◌, List, set, length, Option, Some, None, refl, sym, ap, subst, ◌∙◌, get_or-set_same, length-set}
+use Rattle.std.proofs.Common.{◌≡◌, ◌⊎◌, inl, inr, ◌<◌, ◌≤◌, ◌==◌, ◌&&◌, ℕ, Bool, true, false, if◌then◌else◌, List, set, length, Option, Some, None, refl, sym, ap, subst, ◌∙◌, get_or-set_same, length-set}
 use Rattle.std.specs.Prelude.{IsTrue, IsSome, slice_get}
 use Rattle.std.specs.List.{All, HoldsAt}
+use Rattle.std.proofs.lemmas.Bool.{eq-eqb}
 use Rattle.std.proofs.lemmas.Option.{get_or_from_slice_get, slice_get_within, slice_get-get_or, some_pair_parts}
 use Rattle.nsq_outside.specs.Causes.{Rose}
 use Rattle.nsq_outside.specs.Files.{Files}
+use Rattle.nsq_outside.specs.declared.journal.End.{End}
+use Rattle.nsq_outside.specs.declared.journal.End.TheVariants.{Done, Faulted, Skip}
 use Rattle.v2_frame.specs.declared.message.Message.{Message}
 use Rattle.broker_history.specs.declared.entry.Act.{Act}
 use Rattle.broker_history.specs.declared.entry.Act.TheVariants.{TimedOut, CameDue}
+use Rattle.broker_history.specs.declared.entry.Entry.{Entry}
+use Rattle.broker_history.specs.Entries.{History}
+use Rattle.broker_history.specs.Before.{is_moved_at, is_stuck_at}
 use Rattle.broker_history.specs.State.{Channel, State}
 use Rattle.broker_history.specs.Channels.{Room as Space, Moves, TimesOut, ComesDue}
 use Rattle.broker_history.specs.Changes.{AtChannel}
-use Rattle.broker_history.specs.Step.{room_of, DoesMove, IsMoveDue}
+use Rattle.broker_history.specs.Step.{room_of, DoesAct, DoesMove, IsMoveDue, IsAllowedAct, IsDaemons}
 use Rattle.channel_copies.specs.Clients.{client_of}
 use Rattle.channel_core.specs.Answers.{TellsDue}
 use Rattle.channel_core.specs.Moves.{due_in, MoveFails}
@@ -38,9 +44,10 @@ use Rattle.floor_rooms.proofs.Sounding.{at_all}
 use Rattle.floor_moves.specs.declared.due.Place.{Place}
 use Rattle.floor_moves.specs.declared.moving.Due.{Due}
 use Rattle.floor_moves.specs.Due.{HasStall, HasStallAt}
-use Rattle.floor_moves.specs.Moves.{Keeps, OnlyQueueFiles}
+use Rattle.floor_moves.specs.Moves.{Keeps, OnlyQueueFiles, Notes, sight}
 use Rattle.floor_moves.specs.Moving.{act_of, is_done, IsFirstDue, IsDueAt, MovesStall, PutsDue, PutFails}
 use Rattle.floor_moves.proofs.Keeping.{keeps_from, rest_of, only_of_channel}
+use Rattle.floor_moves.proofs.Noting.{Noted, entry_of, noted_done, noted_fault, daemon, steps_to, rose_none, rose_one}
 
 some_same : {X : Type 0} (x y : X) → Some x ≡ Some y → x ≡ y
 some_same x y e = cc
@@ -237,3 +244,57 @@ put_fails before after (moved.TimedOut id) h = tt
 put_fails before after (moved.CameDue id) h = tt
 put_fails before after (moved.Fault id) h = h
 put_fails before after moved.Nothing h = tt
+
+-- what is noted of it
+moved_by : (at : ℕ) (flies : Bool) (topic channel id : List ℕ) (conn : ℕ) (end : End) → is_moved_at at (record { conn = conn; at = at; act = act_with flies topic channel id }, end) ≡ true
+moved_by at true topic channel id conn end = eq-eqb at at refl
+moved_by at false topic channel id conn end = eq-eqb at at refl
+
+stuck_by : (at : ℕ) (flies : Bool) (topic channel id : List ℕ) (conn : ℕ) → is_stuck_at at (record { conn = conn; at = at; act = act_with flies topic channel id }, Faulted 0) ≡ true
+stuck_by at true topic channel id conn = eq-eqb at at refl
+stuck_by at false topic channel id conn = eq-eqb at at refl
+
+does_by : (s t : State) (at : ℕ) (flies : Bool) (topic channel id : List ℕ) → DoesMove s at (act_with flies topic channel id) t → DoesAct s at 0 (act_with flies topic channel id) Done t
+does_by s t at true topic channel id does = does
+does_by s t at false topic channel id does = does
+
+does_none : (s : State) (at : ℕ) (flies : Bool) (topic channel id : List ℕ) → DoesAct s at 0 (act_with flies topic channel id) (Faulted 0) s
+does_none s at true topic channel id = refl
+does_none s at false topic channel id = refl
+
+may_by : (s : State) (at : ℕ) (flies : Bool) (topic channel id : List ℕ) → IsDaemons s 0 → IsAllowedAct s at 0 (act_with flies topic channel id) Done
+may_by s at true topic channel id daemons = daemons
+may_by s at false topic channel id daemons = daemons
+
+may_fault : (s : State) (at : ℕ) (flies : Bool) (topic channel id : List ℕ) → IsDaemons s 0 → IsMoveDue s at (act_with flies topic channel id) → IsAllowedAct s at 0 (act_with flies topic channel id) (Faulted 0)
+may_fault s at true topic channel id daemons due = (daemons, refl, due)
+may_fault s at false topic channel id daemons due = (daemons, refl, due)
+
+module _ (tells_notes tells_files : Bool) (h h' : Hall) (old new : Files) (before after : ℕ) (first mid last : History) (kept : Option Entry) (due : Due) (sound : IsSound h) (running : h.stopped ≡ false) (keeps : Keeps h h') (rises : before ≤ after) where
+  pub due_done : Noted tells_notes first mid last kept (entry_of h (act_of due)) Done → (IsTrue tells_files → PutsDue h.moment (act_of due) h old h' new true) → Notes tells_notes tells_files (λ e. is_moved_at h.moment e ≡ true) (sight h first old before) (sight h' last new after)
+  due_done noted puts = record {
+    entry = (entry_of h (act_of due), Done);
+    is = moved_by h.moment due.flies due.topic due.channel due.id 0 Done;
+    noted = noted_done tells_notes first mid last kept (entry_of h (act_of due)) noted;
+    step = λ told s holds.
+        let r = puts told s holds in
+        steps_to h h' old new s r.0 (act_of due) Done sound keeps holds (may_by s h.moment due.flies due.topic due.channel due.id (daemon h old s running holds)) (does_by s r.0 h.moment due.flies due.topic due.channel due.id r.1) r.2;
+    rose = λ told. rose_none before after rises;
+    faults = rises;
+  }
+
+  pub due_stuck : Noted tells_notes first mid last kept (entry_of h (act_of due)) (Faulted 0) → (IsTrue tells_files → PutsDue h.moment (act_of due) h old h' new false) → Rose before after
+      → Notes tells_notes tells_files (λ e. is_stuck_at h.moment e ≡ true) (sight h first old before) (sight h' last new after) × (IsTrue tells_files → Rose before after)
+  due_stuck noted puts rose = (
+    record {
+      entry = (entry_of h (act_of due), Faulted 0);
+      is = stuck_by h.moment due.flies due.topic due.channel due.id 0;
+      noted = noted_fault tells_notes first mid last kept (entry_of h (act_of due)) noted;
+      step = λ told s holds.
+          let r = puts told s holds in
+          steps_to h h' old new s s (act_of due) (Faulted 0) sound keeps holds (may_fault s h.moment due.flies due.topic due.channel due.id (daemon h old s running holds) r.0) (does_none s h.moment due.flies due.topic due.channel due.id) r.1;
+      rose = λ told. rose_one before after rose;
+      faults = rises;
+    },
+    λ told. rose,
+  )

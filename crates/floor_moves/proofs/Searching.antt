@@ -130,3 +130,17 @@ sound_quiet h quiet sound all = record {
       listed = x.listed;
       rests = x.rests;
     }
+
+-- a step of a look through channels, and through topics
+pub stalls_step : (now soonest new : ℕ) (stalls : List Stall) (j : ℕ) (s : Stall) (due : Option ℕ) → new ≡ sooner soonest due → slice_get stalls j ≡ Some s → IsNextDue (channel_with s.channel []) due → has_come due now ≡ false → now < soonest
+    → AllWithin (λ x. IsQuietUntil soonest x.channel) stalls 0 j → (now < new) × AllWithin (λ x. IsQuietUntil new x.channel) stalls 0 (j + 1)
+stalls_step now soonest new stalls j s due is there next come later all =
+    subst (λ n. (now < n) × AllWithin (λ x. IsQuietUntil n x.channel) stalls 0 (j + 1)) (sym is)
+    (after_now now soonest due later come, stalls_more soonest stalls j s due (λ d. get_or_from_slice_get stalls j s d there) next all)
+
+pub rooms_step : (now soonest later new : ℕ) (rooms : List Room) (low i : ℕ) (r : Room) (stalls : List Stall) → new ≡ min soonest later → slice_get rooms i ≡ Some r → stalls ≡ r.stalls.items → now < soonest → RoomsAreQuiet soonest rooms low i → (now < later) × AreQuiet later stalls
+    → (now < new) × RoomsAreQuiet new rooms low (i + 1)
+rooms_step now soonest later new rooms low i r stalls is there of late all found =
+    let l = found.0 in
+    subst (λ n. (now < n) × RoomsAreQuiet n rooms low (i + 1)) (sym is)
+    (omega (arith, late, l), rooms_more soonest later rooms low i r (λ d. get_or_from_slice_get rooms i r d there) (subst (AreQuiet later) of found.1) all)

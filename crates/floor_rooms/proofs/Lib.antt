@@ -8,3 +8,4 @@ pub mod Orders
 pub mod Lifting
 pub mod Quieting
 pub mod Turning
+pub mod Marked

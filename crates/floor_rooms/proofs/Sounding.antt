@@ -154,7 +154,7 @@ module _ (h h' : Hall) (r : Room) (p : PutsRoom h h' r) where
       subst (λ o. IsSome (option_and_then within o)) (sym found)
       (some_in within r (room_in h.rooms.items topic) (bytes_eq topic (topic_name r)) (λ e. p.channels channel (subst (λ n. IsSome (stall_at h.rooms.items n channel)) (exact_bytes topic (topic_name r) e) has)) has)
 
-  Members : List Client → Room → Type 0
+  abbrev Members : List Client → Room → Type 0
   Members cs x = All (AreMembers cs (topic_name x)) x.stalls.items
 
   sound_put_room_of : IsSound h'

@@ -24,12 +24,12 @@ pub record IsUnused (files : Files) : Type 0 where
   pub channels : (topic channel : List ℕ) → IsName topic → IsName channel → IsIdle (files (meta_file (queue_name topic channel)))
 
 -- a hall with no topic and no client
-pub record IsEmptyHall (options : Options) (epoch moment : ℕ) (h : Hall) : Type 0 where
-  pub options : h.options ≡ options
-  pub epoch : h.epoch ≡ epoch
-  pub began_at : h.began_at ≡ moment
+pub record IsEmptyHall (with_options : Options) (of_epoch at : ℕ) (h : Hall) : Type 0 where
+  pub options : h.options ≡ with_options
+  pub epoch : h.epoch ≡ of_epoch
+  pub began_at : h.began_at ≡ at
   pub ids_used : h.ids_used ≡ 0
-  pub moment : h.moment ≡ moment
+  pub moment : h.moment ≡ at
   pub stopped : h.stopped ≡ false
   pub stuck : h.stuck ≡ false
   pub unsaved_names : h.unsaved_names ≡ false
@@ -39,6 +39,7 @@ pub record IsEmptyHall (options : Options) (epoch moment : ℕ) (h : Hall) : Typ
 
 -- a topic as it is made: it has no channel, and its queue is saved
 pub record IsFreshRoom (topic : List ℕ) (options : Options) (r : Room) : Type 0 where
+  pub named : IsName topic
   pub queue : r.queue ≡ fresh_topic topic options
   pub since : r.since ≡ None
   pub listed : r.listed ≡ false
@@ -46,8 +47,9 @@ pub record IsFreshRoom (topic : List ℕ) (options : Options) (r : Room) : Type 
   pub stalls : r.stalls.items ≡ []
 
 -- a channel as it is made: it has no client, and its queue is saved
-pub record IsFreshStall (topic channel : List ℕ) (options : Options) (s : Stall) : Type 0 where
-  pub channel : IsFresh topic channel options s.channel
+pub record IsFreshStall (topic name : List ℕ) (options : Options) (s : Stall) : Type 0 where
+  pub named : IsName name
+  pub channel : IsFresh topic name options s.channel
   pub since : s.since ≡ None
   pub members : s.members.items ≡ []
 

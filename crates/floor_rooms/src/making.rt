@@ -24,6 +24,7 @@ impl Hall {
         ensures room { IfOk result (IsFreshRoom topic self.now.options) }
         ensures stands { IfOk result (λ r. (files : Files) → IsIdle (files (meta_file topic)) → IsRoomOf files r (new_topic topic)) }
     {
+        let _ = topic.bytes();
         Ok(Room {
             queue: TopicQueue::fresh(self.alloc, topic, &self.options)?,
             since: None,

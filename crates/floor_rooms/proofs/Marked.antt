@@ -1,0 +1,152 @@
+-- Marks and facts for speed leave a hall sound, and what it stands for.
+use Rattle.std.proofs.Common.{◌≡◌, ◌≤◌, ◌<◌, ◌^◌, ℕ, min, set, Bool, true, List, [], length, get_or, Option, Some, None, refl, sym, ap, subst, ◌∙◌, arith}
+use Rattle.std.specs.Prelude.{HoldsAt}
+use Rattle.std.specs.List.{Contains}
+use Rattle.std.proofs.lemmas.Option.{get_or_from_slice_get}
+use Rattle.nsq_outside.specs.Files.{Files}
+use Rattle.v2_frame.specs.declared.message.Message.{Message}
+use Rattle.broker_history.specs.State.{Channel, Topic, State}
+use Rattle.channel_copies.specs.Clients.{client_of}
+use Rattle.channel_core.specs.Answers.{IsNextDue}
+use Rattle.channel_core.specs.Seen.{Seen as ChannelSeen, channel_with}
+use Rattle.floor_rooms.specs.declared.stall.Stall.{Stall}
+use Rattle.floor_rooms.specs.declared.room.Room.{Room}
+use Rattle.floor_rooms.specs.declared.hall.Hall.{Hall}
+use Rattle.floor_rooms.specs.Rooms.{channel_name, topic_name, stall_in}
+use Rattle.floor_rooms.specs.Sound.{IsMarked, IsQuietUntil, IsRoomSound, IsSound, IsStallSound}
+use Rattle.floor_rooms.specs.Standing.{IsRoomOf, IsStallOf, HoldsFor}
+use Rattle.floor_rooms.specs.Changes.{AtRoom, AtStall, InRoom, marked}
+use Rattle.floor_rooms.proofs.Placing.{at_place}
+use Rattle.floor_rooms.proofs.Sounding.{Lowers, at_all, KeepsRest, marks, members_before, members_stay, room_before, room_lowered, sound_at_room, sound_at_stall, stall_before}
+use Rattle.floor_rooms.proofs.Holding.{StaysElse, holds_at_room, holds_at_stall, room_alike, stall_alike}
+
+-- nothing but topics, the list of those that may have something to do, and facts for speed and for saving differs
+abbrev pub IsElse : Hall → Hall → Type 0
+IsElse h h' = h' ≡ record h { rooms = h'.rooms; pending = h'.pending; unsaved_names = h'.unsaved_names; quiet_until = h'.quiet_until; unsaved_from = h'.unsaved_from }
+
+pub else_stays : (h h' : Hall) → IsElse h h' → StaysElse h h'
+else_stays h h' is =
+    let moment : h'.moment ≡ h.moment = ap (λ (x : Hall). x.moment) is in
+    record {
+      options = ap (λ (x : Hall). x.options) is;
+      epoch = ap (λ (x : Hall). x.epoch) is;
+      ids_used = ap (λ (x : Hall). x.ids_used) is;
+      moment = omega (arith, moment);
+      stopped = ap (λ (x : Hall). x.stopped) is;
+      clients = ap (λ (x : Hall). x.clients.items) is;
+    }
+
+pub else_keeps : (h h' : Hall) → IsSound h → IsElse h h' → h'.quiet_until ≤ h.quiet_until → h'.unsaved_from ≤ h.unsaved_from → ((name : List ℕ) → Contains h.pending.items name → Contains h'.pending.items name) → KeepsRest h h'
+else_keeps h h' sound is quiet unsaved pending =
+    let moment : h'.moment ≡ h.moment = ap (λ (x : Hall). x.moment) is in
+    let early = sound.moment in
+    record {
+      lowers = record { options = ap (λ (x : Hall). x.options) is; quiet = quiet; unsaved = unsaved; pending = pending };
+      epoch = ap (λ (x : Hall). x.epoch) is;
+      ids_used = ap (λ (x : Hall). x.ids_used) is;
+      moment = omega (arith, moment, early);
+      clients = ap (λ (x : Hall). x.clients.items) is;
+    }
+
+-- the room at a place that was read there
+pub at_room_read : (i : ℕ) (Does : Room → Room → Type 0) (rooms : List Room) (room after : Room) → i < length rooms → room ≡ get_or rooms i room → Does room after → AtRoom i Does rooms (set rooms i after)
+at_room_read i Does rooms room after l e does = record { room = room; after = after; there = at_place rooms i room l e; is = refl; does = does }
+
+-- what is so of each that is read there is so of this one
+pub range_of : (j : ℕ) (rooms : List Room) (i : ℕ) (room : Room) → room ≡ get_or rooms i room → HoldsAt (λ (r : Room). j < length r.stalls.items) rooms i → j < length room.stalls.items
+range_of j rooms i room e all = subst (λ (r : Room). j < length r.stalls.items) (sym e) (all room)
+
+pub in_room_read : (j : ℕ) (Does : Stall → Stall → Type 0) (room after : Room) (stall to : Stall) → j < length room.stalls.items → stall ≡ get_or room.stalls.items j stall → after ≡ record room { stalls = after.stalls } → after.stalls.items ≡ set room.stalls.items j to → Does stall to → InRoom j Does room after
+in_room_read j Does room after stall to l e is stalls does = record { stall = stall; after = to; there = at_place room.stalls.items j stall l e; is = is; stalls = stalls; does = does }
+
+-- a mark of a room
+room_marked : (h h' : Hall) (r : Room) (at : ℕ) → Lowers h h' → h'.unsaved_from ≡ min h.unsaved_from at → IsRoomSound h r → IsRoomSound h' (record r { since = marked r.since at })
+room_marked h h' r at low unsaved old =
+    let x : IsRoomSound h' r = room_lowered h h' r low old in
+    record {
+      named = x.named;
+      settled = x.settled;
+      backlog = x.backlog;
+      capacity = x.capacity;
+      names = x.names;
+      order = x.order;
+      stalls = x.stalls;
+      owed = x.owed;
+      marked = subst (λ u. IsMarked u (marked r.since at) r.queue.backlog.queue) (sym unsaved) (marks h.unsaved_from at r.since r.queue.backlog.queue old.marked);
+      listed = x.listed;
+      rests = x.rests;
+    }
+
+abbrev pub MarksRoom : (at : ℕ) → Room → Room → Type 0
+MarksRoom at a b = b ≡ record a { since = marked a.since at }
+
+abbrev pub MarksStall : (at : ℕ) → Stall → Stall → Type 0
+MarksStall at a b = b ≡ record a { since = marked a.since at }
+
+marks_keep : (h h' : Hall) → IsSound h → IsElse h h' → h'.quiet_until ≡ h.quiet_until → h'.pending.items ≡ h.pending.items → h'.unsaved_from ≡ min h.unsaved_from h.moment → KeepsRest h h'
+marks_keep h h' sound is quiet pending unsaved =
+    else_keeps h h' sound is (omega (arith, quiet)) (omega (arith, unsaved)) (λ name has. subst (λ (names : List (List ℕ)). Contains names name) (sym pending) has)
+
+pub marked_room_sound : (h h' : Hall) (i : ℕ) → IsSound h → IsElse h h' → h'.quiet_until ≡ h.quiet_until → h'.pending.items ≡ h.pending.items → h'.unsaved_from ≡ min h.unsaved_from h.moment
+    → AtRoom i (MarksRoom h.moment) h.rooms.items h'.rooms.items → IsSound h'
+marked_room_sound h h' i sound is quiet pending unsaved at =
+    let keeps : KeepsRest h h' = marks_keep h h' sound is quiet pending unsaved in
+    sound_at_room h h' i (MarksRoom h.moment) sound keeps at (ap topic_name at.does) (ap (λ (r : Room). r.stalls.items) at.does)
+    (subst (IsRoomSound h') (sym at.does)
+    (room_marked h h' at.room h.moment keeps.lowers unsaved (at_all (IsRoomSound h) h.rooms.items i at.room sound.rooms at.there)))
+
+pub marked_room_stands : (h h' : Hall) (files : Files) (s : State) (i : ℕ) → IsElse h h' → AtRoom i (MarksRoom h.moment) h.rooms.items h'.rooms.items → HoldsFor h files s → HoldsFor h' files s
+marked_room_stands h h' files s i is at holds =
+    holds_at_room h h' files s i (MarksRoom h.moment) (else_stays h h' is) at (ap topic_name at.does)
+    (λ t of. room_alike files at.room at.after t (ap (λ (r : Room). r.queue) at.does) (ap (λ (r : Room). r.stalls) at.does) of)
+    (λ channel none. ap (λ (r : Room). stall_in r.stalls.items channel) (sym at.does) ∙ none) holds
+
+pub marked_stall_sound : (h h' : Hall) (i j : ℕ) → IsSound h → IsElse h h' → h'.quiet_until ≡ h.quiet_until → h'.pending.items ≡ h.pending.items → h'.unsaved_from ≡ min h.unsaved_from h.moment
+    → AtStall i j (MarksStall h.moment) h.rooms.items h'.rooms.items → IsSound h'
+marked_stall_sound h h' i j sound is quiet pending unsaved at =
+    let keeps : KeepsRest h h' = marks_keep h h' sound is quiet pending unsaved in
+    let s : Stall = at.does.stall in
+    let x : IsStallSound h.options (topic_name at.room) h.quiet_until h.unsaved_from s = stall_before h h' i j (MarksStall h.moment) sound keeps at in
+    let low = keeps.lowers.quiet in
+    let now : IsStallSound h.options (topic_name at.room) h'.quiet_until h'.unsaved_from (record s { since = marked s.since h.moment }) = record {
+      about = x.about;
+      named = x.named;
+      settled = x.settled;
+      durable = x.durable;
+      queue = x.queue;
+      calm = λ n before. x.calm n (omega (arith, before, low));
+      marked = subst (λ u. IsMarked u (marked s.since h.moment) s.channel.backlog.queue) (sym unsaved) (marks h.unsaved_from h.moment s.since s.channel.backlog.queue x.marked);
+      members = x.members;
+    } in
+    sound_at_stall h h' i j (MarksStall h.moment) sound keeps at (ap channel_name at.does.does)
+    (subst (λ o. IsStallSound o (topic_name at.room) h'.quiet_until h'.unsaved_from at.does.after) (sym keeps.lowers.options)
+    (subst (IsStallSound h.options (topic_name at.room) h'.quiet_until h'.unsaved_from) (sym at.does.does) now))
+    (members_stay h.clients.items (topic_name at.room) s at.does.after (ap channel_name at.does.does) (λ n. ap (λ (y : Stall). client_of y.channel.clients n) at.does.does) (ap (λ (y : Stall). y.members.items) at.does.does)
+    (members_before h h' i j (MarksStall h.moment) sound keeps at))
+
+pub marked_stall_stands : (h h' : Hall) (files : Files) (s : State) (i j : ℕ) → IsElse h h' → AtStall i j (MarksStall h.moment) h.rooms.items h'.rooms.items → HoldsFor h files s → HoldsFor h' files s
+marked_stall_stands h h' files s i j is at holds =
+    holds_at_stall h h' files s i j (MarksStall h.moment) (else_stays h h' is) at (ap channel_name at.does.does)
+    (λ k of. stall_alike files at.does.stall at.does.after k (ap (λ (y : Stall). y.channel) at.does.does) of) holds
+
+-- a room that is listed
+pub listed_room_stands : (h h' : Hall) (files : Files) (s : State) (i : ℕ) (Does : Room → Room → Type 0) → IsElse h h' → (at : AtRoom i Does h.rooms.items h'.rooms.items) → at.after ≡ record (at.room) { listed = true } → HoldsFor h files s → HoldsFor h' files s
+listed_room_stands h h' files s i Does is at does holds =
+    holds_at_room h h' files s i Does (else_stays h h' is) at (ap topic_name does)
+    (λ t of. room_alike files at.room at.after t (ap (λ (r : Room). r.queue) does) (ap (λ (r : Room). r.stalls) does) of)
+    (λ channel none. ap (λ (r : Room). stall_in r.stalls.items channel) (sym does) ∙ none) holds
+
+-- until when a channel is quiet
+pub quiet_some : (v : ChannelSeen) (m q q' : ℕ) → ((queued : List Message) → IsNextDue (channel_with v queued) (Some m)) → q' ≡ min q m → IsQuietUntil q' v
+quiet_some v m q q' next is = λ now before. (next []).0 now (omega (arith, is, before))
+
+pub quiet_none : (v : ChannelSeen) (q : ℕ) → ((queued : List Message) → IsNextDue (channel_with v queued) None) → IsQuietUntil q v
+quiet_none v q next = λ now before. next [] now
+
+pub quiet_at : (rooms : List Room) (i j : ℕ) (room : Room) (stall : Stall) (q : ℕ) → i < length rooms → HoldsAt (λ (r : Room). j < length r.stalls.items) rooms i → room ≡ get_or rooms i room → stall ≡ get_or room.stalls.items j stall
+    → IsQuietUntil q stall.channel → HoldsAt (λ (r : Room). HoldsAt (λ (x : Stall). IsQuietUntil q x.channel) r.stalls.items j) rooms i
+quiet_at rooms i j room stall q l all e f calm =
+    λ d x.
+    let room_is : get_or rooms i d ≡ room = get_or_from_slice_get rooms i room d (at_place rooms i room l e) in
+    let stall_is : get_or room.stalls.items j x ≡ stall = get_or_from_slice_get room.stalls.items j stall x (at_place room.stalls.items j stall (range_of j rooms i room e all) f) in
+    subst (λ (r : Room). IsQuietUntil q (get_or r.stalls.items j x).channel) (sym room_is) (subst (λ (y : Stall). IsQuietUntil q y.channel) (sym stall_is) calm)

@@ -1,0 +1,18 @@
+use Rattle.std.proofs.Common.{◌≡◌, refl, ap}
+use Rattle.floor_rooms.specs.Changes.{InRoom}
+use Rattle.floor_rooms.proofs.Marked.{MarksStall, at_room_read, in_room_read, marked_stall_sound, marked_stall_stands, range_of}
+use Rattle.floor_rooms.proofs.hall.Hall.mark_stall.Goals as goal
+
+pub returns-clause-stall : goal.returns-clause-stall
+returns-clause-stall c =
+    let room = c.index_mut.result.now in
+    let stall = c.index_mut-stall.result.now in
+    at_room_read c.args.i (InRoom c.args.j (MarksStall c.args.self.now.moment)) c.args.self.now.rooms.items room _ c.requires.room c.index_mut.ensures.value
+    (in_room_read c.args.j (MarksStall c.args.self.now.moment) room _ stall _ (range_of c.args.j c.args.self.now.rooms.items c.args.i room c.index_mut.ensures.value c.requires.stall) c.index_mut-stall.ensures.value refl refl
+    (ap (λ since. record stall { since = since }) c.marked-stall.ensures))
+
+pub returns-clause-sound : goal.returns-clause-sound
+returns-clause-sound c = marked_stall_sound c.args.self.now _ c.args.i c.args.j c.requires.sound refl refl refl c.min-self.ensures (returns-clause-stall c)
+
+pub returns-clause-stands : goal.returns-clause-stands
+returns-clause-stands c = λ files s holds. marked_stall_stands c.args.self.now _ files s c.args.i c.args.j refl (returns-clause-stall c) holds

@@ -1,0 +1,11 @@
+use Rattle.std.proofs.Common.{rules}
+use Rattle.std.proofs.lemmas.List.Sorted.{answers_always}
+use Rattle.nsq_base.proofs.PutBy.{place_found}
+use Rattle.floor_rooms.specs.Rooms.{topic_name}
+use Rattle.floor_rooms.proofs.hall.Hall.place_of.Goals as goal
+
+pub returns : goal.returns
+returns c =
+    let facts = c.binary_search_by_key.ensures in
+    let by_key = facts.position topic_name (answers_always _ _ _ (λ f a r g called. search rules)) in
+    rw (← c.deref.ensures.value) (place_found topic_name _ _ _ (rw c.deref.ensures.value c.requires.room_order) facts.bound by_key)

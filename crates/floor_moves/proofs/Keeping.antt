@@ -25,6 +25,20 @@ keeps_from h h' e = record {
   clients = ap (λ (x : Hall). x.clients) e;
 }
 
+-- a mark
+pub keeps_marked : (h h' : Hall) (unsaved : ℕ) → h' ≡ record h { rooms = h'.rooms; unsaved_from = unsaved } → Keeps h h'
+keeps_marked h h' unsaved e = record {
+  options = ap (λ (x : Hall). x.options) e;
+  epoch = ap (λ (x : Hall). x.epoch) e;
+  began_at = ap (λ (x : Hall). x.began_at) e;
+  ids_used = ap (λ (x : Hall). x.ids_used) e;
+  moment = ap (λ (x : Hall). x.moment) e;
+  stopped = ap (λ (x : Hall). x.stopped) e;
+  stuck = ap (λ (x : Hall). x.stuck) e;
+  unsaved_names = ap (λ (x : Hall). x.unsaved_names) e;
+  clients = ap (λ (x : Hall). x.clients) e;
+}
+
 pub keeps_on : (h h1 h' : Hall) → Keeps h h1 → Keeps h1 h' → Keeps h h'
 keeps_on h h1 h' a b = record {
   options = b.options ∙ a.options;

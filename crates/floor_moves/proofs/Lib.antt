@@ -1,4 +1,4 @@
 pub mod Keeping
-pub mod Noting
+pub mod Stepping
 pub mod PuttingBack
 pub mod Searching

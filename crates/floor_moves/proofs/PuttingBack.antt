@@ -1,5 +1,5 @@
 -- What is due of a channel is put back: that is the move, of each state that the hall stood for.
-use Rattle.std.proofs.Common.{◌≡◌, ◌⊎◌, inl, inr, ◌<◌, ◌≤◌, ◌==◌, ◌&&◌, ℕ, Bool, true, false, if◌then◌else◌, List, set, length, Option, Some, None, refl, sym, ap, subst, ◌∙◌, get_or-set_same, length-set}
+use Rattle.std.proofs.Common.{◌≡◌, ◌⊎◌, inl, inr, ◌<◌, ◌≤◌, ◌==◌, ◌&&◌, ℕ, Bool, true, false, if◌then◌else◌, List, set, get_or, length, Option, Some, None, refl, sym, ap, subst, ◌∙◌, get_or-set_same, length-set}
 use Rattle.std.specs.Prelude.{IsTrue, IsSome, slice_get}
 use Rattle.std.specs.List.{All, HoldsAt}
 use Rattle.std.proofs.lemmas.Bool.{eq-eqb}
@@ -44,10 +44,10 @@ use Rattle.floor_rooms.proofs.Sounding.{at_all}
 use Rattle.floor_moves.specs.declared.due.Place.{Place}
 use Rattle.floor_moves.specs.declared.moving.Due.{Due}
 use Rattle.floor_moves.specs.Due.{HasStall, HasStallAt}
-use Rattle.floor_moves.specs.Moves.{Keeps, OnlyQueueFiles, Notes, sight}
+use Rattle.floor_moves.specs.Moves.{Keeps, OnlyQueueFiles, Notes, entry_at, sight}
 use Rattle.floor_moves.specs.Moving.{act_of, is_done, IsFirstDue, IsDueAt, MovesStall, PutsDue, PutFails}
 use Rattle.floor_moves.proofs.Keeping.{keeps_from, rest_of, only_of_channel}
-use Rattle.floor_moves.proofs.Noting.{Noted, entry_of, noted_done, noted_fault, daemon, steps_to, rose_none, rose_one}
+use Rattle.floor_moves.proofs.Stepping.{Noted, noted_done, noted_fault, daemon, steps_to, rose_none, rose_one}
 
 some_same : {X : Type 0} (x y : X) → Some x ≡ Some y → x ≡ y
 some_same x y e = cc
@@ -106,6 +106,19 @@ due_marked h0 h1 place due mark same is =
         };
       };
       topic = is.topic ∙ ap topic_name (some_same is.at.room mark.room (sym is.at.there ∙ mark.there)) ∙ ap (λ (r : Room). r.queue.name) (sym mark.does.is);
+    }
+
+-- what is due of the channel at a place
+pub due_found : (h : Hall) (place : Place) (due : Due) (P : Stall → Type 0) (room : Room) (stall : Stall) → HasStallAt place.room place.stall P h.rooms.items → room ≡ get_or h.rooms.items place.room room → stall ≡ get_or room.stalls.items place.stall stall
+    → due.topic ≡ topic_name room → due.channel ≡ channel_name stall → due_in h.moment stall.channel ≡ Some (due.id, due.flies) → IsDueAt h place due
+due_found h place due P room stall has r s topic channel first =
+    let same_room : room ≡ has.room = r ∙ get_or_from_slice_get h.rooms.items place.room has.room room has.there in
+    let at_room : slice_get h.rooms.items place.room ≡ Some room = has.there ∙ ap Some (sym same_room) in
+    let in_room = room_here place.room place.stall P h.rooms.items room has at_room in
+    let same_stall : stall ≡ in_room.stall = s ∙ get_or_from_slice_get room.stalls.items place.stall in_room.stall stall in_room.there in
+    record {
+      at = record { room = room; there = at_room; has = record { stall = stall; there = in_room.there ∙ ap Some (sym same_stall); is = record { named = channel; first = first } } };
+      topic = topic;
     }
 
 abbrev act_with : Bool → (topic channel id : List ℕ) → Act
@@ -271,11 +284,11 @@ may_fault s at true topic channel id daemons due = (daemons, refl, due)
 may_fault s at false topic channel id daemons due = (daemons, refl, due)
 
 module _ (tells_notes tells_files : Bool) (h h' : Hall) (old new : Files) (before after : ℕ) (first mid last : History) (kept : Option Entry) (due : Due) (sound : IsSound h) (running : h.stopped ≡ false) (keeps : Keeps h h') (rises : before ≤ after) where
-  pub due_done : Noted tells_notes first mid last kept (entry_of h (act_of due)) Done → (IsTrue tells_files → PutsDue h.moment (act_of due) h old h' new true) → Notes tells_notes tells_files (λ e. is_moved_at h.moment e ≡ true) (sight h first old before) (sight h' last new after)
+  pub due_done : Noted tells_notes first mid last kept (entry_at h.moment (act_of due)) Done → (IsTrue tells_files → PutsDue h.moment (act_of due) h old h' new true) → Notes tells_notes tells_files (λ e. is_moved_at h.moment e ≡ true) (sight h first old before) (sight h' last new after)
   due_done noted puts = record {
-    entry = (entry_of h (act_of due), Done);
+    entry = (entry_at h.moment (act_of due), Done);
     is = moved_by h.moment due.flies due.topic due.channel due.id 0 Done;
-    noted = noted_done tells_notes first mid last kept (entry_of h (act_of due)) noted;
+    noted = noted_done tells_notes first mid last kept (entry_at h.moment (act_of due)) noted;
     step = λ told s holds.
         let r = puts told s holds in
         steps_to h h' old new s r.0 (act_of due) Done sound keeps holds (may_by s h.moment due.flies due.topic due.channel due.id (daemon h old s running holds)) (does_by s r.0 h.moment due.flies due.topic due.channel due.id r.1) r.2;
@@ -283,13 +296,13 @@ module _ (tells_notes tells_files : Bool) (h h' : Hall) (old new : Files) (befor
     faults = rises;
   }
 
-  pub due_stuck : Noted tells_notes first mid last kept (entry_of h (act_of due)) (Faulted 0) → (IsTrue tells_files → PutsDue h.moment (act_of due) h old h' new false) → Rose before after
+  pub due_stuck : Noted tells_notes first mid last kept (entry_at h.moment (act_of due)) (Faulted 0) → (IsTrue tells_files → PutsDue h.moment (act_of due) h old h' new false) → Rose before after
       → Notes tells_notes tells_files (λ e. is_stuck_at h.moment e ≡ true) (sight h first old before) (sight h' last new after) × (IsTrue tells_files → Rose before after)
   due_stuck noted puts rose = (
     record {
-      entry = (entry_of h (act_of due), Faulted 0);
+      entry = (entry_at h.moment (act_of due), Faulted 0);
       is = stuck_by h.moment due.flies due.topic due.channel due.id 0;
-      noted = noted_fault tells_notes first mid last kept (entry_of h (act_of due)) noted;
+      noted = noted_fault tells_notes first mid last kept (entry_at h.moment (act_of due)) noted;
       step = λ told s holds.
           let r = puts told s holds in
           steps_to h h' old new s s (act_of due) (Faulted 0) sound keeps holds (may_fault s h.moment due.flies due.topic due.channel due.id (daemon h old s running holds) r.0) (does_none s h.moment due.flies due.topic due.channel due.id) r.1;

@@ -4,6 +4,7 @@ use Rattle.nsq_outside.specs.Causes.{Rose}
 use Rattle.nsq_outside.specs.Files.{Files}
 use Rattle.nsq_outside.specs.declared.journal.End.{End}
 use Rattle.queue_image.specs.FileNames.{IsOwnFile, IsQueueName}
+use Rattle.broker_history.specs.declared.entry.Act.{Act}
 use Rattle.broker_history.specs.declared.entry.Entry.{Entry}
 use Rattle.broker_history.specs.State.{State}
 use Rattle.broker_history.specs.Entries.{History, faults_of, is_held}
@@ -25,6 +26,10 @@ pub record Sight : Type 0 where
 
 abbrev pub sight : Hall → History → Files → ℕ → Sight
 sight hall noted files faults = record { hall = hall; noted = noted; files = files; faults = faults }
+
+-- the daemon's entry of an act at a moment
+abbrev pub entry_at : (at : ℕ) → Act → Entry
+entry_at at act = record { conn = 0; at = at; act = act }
 
 -- the count rose by so much, or stands at the end of its type
 abbrev pub RoseBy : (n before now : ℕ) → Type 0

@@ -6,6 +6,7 @@
 mod due;
 mod made;
 mod moving;
+mod noting;
 
 pub use due::{Place, find_due};
 pub use made::Made;

@@ -1,10 +1,12 @@
 ghost use Rattle.std.specs.Prelude.{◌≡◌, ◌<◌, ◌≤◌, HoldsAt, IsTrue, false, length};
 ghost use Rattle.floor_rooms.specs.Changes.{AtStall};
 ghost use Rattle.floor_rooms.specs.Sound.{IsSound};
+ghost use Rattle.floor_moves.specs.declared.moving.Due.{Due as DueCopy};
 ghost use Rattle.floor_moves.specs.Due.{HasStallAt, IsDueNow};
 ghost use Rattle.floor_moves.specs.Moves.{sight, Keeps, Moves, OnlyQueueFiles};
 ghost use Rattle.floor_moves.specs.Moving.{act_of, is_done, IsDueAt, MovesStall, PutFails, PutsDue};
 
+use crate::noting::announce;
 use crate::{Made, Place};
 use broker_history::{Act, Entry};
 use channel_core::Moved;
@@ -48,15 +50,10 @@ pub fn move_due<F: Folder, J: Journal<Entry>, L: Ledger>(
     ensures files { IsTrue F.tells_files → OnlyQueueFiles (F.files folder.old) (F.files folder.new) }
 {
     let due = due_at(hall, place);
-    let entry = Entry {
-        conn: 0,
-        at: hall.moment,
-        act: act_of(due),
-    };
-    let Ok(()) = journal.ready(&entry) else {
+    let Ok(()) = announce(journal, hall.moment, act_of(due)) else {
         return Made::Memory;
     };
-    if put_due(hall, place, due, folder, scratch, steps) {
+    if put_due(hall, place, folder, scratch, steps) {
         journal.note(End::Done);
         return Made::Done;
     }
@@ -71,14 +68,14 @@ fn due_at(hall: &Hall, place: Place) -> Due
 {
     let room = &hall.rooms[place.room];
     let channel = &room.stalls[place.stall].channel;
-    let Some((id, flies)) = channel.due(hall.moment) else {
+    let Some(first) = channel.due(hall.moment) else {
         unreachable!()
     };
     Due {
         topic: room.queue.name(),
         channel: channel.name(),
-        id,
-        flies,
+        id: first.0,
+        flies: first.1,
     }
 }
 
@@ -96,15 +93,14 @@ fn act_of(due: Due) -> Act
 fn put_due<F: Folder, L: Ledger>(
     hall: &mut Hall,
     place: Place,
-    due: Due,
     folder: &mut F,
     scratch: &mut [u8],
     steps: &mut Steps<L>,
 ) -> bool
     requires sound { IsSound hall.old }
-    requires due { IsDueAt hall.old place due }
+    requires due { HasStallAt place.room place.stall (IsDueNow hall.old.moment) hall.old.rooms.items }
     requires scratch { 16777242 ≤ length scratch.old }
-    ensures puts { IsTrue F.tells_files → PutsDue hall.old.moment (act_of due) hall.old (F.files folder.old) hall.new (F.files folder.new) result }
+    ensures puts { (due : DueCopy) → IsDueAt hall.old place due → IsTrue F.tells_files → PutsDue hall.old.moment (act_of due) hall.old (F.files folder.old) hall.new (F.files folder.new) result }
     ensures sound { IsSound hall.new }
     ensures keeps { Keeps hall.old hall.new }
     ensures files { IsTrue F.tells_files → OnlyQueueFiles (F.files folder.old) (F.files folder.new) }

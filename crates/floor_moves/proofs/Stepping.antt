@@ -18,11 +18,7 @@ use Rattle.floor_rooms.specs.declared.hall.Hall.{Hall}
 use Rattle.floor_rooms.specs.Sound.{IsSound}
 use Rattle.floor_rooms.specs.Standing.{Carries, HoldsFor}
 use Rattle.floor_rooms.proofs.Orders.{holds_at}
-use Rattle.floor_moves.specs.Moves.{Sight, sight, Notes, Rests, Moves, RoseBy, Keeps}
-
--- the daemon's entry at a hall's moment
-abbrev pub entry_of : Hall → Act → Entry
-entry_of h act = record { conn = 0; at = h.moment; act = act }
+use Rattle.floor_moves.specs.Moves.{Sight, sight, Notes, Rests, Moves, RoseBy, Keeps, entry_at}
 
 -- what was aside is noted
 abbrev pub Noted : (tells : Bool) (old mid new : History) (kept : Option Entry) (entry : Entry) (end : End) → Type 0
@@ -43,7 +39,7 @@ daemon h files s running holds = record { daemon = refl; running = holds.stopped
 
 -- a state that the hall stands for, with what an act makes of it, steps there at the hall's moment
 pub steps_to : (h h' : Hall) (old new : Files) (s t : State) (act : Act) (end : End) → IsSound h → Keeps h h' → HoldsFor h old s → IsAllowedAct s h.moment 0 act end → DoesAct s h.moment 0 act end t → HoldsFor h' new t
-    → (u : State) × Step s (entry_of h act, end) u × HoldsFor h' new u
+    → (u : State) × Step s (entry_at h.moment act, end) u × HoldsFor h' new u
 steps_to h h' old new s t act end sound keeps holds allowed does after =
     let same = keeps.moment in (
       at_moment t h.moment,

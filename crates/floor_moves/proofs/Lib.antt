@@ -2,3 +2,5 @@ pub mod Keeping
 pub mod Stepping
 pub mod PuttingBack
 pub mod Searching
+pub mod Joining
+pub mod HoldingBack

@@ -49,7 +49,7 @@ use Rattle.floor_moves.specs.Moving.{act_of, is_done, IsFirstDue, IsDueAt, Moves
 use Rattle.floor_moves.proofs.Keeping.{keeps_from, rest_of, only_of_channel}
 use Rattle.floor_moves.proofs.Stepping.{Noted, noted_done, noted_fault, daemon, steps_to, rose_none, rose_one}
 
-some_same : {X : Type 0} (x y : X) → Some x ≡ Some y → x ≡ y
+pub some_same : {X : Type 0} (x y : X) → Some x ≡ Some y → x ≡ y
 some_same x y e = cc
 
 -- what was put at a place stands there

@@ -1,3 +1,4 @@
 pub mod Moves
 pub mod Due
 pub mod Moving
+pub mod Holding

@@ -4,10 +4,12 @@
 #![tactic(auto)]
 
 mod due;
+mod held;
 mod made;
 mod moving;
 mod noting;
 
 pub use due::{Place, find_due};
+pub use held::hold_back;
 pub use made::Made;
 pub use moving::move_due;

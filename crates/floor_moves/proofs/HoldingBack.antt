@@ -1,6 +1,7 @@
 -- A copy that came up while its id was in flight is held back: that is the move, of each state that the hall stood for.
-use Rattle.std.proofs.Common.{◌≡◌, ◌⊎◌, inl, inr, ◌≤◌, ◌+◌, ℕ, Bool, true, false, List, Option, Some, None, refl, sym, ap, subst, ◌∙◌, arith}
+use Rattle.std.proofs.Common.{◌≡◌, ◌⊎◌, inl, inr, ◌≤◌, ◌+◌, ℕ, Bool, true, false, List, get_or, Option, Some, None, refl, sym, ap, subst, ◌∙◌, arith}
 use Rattle.std.specs.Prelude.{IsTrue, IsSome, IfSome, slice_get}
+use Rattle.std.proofs.lemmas.Option.{get_or_from_slice_get}
 use Rattle.nsq_base.specs.declared.options.Options.{Options}
 use Rattle.nsq_outside.specs.Files.{Files}
 use Rattle.nsq_outside.specs.declared.journal.End.{End}
@@ -36,12 +37,23 @@ use Rattle.floor_rooms.proofs.Lifting.{holds_back_lifts}
 use Rattle.floor_rooms.proofs.Sounding.{at_all}
 use Rattle.floor_rooms.proofs.Turning.{stall_change}
 use Rattle.floor_moves.specs.declared.due.Place.{Place}
+use Rattle.floor_moves.specs.Due.{HasStallAt}
 use Rattle.floor_moves.specs.Moves.{Keeps, Notes, Rests, entry_at, sight}
 use Rattle.floor_moves.specs.Holding.{HasHeld, DrawsHeld, IsDrawnFrom, SettlesHeld, UndoesHeld, IsHeldAt, IsActOf}
 use Rattle.floor_moves.proofs.Keeping.{keeps_marked, keeps_on, rest_of}
-use Rattle.floor_moves.proofs.PuttingBack.{some_same, stands_now}
+use Rattle.floor_moves.proofs.PuttingBack.{room_here, some_same, stands_now}
 use Rattle.floor_moves.proofs.Joining.{Both, join, same_room, same_stall, others_on, named_on}
 use Rattle.floor_moves.proofs.Stepping.{Noted, noted_done, daemon, steps_to, rose_none}
+
+-- the names of the channel that stands at a place
+pub act_found : (place : Place) (id : List ℕ) (rooms : List Room) (act : Act) (P : Stall → Type 0) (room : Room) (stall : Stall) → HasStallAt place.room place.stall P rooms → room ≡ get_or rooms place.room room → stall ≡ get_or room.stalls.items place.stall stall
+    → act ≡ HeldBack (topic_name room) (channel_name stall) id → IsActOf place id rooms act
+act_found place id rooms act P room stall has r s is =
+    let same_room : room ≡ has.room = r ∙ get_or_from_slice_get rooms place.room has.room room has.there in
+    let at_room : slice_get rooms place.room ≡ Some room = has.there ∙ ap Some (sym same_room) in
+    let in_room = room_here place.room place.stall P rooms room has at_room in
+    let same_stall : stall ≡ in_room.stall = s ∙ get_or_from_slice_get room.stalls.items place.stall in_room.stall stall in_room.there in
+    record { room = room; stall = stall; there = at_room; has = in_room.there ∙ ap Some (sym same_stall); is = is }
 
 -- at one moment
 one_moment : (d : Drawn) (m m' : Message) (n n' : ℕ) → d ≡ ToHold m n → d ≡ ToHold m' n' → n ≡ n'

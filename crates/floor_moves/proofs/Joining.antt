@@ -64,3 +64,12 @@ stall_range i j P rooms has d = subst (λ (r : Room). j < length r.stalls.items)
 pub stall_holds : (i j : ℕ) (P : Stall → Type 0) (rooms : List Room) → HasStallAt i j P rooms → HoldsAt (λ (r : Room). HoldsAt P r.stalls.items j) rooms i
 stall_holds i j P rooms has d =
     subst (λ (r : Room). HoldsAt P r.stalls.items j) (sym (get_or_from_slice_get rooms i has.room d has.there)) (λ e. subst P (sym (get_or_from_slice_get has.room.stalls.items j has.has.stall e has.has.there)) has.has.is)
+
+-- so it is of the place where a channel changed
+pub room_range_now : (i j : ℕ) (Does : Stall → Stall → Type 0) (r0 r1 : List Room) → AtStall i j Does r0 r1 → i < length r1
+room_range_now i j Does r0 r1 x = slice_get_within r1 i x.after (ap (λ xs. slice_get xs i) x.is ∙ stands_now r0 i x.room x.after x.there)
+
+pub stall_range_now : (i j : ℕ) (Does : Stall → Stall → Type 0) (r0 r1 : List Room) → AtStall i j Does r0 r1 → HoldsAt (λ (r : Room). j < length r.stalls.items) r1 i
+stall_range_now i j Does r0 r1 x d =
+    subst (λ (r : Room). j < length r.stalls.items) (sym (get_or_from_slice_get r1 i x.after d (ap (λ xs. slice_get xs i) x.is ∙ stands_now r0 i x.room x.after x.there)))
+    (slice_get_within x.after.stalls.items j x.does.after (ap (λ xs. slice_get xs j) x.does.stalls ∙ stands_now x.room.stalls.items j x.does.stall x.does.after x.does.there))

@@ -78,3 +78,17 @@ only_of_channel topic channel queue old new nt nc is change = only_of (queue_nam
 
 pub only_same : (old new : Files) → ((file : List ℕ) → new file ≡ old file) → OnlyQueueFiles old new
 only_same old new same = λ file other. same file
+
+-- another moment until which all is quiet
+pub keeps_quiet : (h h' : Hall) (quiet : ℕ) → h' ≡ record h { quiet_until = quiet } → Keeps h h'
+keeps_quiet h h' quiet e = record {
+  options = ap (λ (x : Hall). x.options) e;
+  epoch = ap (λ (x : Hall). x.epoch) e;
+  began_at = ap (λ (x : Hall). x.began_at) e;
+  ids_used = ap (λ (x : Hall). x.ids_used) e;
+  moment = ap (λ (x : Hall). x.moment) e;
+  stopped = ap (λ (x : Hall). x.stopped) e;
+  stuck = ap (λ (x : Hall). x.stuck) e;
+  unsaved_names = ap (λ (x : Hall). x.unsaved_names) e;
+  clients = ap (λ (x : Hall). x.clients) e;
+}

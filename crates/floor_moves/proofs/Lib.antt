@@ -4,3 +4,4 @@ pub mod PuttingBack
 pub mod Searching
 pub mod Joining
 pub mod HoldingBack
+pub mod Unlisting

@@ -2,3 +2,4 @@ pub mod Moves
 pub mod Due
 pub mod Moving
 pub mod Holding
+pub mod Pending

@@ -8,8 +8,10 @@ mod held;
 mod made;
 mod moving;
 mod noting;
+mod pending;
 
 pub use due::{Place, find_due};
 pub use held::hold_back;
 pub use made::Made;
 pub use moving::move_due;
+pub use pending::find_pending;

@@ -1,9 +1,9 @@
 -- Topics that rest are listed no more: the hall is as sound, and stands for the same.
 use Rattle.std.proofs.Common.{◌≡◌, ◌≢◌, ◌≤◌, ◌<◌, ◌+◌, ℕ, suc, zero, set, Bool, true, false, if◌then◌else◌, List, [], ◌∷◌, ◌++◌, length, get_or, Option, Some, None, refl, sym, ap, subst, ◌∙◌, arith}
-use Rattle.std.specs.Prelude.{IfSome, slice_get, option_to_list}
+use Rattle.std.specs.Prelude.{IfSome, slice_get}
 use Rattle.std.specs.List.{All, Contains}
 use Rattle.std.proofs.lemmas.Bool.{false≢true}
-use Rattle.std.proofs.lemmas.Option.{get_or_from_slice_get, slice_get_within, slice_get-get_or}
+use Rattle.std.proofs.lemmas.Option.{get_or_from_slice_get, slice_get_read, slice_get_within, slice_get-get_or}
 use Rattle.nsq_outside.specs.Files.{Files}
 use Rattle.broker_history.specs.State.{Topic, State}
 use Rattle.floor_rooms.specs.declared.stall.Stall.{Stall}
@@ -18,7 +18,7 @@ use Rattle.floor_rooms.proofs.Placing.{found_at, put_at}
 use Rattle.broker_history.proofs.Lists.{find_put, same_bytes}
 use Rattle.floor_rooms.proofs.Sounding.{KeepsRest, Lowers, at_all, room_lowered, sound_at_room}
 use Rattle.floor_rooms.proofs.Holding.{StaysElse, holds_at_room, holds_same, room_alike}
-use Rattle.floor_moves.specs.Pending.{IsUnlisted, IsBusyAt, Unlists}
+use Rattle.floor_moves.specs.Pending.{IsUnlisted, IsBusyAt, Leads, Unlists}
 use Rattle.floor_moves.proofs.PuttingBack.{some_same, stands_now}
 
 abbrev pub Rested : Room → Room → Type 0
@@ -145,11 +145,6 @@ with_pending h h' files s rest holds =
       clients = ap (λ (x : Hall). x.clients.items) rest;
     }) (ap (λ (x : Hall). x.rooms.items) rest) holds
 
--- what popping the front leaves
-pub popped : (old new : List (List ℕ)) (r : Option (List ℕ)) (name : List ℕ) (more : List (List ℕ)) → old ≡ option_to_list r ++ new → ((d : List ℕ) → r ≡ Some (get_or old 0 d)) → old ≡ name ∷ more → new ≡ more
-popped old new None name more e v was = let f = v name in absurd (let no : ⊥ = cc in no)
-popped old new (Some x) name more e v was = let f : x ∷ new ≡ name ∷ more = sym e ∙ was in cc
-
 -- nothing changed yet
 pub unlists_none : (h : Hall) → IsSound h → Unlists h h
 unlists_none h sound = record { sound = sound; rest = refl; stands = λ files s holds. holds }
@@ -168,3 +163,29 @@ unlists_two h h1 h2 a r2 sound stands = record {
   rest = r2 ∙ ap (λ (x : Hall). record x { rooms = h2.rooms }) a.rest ∙ ap (λ p. record h { rooms = h2.rooms; pending = p }) (sym (ap (λ (x : Hall). x.pending) r2));
   stands = λ files s holds. stands files s (a.stands files s holds);
 }
+
+-- a topic that was read at a place, as it rests, twice
+abbrev pub rested_at : (rooms : List Room) (i : ℕ) (read room : Room) → i < length rooms → read ≡ get_or rooms i read → room ≡ get_or rooms i room → rests read ≡ true → AtRoom i Rested rooms (set rooms i (record room { listed = false }))
+rested_at rooms i read room within r e idle = record {
+  room = room;
+  after = record room { listed = false };
+  there = slice_get_read rooms (length rooms) i room refl within e;
+  is = refl;
+  does = (refl, subst (λ (x : Room). rests x ≡ true) (some_same read room (sym (slice_get_read rooms (length rooms) i read refl within r) ∙ slice_get_read rooms (length rooms) i room refl within e)) idle);
+}
+
+-- the first name is of a topic that isn't listed, where it was unlisted
+pub first_unlisted : (h1 h2 : Hall) (first name : List ℕ) (more : List (List ℕ)) → Leads h1.pending.items first → h2.pending ≡ h1.pending → IsUnlisted h2 first → h2.pending.items ≡ name ∷ more → IsUnlisted h2 name
+first_unlisted h1 h2 first name more leads same unlisted was =
+    subst (IsUnlisted h2) (same_head first name leads.more more (sym leads.is ∙ ap (λ ps. ps.items) (sym same) ∙ was)) unlisted
+  where
+    same_head : (a b : List ℕ) (xs ys : List (List ℕ)) → a ∷ xs ≡ b ∷ ys → a ≡ b
+    same_head a b xs ys e = cc
+
+-- fewer names are left
+pub fewer_left : (h1 h2 h3 : Hall) (first : List ℕ) → Leads h1.pending.items first → h2.pending ≡ h1.pending → ((name : List ℕ) (more : List (List ℕ)) → h2.pending.items ≡ name ∷ more → h3.pending.items ≡ more) → length h3.pending.items < length h1.pending.items
+fewer_left h1 h2 h3 first leads same drops =
+    let left : h3.pending.items ≡ leads.more = drops first leads.more (ap (λ ps. ps.items) same ∙ leads.is) in
+    let before : length h1.pending.items ≡ length (first ∷ leads.more) = ap length leads.is in
+    let now : length h3.pending.items ≡ length leads.more = ap length left in
+    omega (arith, before, now)

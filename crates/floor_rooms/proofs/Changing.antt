@@ -26,7 +26,7 @@ use Rattle.floor_rooms.specs.declared.room.Room.{Room}
 use Rattle.floor_rooms.specs.declared.hall.Hall.{Hall}
 use Rattle.floor_rooms.specs.Rooms.{channel_name, topic_name, room_in, stall_in, stall_at, put_stall}
 use Rattle.floor_rooms.specs.Sound.{IsRoomSound, IsStallSound, IsSound}
-use Rattle.floor_rooms.specs.Standing.{IsStallOf, IsRoomOf, HoldsFor, LiftsTo}
+use Rattle.floor_rooms.specs.Standing.{IsDurableChannel, IsDurableTopic, IsStallOf, IsRoomOf, HoldsFor, LiftsTo}
 use Rattle.floor_rooms.specs.Changes.{StallChange}
 use Rattle.floor_rooms.proofs.Staying.{IsElsewhere, stall_stays, room_stays, queue_disk, other_channels, idle_stays, stall_named, room_named, topic_is_no_channel, other_topic, other_channel}
 
@@ -153,10 +153,10 @@ module _ (h h' : Hall) (old new : Files) (s : State) (topic channel : List ℕ) 
     none_before name none =
         (none_one c.after (room_in h.rooms.items name) (bytes_eq name (topic_name c.after)) (sym (find_put topic_name h.rooms.items c.after name) ∙ ap (λ xs. room_in xs name) (sym c.rooms) ∙ none)).1
 
-    idle_now : (name : List ℕ) → IsName name → room_in h'.rooms.items name ≡ None → IsIdle (new (meta_file name))
-    idle_now name named none = idle_stays old new (queue_name topic channel) name c.others (topic_is_no_channel name topic channel named) (holds.idle name named (none_before name none))
+    idle_now : (name : List ℕ) → IsDurableTopic name → room_in h'.rooms.items name ≡ None → IsIdle (new (meta_file name))
+    idle_now name named none = idle_stays old new (queue_name topic channel) name c.others (topic_is_no_channel name topic channel named.0) (holds.idle name named (none_before name none))
 
-    idle_channels_now : (t k : List ℕ) → IsName t → IsName k → stall_at h'.rooms.items t k ≡ None → IsIdle (new (meta_file (queue_name t k)))
+    idle_channels_now : (t k : List ℕ) → IsName t → IsDurableChannel t k → stall_at h'.rooms.items t k ≡ None → IsIdle (new (meta_file (queue_name t k)))
     idle_channels_now t k nt nk none =
         elim (in_one k c.after (room_in h.rooms.items t) (bytes_eq t (topic_name c.after)) (ap (option_and_then (λ (r : Room). stall_in r.stalls.items k)) (sym (find_put topic_name h.rooms.items c.after t) ∙ ap (λ xs. room_in xs t) (sym c.rooms)) ∙ none)) [
           | inl here ↦

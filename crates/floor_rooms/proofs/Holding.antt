@@ -6,7 +6,10 @@ use Rattle.std.specs.Global.{Vec}
 use Rattle.std.specs.Str.{bytes_eq}
 use Rattle.nsq_outside.specs.Files.{Files}
 use Rattle.history.specs.Found.{Pairwise}
-use Rattle.broker_history.specs.State.{Channel, Topic, State}
+use Rattle.nsq_base.specs.Names.{put_by}
+use Rattle.broker_history.specs.State.{Channel, Topic, State, with_topic}
+use Rattle.broker_history.proofs.Lists.{exact_bytes, find_put}
+use Rattle.floor_laws.proofs.Pairs.{pairs_put}
 use Rattle.broker_history.specs.Channels.{IsKept}
 use Rattle.backlog.specs.Lists.{OnDisk, Stands}
 use Rattle.topic_core.specs.Seen.{Seen as TopicSeen}
@@ -15,9 +18,10 @@ use Rattle.channel_core.specs.Seen.{Seen as ChannelSeen, seen_channel}
 use Rattle.floor_rooms.specs.declared.stall.Stall.{Stall}
 use Rattle.floor_rooms.specs.declared.room.Room.{Room}
 use Rattle.floor_rooms.specs.declared.hall.Hall.{Hall}
-use Rattle.floor_rooms.specs.Rooms.{channel_name, topic_name, room_in, stall_in, stall_at}
+use Rattle.floor_rooms.specs.Rooms.{channel_name, topic_name, room_in, stall_in, stall_at, put_room}
 use Rattle.floor_rooms.specs.Standing.{IsStallOf, IsRoomOf, HoldsFor}
 use Rattle.floor_rooms.specs.Changes.{AtRoom, AtStall, InRoom}
+use Rattle.floor_rooms.proofs.Staying.{room_named}
 
 -- one item that is still its pair's takes the place of another
 pub pairs_set : {X Y : Type 0} (R : X → Y → Type 0) (xs : List X) (ys : List Y) (i : ℕ) (x x' : X) → slice_get xs i ≡ Some x → ((y : Y) → R x y → R x' y) → Pairwise R xs ys → Pairwise R (set xs i x') ys
@@ -130,3 +134,33 @@ stall_alike files x x' k same of = record {
   is_kept = subst (λ (c : ChannelSeen). IsKept (seen_channel c of.disk) k) (sym same) of.is_kept;
   stands = subst (λ (c : ChannelSeen). Stands c.backlog.queue files) (sym same) of.stands;
 }
+
+-- what is said of what is found behind a change is said of it before
+before_one : {X : Type 0} (Q : Option X → Type 0) (x : X) (o : Option X) (b : Bool) → (b ≡ true → Q (Some x) → Q o) → Q (if b then Some x else o) → Q o
+before_one Q x o true f h = f refl h
+before_one Q x o false f h = h
+
+-- a topic that stands for one of its name is put in, and no channel is lost by that: so it is in the state
+pub holds_put_room : (h h' : Hall) (files : Files) (s : State) (r : Room) (t : Topic) → StaysElse h h' → h'.rooms.items ≡ put_room h.rooms.items r → IsRoomOf files r t
+    → ((channel : List ℕ) → stall_in r.stalls.items channel ≡ None → stall_at h.rooms.items (topic_name r) channel ≡ None) → HoldsFor h files s → HoldsFor h' files (with_topic s t)
+holds_put_room h h' files s r t e rooms of stalls holds =
+    let earlier = holds.moment in
+    let later = e.moment in
+    let found : (name : List ℕ) → room_in h'.rooms.items name ≡ (if bytes_eq name (topic_name r) then Some r else room_in h.rooms.items name) = λ name. ap (λ xs. room_in xs name) rooms ∙ find_put topic_name h.rooms.items r name in
+    record {
+      options = holds.options ∙ sym e.options;
+      epoch = holds.epoch ∙ sym e.epoch;
+      ids_used = holds.ids_used ∙ sym e.ids_used;
+      moment = omega (arith, earlier, later);
+      stopped = holds.stopped ∙ sym e.stopped;
+      clients = holds.clients ∙ sym e.clients;
+      topics = subst (λ xs. Pairwise (IsRoomOf files) xs (put_by (λ (u : Topic). u.name) s.topics t)) (sym rooms)
+          (pairs_put topic_name (λ (u : Topic). u.name) (IsRoomOf files) (IsRoomOf files) r t h.rooms.items s.topics (λ a b x. room_named files a b x) (λ a b apart x. x) (room_named files r t of) of holds.topics);
+      idle = λ name named none.
+          holds.idle name named (before_one (λ (o : Option Room). o ≡ None) r (room_in h.rooms.items name) (bytes_eq name (topic_name r)) (λ same some. none_some r some) (sym (found name) ∙ none));
+      idle_channels = λ topic channel nt nc none.
+          let within : Room → Option Stall = λ x. stall_in x.stalls.items channel in
+          holds.idle_channels topic channel nt nc
+          (before_one (λ (o : Option Room). option_and_then within o ≡ None) r (room_in h.rooms.items topic) (bytes_eq topic (topic_name r))
+          (λ same gone. subst (λ n. stall_at h.rooms.items n channel ≡ None) (sym (exact_bytes topic (topic_name r) same)) (stalls channel gone)) (ap (option_and_then within) (sym (found topic)) ∙ none));
+    }

@@ -3,9 +3,11 @@ pub mod Staying
 pub mod Changing
 pub mod Sounding
 pub mod Holding
+pub mod Marked
+pub mod Forming
+pub mod Growing
 pub mod Rooming
 pub mod Orders
 pub mod Lifting
 pub mod Quieting
 pub mod Turning
-pub mod Marked

@@ -1,5 +1,5 @@
 -- Marks and facts for speed leave a hall sound, and what it stands for.
-use Rattle.std.proofs.Common.{◌≡◌, ◌≤◌, ◌<◌, ◌^◌, ℕ, min, set, Bool, true, List, [], length, get_or, Option, Some, None, refl, sym, ap, subst, ◌∙◌, arith}
+use Rattle.std.proofs.Common.{◌≡◌, ◌≤◌, ◌<◌, ◌^◌, ℕ, min, set, Bool, true, false, if◌then◌else◌, List, [], ◌∷◌, ◌++◌, length, get_or, Option, Some, None, refl, sym, ap, subst, ◌∙◌, arith}
 use Rattle.std.specs.Prelude.{HoldsAt}
 use Rattle.std.specs.List.{Contains}
 use Rattle.std.proofs.lemmas.Option.{get_or_from_slice_get}
@@ -15,7 +15,7 @@ use Rattle.floor_rooms.specs.declared.hall.Hall.{Hall}
 use Rattle.floor_rooms.specs.Rooms.{channel_name, topic_name, stall_in}
 use Rattle.floor_rooms.specs.Sound.{IsMarked, IsQuietUntil, IsRoomSound, IsSound, IsStallSound}
 use Rattle.floor_rooms.specs.Standing.{IsRoomOf, IsStallOf, HoldsFor}
-use Rattle.floor_rooms.specs.Changes.{AtRoom, AtStall, InRoom, marked}
+use Rattle.floor_rooms.specs.Changes.{AtRoom, AtStall, InRoom, listed_with, marked}
 use Rattle.floor_rooms.proofs.Placing.{at_place}
 use Rattle.floor_rooms.proofs.Sounding.{Lowers, at_all, KeepsRest, marks, members_before, members_stay, room_before, room_lowered, sound_at_room, sound_at_stall, stall_before}
 use Rattle.floor_rooms.proofs.Holding.{StaysElse, holds_at_room, holds_at_stall, room_alike, stall_alike}
@@ -129,13 +129,6 @@ marked_stall_stands h h' files s i j is at holds =
     holds_at_stall h h' files s i j (MarksStall h.moment) (else_stays h h' is) at (ap channel_name at.does.does)
     (λ k of. stall_alike files at.does.stall at.does.after k (ap (λ (y : Stall). y.channel) at.does.does) of) holds
 
--- a room that is listed
-pub listed_room_stands : (h h' : Hall) (files : Files) (s : State) (i : ℕ) (Does : Room → Room → Type 0) → IsElse h h' → (at : AtRoom i Does h.rooms.items h'.rooms.items) → at.after ≡ record (at.room) { listed = true } → HoldsFor h files s → HoldsFor h' files s
-listed_room_stands h h' files s i Does is at does holds =
-    holds_at_room h h' files s i Does (else_stays h h' is) at (ap topic_name does)
-    (λ t of. room_alike files at.room at.after t (ap (λ (r : Room). r.queue) does) (ap (λ (r : Room). r.stalls) does) of)
-    (λ channel none. ap (λ (r : Room). stall_in r.stalls.items channel) (sym does) ∙ none) holds
-
 -- until when a channel is quiet
 pub quiet_some : (v : ChannelSeen) (m q q' : ℕ) → ((queued : List Message) → IsNextDue (channel_with v queued) (Some m)) → q' ≡ min q m → IsQuietUntil q' v
 quiet_some v m q q' next is = λ now before. (next []).0 now (omega (arith, is, before))
@@ -150,3 +143,19 @@ quiet_at rooms i j room stall q l all e f calm =
     let room_is : get_or rooms i d ≡ room = get_or_from_slice_get rooms i room d (at_place rooms i room l e) in
     let stall_is : get_or room.stalls.items j x ≡ stall = get_or_from_slice_get room.stalls.items j stall x (at_place room.stalls.items j stall (range_of j rooms i room e all) f) in
     subst (λ (r : Room). IsQuietUntil q (get_or r.stalls.items j x).channel) (sym room_is) (subst (λ (y : Stall). IsQuietUntil q y.channel) (sym stall_is) calm)
+
+-- a room that is listed, and its name among those that may have something to do
+abbrev pub ListsRoom : (pending pending' : List (List ℕ)) → Room → Room → Type 0
+ListsRoom pending pending' a b = (b ≡ record a { listed = true }) × (pending' ≡ listed_with pending a.listed (topic_name a))
+
+pub listed_already : (room : Room) (pending : List (List ℕ)) → room.listed ≡ true → ListsRoom pending pending room room
+listed_already room pending e = (ap (λ b. record room { listed = b }) e, sym (ap (λ b. if b then pending else pending ++ topic_name room ∷ []) e))
+
+pub listed_now : (room : Room) (pending pending' : List (List ℕ)) (name : List ℕ) → room.listed ≡ false → name ≡ topic_name room → pending' ≡ pending ++ name ∷ [] → ListsRoom pending pending' room (record room { listed = true })
+listed_now room pending pending' name e same is = (refl, is ∙ ap (λ n. pending ++ n ∷ []) same ∙ sym (ap (λ b. if b then pending else pending ++ topic_name room ∷ []) e))
+
+pub listed_room_stands : (h h' : Hall) (files : Files) (s : State) (i : ℕ) (pending pending' : List (List ℕ)) → IsElse h h' → AtRoom i (ListsRoom pending pending') h.rooms.items h'.rooms.items → HoldsFor h files s → HoldsFor h' files s
+listed_room_stands h h' files s i pending pending' is at holds =
+    holds_at_room h h' files s i (ListsRoom pending pending') (else_stays h h' is) at (ap topic_name at.does.0)
+    (λ t of. room_alike files at.room at.after t (ap (λ (r : Room). r.queue) at.does.0) (ap (λ (r : Room). r.stalls) at.does.0) of)
+    (λ channel none. ap (λ (r : Room). stall_in r.stalls.items channel) (sym at.does.0) ∙ none) holds

@@ -1,11 +1,12 @@
 -- What stands at a place of a list that is in byte order of its items' names.
-use Rattle.std.proofs.Common.{◌≡◌, ℕ, suc, set, ◌<◌, Bool, true, false, if◌then◌else◌, List, [], ◌∷◌, length, get_or, Option, Some, None, Result, Ok, Err, refl, sym, ap, subst, ◌∙◌, Ordering, Less, Equal, Greater}
-use Rattle.std.specs.List.{All, find, slice_get}
+use Rattle.std.proofs.Common.{arith, ◌≡◌, ◌≤◌, ℕ, suc, set, ◌<◌, Bool, true, false, if◌then◌else◌, List, [], ◌∷◌, length, get_or, Option, Some, None, Result, Ok, Err, refl, sym, ap, subst, ◌∙◌, Ordering, Less, Equal, Greater}
+use Rattle.std.specs.List.{All, find, insert, slice_get}
 use Rattle.std.specs.Ordering.{is_eq}
 use Rattle.std.specs.Str.{bytes_eq}
 use Rattle.std.specs.Cmp.Lexicographic.{texts_ties}
 use Rattle.std.proofs.lemmas.Bool.{false≢true}
 use Rattle.std.proofs.lemmas.List.{set-get_or}
+use Rattle.std.proofs.lemmas.List.Edits.{get_or-insert_at, length-insert}
 use Rattle.std.proofs.lemmas.List.Elements.{All-head, All-tail}
 use Rattle.std.proofs.lemmas.Option.{get_or_from_slice_get, slice_get_within, slice_get-get_or}
 use Rattle.nsq_base.specs.Names.{byte_order, IsAscendingBy, put_by}
@@ -66,3 +67,7 @@ module _ {X : Type 0} (key : X → List ℕ) where
   -- another of its name is put in its place
   pub put_at : (xs : List X) (i : ℕ) (x y : X) → IsAscendingBy key xs → slice_get xs i ≡ Some x → key y ≡ key x → set xs i y ≡ put_by key xs y
   put_at xs i x y up at same = sym (put_by-stands key xs y i (subst (λ n. StandsAt key xs n i) (sym same) (standing_at xs i x up at)))
+
+-- what is inserted at a place stands there
+pub inserted_at : {X : Type 0} (xs : List X) (i : ℕ) (x : X) → i ≤ length xs → slice_get (insert xs i x) i ≡ Some x
+inserted_at xs i x l = slice_get-get_or (insert xs i x) i x (omega (arith, length-insert xs i x l, l)) ∙ ap Some (get_or-insert_at xs i x x l)

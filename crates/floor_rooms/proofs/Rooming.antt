@@ -20,7 +20,7 @@ use Rattle.floor_rooms.specs.declared.room.Room.{Room}
 use Rattle.floor_rooms.specs.declared.hall.Hall.{Hall}
 use Rattle.floor_rooms.specs.Rooms.{channel_name, topic_name, room_in, stall_in, stall_at}
 use Rattle.floor_rooms.specs.Sound.{IsRoomSound, IsSound}
-use Rattle.floor_rooms.specs.Standing.{IsStallOf, IsRoomOf, HoldsFor}
+use Rattle.floor_rooms.specs.Standing.{IsDurableChannel, IsDurableTopic, IsStallOf, IsRoomOf, HoldsFor}
 use Rattle.floor_rooms.specs.RoomChanges.{RoomChange, LiftsRoom}
 use Rattle.floor_rooms.proofs.Staying.{IsElsewhere, stall_stays, room_stays, idle_stays, room_named, topic_is_no_channel}
 use Rattle.floor_rooms.proofs.Changing.{all_found, IsNamedRoom, named_room, apart_names, none_one, both_some}
@@ -90,7 +90,7 @@ module _ (h h' : Hall) (old new : Files) (s : State) (topic : List ℕ) (room to
     found_now : (name : List ℕ) → room_in h'.rooms.items name ≡ (if bytes_eq name (topic_name to) then Some to else room_in h.rooms.items name)
     found_now name = ap (λ xs. room_in xs name) c.rooms ∙ find_put topic_name h.rooms.items to name
 
-    idle_now : (name : List ℕ) → IsName name → room_in h'.rooms.items name ≡ None → IsIdle (new (meta_file name))
+    idle_now : (name : List ℕ) → IsDurableTopic name → room_in h'.rooms.items name ≡ None → IsIdle (new (meta_file name))
     idle_now name named none =
         let gone = none_one to (room_in h.rooms.items name) (bytes_eq name (topic_name to)) (sym (found_now name) ∙ none) in
         let other : name ≢ topic = λ e. false≢true (sym gone.0 ∙ ap (bytes_eq name) (c.named ∙ sym e) ∙ same_bytes name) in
@@ -99,7 +99,7 @@ module _ (h h' : Hall) (old new : Files) (s : State) (topic : List ℕ) (room to
     here_before : (name : List ℕ) → bytes_eq name (topic_name to) ≡ true → room_in h.rooms.items name ≡ Some room
     here_before name e = ap (λ n. room_in h.rooms.items n) (exact_bytes name (topic_name to) e ∙ c.named) ∙ c.there
 
-    idle_channels_now : (t k : List ℕ) → IsName t → IsName k → stall_at h'.rooms.items t k ≡ None → IsIdle (new (meta_file (queue_name t k)))
+    idle_channels_now : (t k : List ℕ) → IsName t → IsDurableChannel t k → stall_at h'.rooms.items t k ≡ None → IsIdle (new (meta_file (queue_name t k)))
     idle_channels_now t k nt nk none =
         let before = in_same k to room (room_in h.rooms.items t) (bytes_eq t (topic_name to)) c.stalls (here_before t) (ap (option_and_then (λ (r : Room). stall_in r.stalls.items k)) (sym (found_now t)) ∙ none) in
         idle_stays old new topic (queue_name t k) c.others (no_own t k named_topic) (holds.idle_channels t k nt nk before)

@@ -28,7 +28,7 @@ use Rattle.floor_rooms.specs.declared.stall.Stall.{Stall}
 use Rattle.floor_rooms.specs.declared.room.Room.{Room}
 use Rattle.floor_rooms.specs.declared.hall.Hall.{Hall}
 use Rattle.floor_rooms.specs.Rooms.{channel_name, topic_name, stall_names, room_in, stall_in, stall_at, put_room, put_stall, client_in}
-use Rattle.floor_rooms.specs.Sound.{IsQuietUntil, IsMarked, IsStallSound, IsRoomSound, IsSound, AreMembers, HasItsChannel, member_of, rests, has_none_waiting}
+use Rattle.floor_rooms.specs.Sound.{AsksForNone, IsQuietUntil, IsMarked, IsStallSound, IsRoomSound, IsSound, AreMembers, HasItsChannel, member_of, rests, has_none_waiting}
 use Rattle.floor_rooms.specs.Changes.{AtRoom, AtStall, InRoom, TouchesRoom, TouchesStall, Touches, marked}
 use Rattle.floor_rooms.proofs.Placing.{found_at, put_at}
 
@@ -173,6 +173,7 @@ module _ (h h' : Hall) (r : Room) (p : PutsRoom h h' r) where
         (All-weaker (HasItsChannel h) (HasItsChannel h')
         (λ c has. if_some_weaker (λ (route : Route). IsSome (stall_at h.rooms.items route.topic route.channel)) (λ (route : Route). IsSome (stall_at h'.rooms.items route.topic route.channel)) (held_channel c.phase c.route)
         (λ route there. still_there route.topic route.channel there) has) h.clients.items p.sound.channels);
+    ready = subst (All AsksForNone) (sym p.keeps.clients) p.sound.ready;
   }
 
 pub sound_put_room : (h h' : Hall) (r : Room) → PutsRoom h h' r → IsSound h'

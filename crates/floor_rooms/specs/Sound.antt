@@ -7,7 +7,7 @@ use Rattle.nsq_base.specs.Options.{IsInRange}
 use Rattle.nsq_base.specs.declared.options.Options.{Options}
 use Rattle.disk_queue.specs.Seen.{Seen as Queue}
 use Rattle.backlog.specs.Seen.{QueueIsSaved, ring_depth, disk_depth}
-use Rattle.broker_history.specs.State.{Client, is_empty, is_ephemeral_channel, has_channel}
+use Rattle.broker_history.specs.State.{Client, is_empty, is_ephemeral_channel, is_fresh, has_channel}
 use Rattle.topic_core.specs.Seen.{IsSettled, owed_of}
 use Rattle.topic_core.specs.Kept.{IsNamed}
 use Rattle.channel_copies.specs.Clients.{client_of}
@@ -79,6 +79,10 @@ pub record AreMembers (clients : List Client) (topic : List ℕ) (s : Stall) : T
 abbrev pub HasItsChannel : Hall → Client → Type 0
 HasItsChannel h c = IfSome (held_channel c.phase c.route) (λ route. IsSome (stall_at h.rooms.items route.topic route.channel))
 
+-- a client that has no channel yet asked for no message
+abbrev pub AsksForNone : Client → Type 0
+AsksForNone c = is_fresh c.phase ≡ true → c.ready ≡ 0
+
 pub record IsSound (h : Hall) : Type 0 where
   pub options : IsInRange h.options
   pub epoch : h.epoch < 2 ^ 24
@@ -89,3 +93,4 @@ pub record IsSound (h : Hall) : Type 0 where
   pub rooms : All (IsRoomSound h) h.rooms.items
   pub members : All (λ r. All (AreMembers h.clients.items (topic_name r)) r.stalls.items) h.rooms.items
   pub channels : All (HasItsChannel h) h.clients.items
+  pub ready : All AsksForNone h.clients.items

@@ -1,13 +1,13 @@
 -- Which states a hall stands for in a folder's files.
-use Rattle.std.specs.Prelude.{◌≡◌, ◌≤◌, ℕ, List, All, Option, None, IfSome}
-use Rattle.nsq_base.specs.Name.{IsName}
+use Rattle.std.specs.Prelude.{◌≡◌, ◌≤◌, ℕ, false, List, All, Option, None, IfSome}
+use Rattle.nsq_base.specs.Name.{IsName, is_ephemeral}
 use Rattle.nsq_outside.specs.Files.{Files}
 use Rattle.queue_image.specs.FileNames.{meta_file}
 use Rattle.queue_image.specs.Metas.{IsIdle}
 use Rattle.v2_frame.specs.declared.message.Message.{Message}
 use Rattle.history.specs.Found.{Pairwise}
 use Rattle.backlog.specs.Lists.{OnDisk, Stands}
-use Rattle.broker_history.specs.State.{Channel, Topic, State}
+use Rattle.broker_history.specs.State.{Channel, Topic, State, is_ephemeral_channel}
 use Rattle.broker_history.specs.Channels.{IsKept}
 use Rattle.topic_core.specs.Rows.{IsTopicOf}
 use Rattle.channel_core.specs.Seen.{seen_channel, queue_name}
@@ -35,8 +35,15 @@ pub record IsRoomOf (files : Files) (r : Room) (t : Topic) : Type 0 where
   pub delays : All (λ w. w.message.delay ≤ longest_delay) t.waiting
   pub taken : IfSome t.taken (λ x. x.message.delay ≤ longest_delay)
 
--- the hall stands for the state: it has its options, epoch, ids used, Stop and clients, its topics pair by pair, and no earlier moment; and a queue
--- of any other name would begin with nothing
+-- a name of a topic, and of a channel of a topic, that has a queue on disk
+abbrev pub IsDurableTopic : (name : List ℕ) → Type 0
+IsDurableTopic name = IsName name × (is_ephemeral name ≡ false)
+
+abbrev pub IsDurableChannel : (topic name : List ℕ) → Type 0
+IsDurableChannel topic name = IsName name × (is_ephemeral_channel topic name ≡ false)
+
+-- the hall stands for the state: it has its options, epoch, ids used, Stop and clients, its topics pair by pair, and no earlier moment; and a durable
+-- queue of any other name would begin with nothing
 pub record HoldsFor (h : Hall) (files : Files) (s : State) : Type 0 where
   pub options : s.options ≡ h.options
   pub epoch : s.epoch ≡ h.epoch
@@ -45,8 +52,8 @@ pub record HoldsFor (h : Hall) (files : Files) (s : State) : Type 0 where
   pub stopped : s.stopped ≡ h.stopped
   pub clients : s.clients ≡ h.clients.items
   pub topics : Pairwise (IsRoomOf files) h.rooms.items s.topics
-  pub idle : (name : List ℕ) → IsName name → room_in h.rooms.items name ≡ None → IsIdle (files (meta_file name))
-  pub idle_channels : (topic channel : List ℕ) → IsName topic → IsName channel → stall_at h.rooms.items topic channel ≡ None → IsIdle (files (meta_file (queue_name topic channel)))
+  pub idle : (name : List ℕ) → IsDurableTopic name → room_in h.rooms.items name ≡ None → IsIdle (files (meta_file name))
+  pub idle_channels : (topic channel : List ℕ) → IsName topic → IsDurableChannel topic channel → stall_at h.rooms.items topic channel ≡ None → IsIdle (files (meta_file (queue_name topic channel)))
 
 -- from each state that the hall stood for, the change leads to one that it stands for
 abbrev pub Carries : (old : Hall) → (before : Files) → (new : Hall) → (after : Files) → (Does : State → State → Type 0) → Type 0

@@ -10,6 +10,7 @@ mod marking;
 mod places;
 mod room;
 mod stall;
+mod stalls;
 
 pub use hall::Hall;
 pub use room::Room;

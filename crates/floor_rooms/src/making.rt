@@ -3,11 +3,9 @@ ghost use Rattle.std.specs.VecDeque.{deque_capacity, deque_len};
 ghost use Rattle.nsq_base.specs.Name.{is_ephemeral};
 ghost use Rattle.nsq_base.specs.Places.{BelongsAt};
 ghost use Rattle.nsq_outside.specs.Files.{Files};
-ghost use Rattle.queue_image.specs.FileNames.{meta_file};
-ghost use Rattle.queue_image.specs.Metas.{IsIdle};
 ghost use Rattle.broker_history.specs.State.{State, new_topic};
 ghost use Rattle.broker_history.specs.Changes.{made_topic};
-ghost use Rattle.floor_rooms.specs.Made.{IsFreshRoom, IsUnmade, MakesRoom};
+ghost use Rattle.floor_rooms.specs.Made.{BeginsIdle, IsFreshRoom, IsUnmade, MakesRoom};
 ghost use Rattle.floor_rooms.specs.Places.{IsThere};
 ghost use Rattle.floor_rooms.specs.Rooms.{put_room, topic_name};
 ghost use Rattle.floor_rooms.specs.Sound.{IsSound};
@@ -22,7 +20,7 @@ impl Hall {
     /// A topic of this name as it is made, which isn't in the hall. Want of memory is the only error.
     pub fn free_room(&self, topic: Topic) -> Result<Room, Memory>
         ensures room { IfOk result (IsFreshRoom topic self.now.options) }
-        ensures stands { IfOk result (λ r. (files : Files) → IsIdle (files (meta_file topic)) → IsRoomOf files r (new_topic topic)) }
+        ensures stands { IfOk result (λ r. (files : Files) → BeginsIdle files topic → IsRoomOf files r (new_topic topic)) }
     {
         let _ = topic.bytes();
         Ok(Room {

@@ -1,0 +1,18 @@
+use Rattle.std.proofs.Common.{◌∙◌, ◌||◌, not, ap, get_or}
+use Rattle.broker_history.specs.State.{is_ephemeral_channel}
+use Rattle.floor_rooms.specs.declared.hall.Hall.{Hall}
+use Rattle.floor_rooms.specs.Rooms.{channel_name, topic_name}
+use Rattle.floor_rooms.proofs.Growing.{grown_at, grown_name_at}
+use Rattle.floor_rooms.proofs.hall.Hall.add_stall.Goals as goal
+
+pub returns-clause-room : goal.returns-clause-room
+returns-clause-room c =
+    grown_at c.args.i c.args.j c.args.stall c.args.self.now.pending.items c.list_room.new.self.pending.items c.args.self.now.rooms.items c.list_room.new.self.rooms.items c.index_mut-room.result.now c.insert.new.self c.list_room.ensures.room c.index_mut-room.ensures.value
+    c.requires.place c.in-Ok.ensures.items
+
+pub returns-clause-unsaved : goal.returns-clause-unsaved
+returns-clause-unsaved c = λ d.
+    c.also_durable-self.ensures
+    ∙ ap (λ (x : Hall). x.unsaved_names || not (is_ephemeral_channel c.name.result c.name-2.result)) c.list_room.ensures.rest
+    ∙ ap (λ t. c.args.self.now.unsaved_names || not (is_ephemeral_channel t c.name-2.result)) (c.name.ensures ∙ grown_name_at c.args.i c.args.self.now.pending.items c.list_room.new.self.pending.items c.args.self.now.rooms.items c.list_room.new.self.rooms.items c.index_mut-room.result.now c.list_room.ensures.room c.index_mut-room.ensures.value d)
+    ∙ ap (λ n. c.args.self.now.unsaved_names || not (is_ephemeral_channel (topic_name (get_or c.args.self.now.rooms.items c.args.i d)) n)) c.name-2.ensures

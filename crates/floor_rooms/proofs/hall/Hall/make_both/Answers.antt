@@ -1,0 +1,22 @@
+use Rattle.std.proofs.Common.{List, ◌∙◌, ap}
+use Rattle.floor_rooms.specs.declared.hall.Hall.{Hall}
+use Rattle.floor_rooms.specs.declared.room.Room.{Room}
+use Rattle.floor_rooms.specs.Rooms.{room_in, topic_name}
+use Rattle.floor_rooms.proofs.Placing.{none_belonging}
+use Rattle.floor_rooms.proofs.Growing.{else_added, with_sound, with_stands}
+use Rattle.floor_rooms.proofs.hall.Hall.make_both.Goals as goal
+
+pub returns-clause-sound : goal.returns-clause-sound
+returns-clause-sound c =
+    let rest = c.add_room.ensures.rest in
+    with_sound c.reserve_room.new.self c.add_room.new.self c.args.topic c.args.channel c.in_ok-room.room (c.reserve_room.ensures.sound c.requires.sound) (else_added c.reserve_room.new.self c.add_room.new.self _ rest) (ap (λ (x : Hall). x.quiet_until) rest)
+    (ap (λ (x : Hall). x.unsaved_from) rest) (ap (λ (x : Hall). x.pending.items) rest)
+    (ap (λ (xs : List Room). room_in xs c.args.topic) c.reserve_room.ensures.rooms ∙ none_belonging topic_name c.args.self.now.rooms.items c.args.topic c.args.i c.requires.place) c.in_ok-room.ensures.room c.add_room.ensures.rooms
+
+pub returns-clause-stands : goal.returns-clause-stands
+returns-clause-stands c = λ files s holds.
+    let rest = c.add_room.ensures.rest in
+    with_stands c.reserve_room.new.self c.add_room.new.self c.args.topic c.args.channel c.in_ok-room.room (c.reserve_room.ensures.sound c.requires.sound) (else_added c.reserve_room.new.self c.add_room.new.self _ rest) (ap (λ (x : Hall). x.quiet_until) rest)
+    (ap (λ (x : Hall). x.unsaved_from) rest) (ap (λ (x : Hall). x.pending.items) rest)
+    (ap (λ (xs : List Room). room_in xs c.args.topic) c.reserve_room.ensures.rooms ∙ none_belonging topic_name c.args.self.now.rooms.items c.args.topic c.args.i c.requires.place) c.in_ok-room.ensures.room c.add_room.ensures.rooms
+    files s c.in_ok-room.ensures.room.fresh.named (c.in_ok-room.ensures.stands files) (c.reserve_room.ensures.stands files s holds)

@@ -110,6 +110,7 @@ sound_quiet h quiet sound all = record {
   rooms = λ k d within. room_quiet h quiet (get_or h.rooms.items k d) (sound.rooms k d within) (all k d within);
   members = sound.members;
   channels = sound.channels;
+  ready = sound.ready;
 }
   where
     stall_quiet : (o : Options) (topic : List ℕ) (q quiet u : ℕ) (s : Stall) → IsStallSound o topic q u s → IsQuietUntil quiet s.channel → IsStallSound o topic quiet u s

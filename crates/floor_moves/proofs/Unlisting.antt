@@ -130,6 +130,7 @@ module _ (h h' : Hall) (name : List ℕ) (more : List (List ℕ)) (sound : IsSou
     rooms = λ k d within. room_dropped k d within;
     members = sound.members;
     channels = sound.channels;
+    ready = sound.ready;
   }
 
 -- where a hall's own list is another's

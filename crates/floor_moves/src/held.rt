@@ -84,5 +84,7 @@ fn undo_held(hall: &mut Hall, place: Place)
     ensures rest { hall.new ≡ record hall.old { rooms = hall.new.rooms } }
     ensures stall { AtStall place.room place.stall UndoesHeld hall.old.rooms.items hall.new.rooms.items }
 {
-    hall.rooms[place.room].stalls[place.stall].channel.undo_held();
+    hall.rooms[place.room].stalls[place.stall]
+        .channel
+        .undo_held();
 }

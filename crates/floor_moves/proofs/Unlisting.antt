@@ -18,7 +18,7 @@ use Rattle.floor_rooms.proofs.Placing.{found_at, put_at}
 use Rattle.broker_history.proofs.Lists.{find_put, same_bytes}
 use Rattle.floor_rooms.proofs.Sounding.{KeepsRest, Lowers, at_all, room_lowered, sound_at_room}
 use Rattle.floor_rooms.proofs.Holding.{StaysElse, holds_at_room, holds_same, room_alike}
-use Rattle.floor_moves.specs.Pending.{IsUnlisted, IsBusyAt, Leads, Unlists}
+use Rattle.floor_moves.specs.Pending.{IsUnlisted, Unlists}
 use Rattle.floor_moves.proofs.PuttingBack.{some_same, stands_now}
 
 abbrev pub Rested : Room → Room → Type 0
@@ -146,22 +146,11 @@ with_pending h h' files s rest holds =
       clients = ap (λ (x : Hall). x.clients.items) rest;
     }) (ap (λ (x : Hall). x.rooms.items) rest) holds
 
--- nothing changed yet
-pub unlists_none : (h : Hall) → IsSound h → Unlists h h
-unlists_none h sound = record { sound = sound; rest = refl; stands = λ files s holds. holds }
-
 -- one more name went
 pub unlists_on : (h h1 h2 h3 : Hall) → Unlists h h1 → h2 ≡ record h1 { rooms = h2.rooms } → h3 ≡ record h2 { pending = h3.pending } → IsSound h3 → ((files : Files) (s : State) → HoldsFor h1 files s → HoldsFor h3 files s) → Unlists h h3
 unlists_on h h1 h2 h3 a r2 r3 sound stands = record {
   sound = sound;
   rest = r3 ∙ ap (λ (x : Hall). record x { pending = h3.pending }) r2 ∙ ap (λ (x : Hall). record x { rooms = h2.rooms; pending = h3.pending }) a.rest ∙ ap (λ rooms. record h { rooms = rooms; pending = h3.pending }) (sym (ap (λ (x : Hall). x.rooms) r3));
-  stands = λ files s holds. stands files s (a.stands files s holds);
-}
-
-pub unlists_two : (h h1 h2 : Hall) → Unlists h h1 → h2 ≡ record h1 { rooms = h2.rooms } → IsSound h2 → ((files : Files) (s : State) → HoldsFor h1 files s → HoldsFor h2 files s) → Unlists h h2
-unlists_two h h1 h2 a r2 sound stands = record {
-  sound = sound;
-  rest = r2 ∙ ap (λ (x : Hall). record x { rooms = h2.rooms }) a.rest ∙ ap (λ p. record h { rooms = h2.rooms; pending = p }) (sym (ap (λ (x : Hall). x.pending) r2));
   stands = λ files s holds. stands files s (a.stands files s holds);
 }
 
@@ -174,19 +163,3 @@ rested_at rooms i read room within r e idle = record {
   is = refl;
   does = (refl, subst (λ (x : Room). rests x ≡ true) (some_same read room (sym (slice_get_read rooms (length rooms) i read refl within r) ∙ slice_get_read rooms (length rooms) i room refl within e)) idle);
 }
-
--- the first name is of a topic that isn't listed, where it was unlisted
-pub first_unlisted : (h1 h2 : Hall) (first name : List ℕ) (more : List (List ℕ)) → Leads h1.pending.items first → h2.pending ≡ h1.pending → IsUnlisted h2 first → h2.pending.items ≡ name ∷ more → IsUnlisted h2 name
-first_unlisted h1 h2 first name more leads same unlisted was =
-    subst (IsUnlisted h2) (same_head first name leads.more more (sym leads.is ∙ ap (λ ps. ps.items) (sym same) ∙ was)) unlisted
-  where
-    same_head : (a b : List ℕ) (xs ys : List (List ℕ)) → a ∷ xs ≡ b ∷ ys → a ≡ b
-    same_head a b xs ys e = cc
-
--- fewer names are left
-pub fewer_left : (h1 h2 h3 : Hall) (first : List ℕ) → Leads h1.pending.items first → h2.pending ≡ h1.pending → ((name : List ℕ) (more : List (List ℕ)) → h2.pending.items ≡ name ∷ more → h3.pending.items ≡ more) → length h3.pending.items < length h1.pending.items
-fewer_left h1 h2 h3 first leads same drops =
-    let left : h3.pending.items ≡ leads.more = drops first leads.more (ap (λ ps. ps.items) same ∙ leads.is) in
-    let before : length h1.pending.items ≡ length (first ∷ leads.more) = ap length leads.is in
-    let now : length h3.pending.items ≡ length leads.more = ap length left in
-    omega (arith, before, now)

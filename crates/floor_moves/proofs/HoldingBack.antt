@@ -1,10 +1,9 @@
 -- A copy that came up while its id was in flight is held back: that is the move, of each state that the hall stood for.
-use Rattle.std.proofs.Common.{◌≡◌, ◌⊎◌, inl, inr, ◌≤◌, ◌+◌, ℕ, Bool, true, false, List, get_or, Option, Some, None, refl, sym, ap, subst, ◌∙◌, arith}
-use Rattle.std.specs.Prelude.{IsTrue, IsSome, IfSome, slice_get}
+use Rattle.std.proofs.Common.{◌≡◌, inl, ◌≤◌, ◌+◌, ℕ, Bool, false, List, get_or, Option, Some, refl, sym, ap, subst, ◌∙◌, arith}
+use Rattle.std.specs.Prelude.{IsTrue, slice_get}
 use Rattle.std.proofs.lemmas.Option.{get_or_from_slice_get}
 use Rattle.nsq_base.specs.declared.options.Options.{Options}
 use Rattle.nsq_outside.specs.Files.{Files}
-use Rattle.nsq_outside.specs.declared.journal.End.{End}
 use Rattle.nsq_outside.specs.declared.journal.End.TheVariants.{Done}
 use Rattle.v2_frame.specs.declared.message.Message.{Message}
 use Rattle.backlog.specs.Lists.{OnDisk, Stands}
@@ -18,7 +17,6 @@ use Rattle.broker_history.specs.Channels.{Moves, HoldsBack, IsKept}
 use Rattle.broker_history.specs.Step.{DoesMove}
 use Rattle.topic_core.proofs.Saving.{same_joined}
 use Rattle.channel_copies.specs.Clients.{client_of}
-use Rattle.channel_core.specs.Made.{about_of}
 use Rattle.channel_core.specs.Seen.{Seen as ChannelSeen, channel_with, queued_in, drawn_in, seen_channel, queue_name}
 use Rattle.channel_core.specs.declared.about.About.{About}
 use Rattle.channel_core.specs.declared.drawn.Drawn.{Drawn}
@@ -27,9 +25,9 @@ use Rattle.floor_rooms.specs.declared.stall.Stall.{Stall}
 use Rattle.floor_rooms.specs.declared.room.Room.{Room}
 use Rattle.floor_rooms.specs.declared.hall.Hall.{Hall}
 use Rattle.floor_rooms.specs.Rooms.{channel_name, topic_name}
-use Rattle.floor_rooms.specs.Sound.{IsSound, IsRoomSound, IsStallSound}
-use Rattle.floor_rooms.specs.Standing.{Carries, IsStallOf, HoldsFor, LiftsTo}
-use Rattle.floor_rooms.specs.Changes.{OthersStay, StallChange, AtStall, TouchesStall, Touches}
+use Rattle.floor_rooms.specs.Sound.{IsRoomSound, IsStallSound}
+use Rattle.floor_rooms.specs.Standing.{IsStallOf, HoldsFor, LiftsTo}
+use Rattle.floor_rooms.specs.Changes.{StallChange, AtStall, Touches}
 use Rattle.floor_rooms.proofs.Staying.{others_stay}
 use Rattle.floor_rooms.proofs.Changing.{at_stall}
 use Rattle.floor_rooms.proofs.Orders.{stall_as_before}
@@ -39,10 +37,10 @@ use Rattle.floor_rooms.proofs.Turning.{stall_change}
 use Rattle.floor_moves.specs.declared.due.Place.{Place}
 use Rattle.floor_moves.specs.Due.{HasStallAt}
 use Rattle.floor_moves.specs.Moves.{Keeps, Notes, Rests, entry_at, sight}
-use Rattle.floor_moves.specs.Holding.{HasHeld, DrawsHeld, IsDrawnFrom, SettlesHeld, UndoesHeld, IsHeldAt, IsActOf}
+use Rattle.floor_moves.specs.Holding.{DrawsHeld, IsDrawnFrom, SettlesHeld, UndoesHeld, IsHeldAt, IsActOf}
 use Rattle.floor_moves.proofs.Keeping.{keeps_marked, keeps_on, rest_of}
 use Rattle.floor_moves.proofs.PuttingBack.{room_here, some_same, stands_now}
-use Rattle.floor_moves.proofs.Joining.{Both, join, same_room, same_stall, others_on, named_on}
+use Rattle.floor_moves.proofs.Joining.{Both, join, others_on, named_on}
 use Rattle.floor_moves.proofs.Stepping.{Noted, noted_done, daemon, steps_to, rose_none}
 
 -- the names of the channel that stands at a place

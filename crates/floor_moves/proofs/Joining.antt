@@ -1,5 +1,5 @@
 -- Two changes of one channel, one after the other, are one change.
-use Rattle.std.proofs.Common.{◌≡◌, ◌<◌, ℕ, List, set, get_or, length, Option, Some, None, refl, sym, ap, subst, ◌∙◌, set-set}
+use Rattle.std.proofs.Common.{◌≡◌, ◌<◌, ℕ, List, set, length, Option, Some, None, sym, ap, subst, ◌∙◌, set-set}
 use Rattle.std.specs.Prelude.{IfSome, slice_get}
 use Rattle.std.specs.List.{HoldsAt}
 use Rattle.std.proofs.lemmas.Option.{get_or_from_slice_get, slice_get_within}
@@ -8,8 +8,8 @@ use Rattle.disk_queue.specs.Seen.{Seen as Queue}
 use Rattle.backlog.specs.Seen.{SameQueue}
 use Rattle.floor_rooms.specs.declared.stall.Stall.{Stall}
 use Rattle.floor_rooms.specs.declared.room.Room.{Room}
-use Rattle.floor_rooms.specs.Changes.{OthersStay, AtRoom, InRoom, AtStall}
-use Rattle.floor_moves.specs.Due.{HasStall, HasStallAt}
+use Rattle.floor_rooms.specs.Changes.{OthersStay, AtStall}
+use Rattle.floor_moves.specs.Due.{HasStallAt}
 use Rattle.floor_moves.proofs.PuttingBack.{some_same, stands_now}
 
 -- one change and then another

@@ -3,7 +3,7 @@ use Rattle.std.proofs.Common.{◌≡◌, ◌≤◌, ℕ, List, Option, Some, Non
 use Rattle.std.specs.Prelude.{IfSome}
 use Rattle.nsq_base.specs.Name.{IsName}
 use Rattle.nsq_outside.specs.Files.{Files}
-use Rattle.queue_image.specs.FileNames.{IsOwnFile, IsQueueName}
+use Rattle.queue_image.specs.FileNames.{IsQueueName}
 use Rattle.queue_image.specs.FileNames.IsQueueName.{of_topic, of_channel}
 use Rattle.disk_queue.specs.Seen.{Seen as Queue}
 use Rattle.backlog.specs.Lists.{DiskChanges}

@@ -1,14 +1,12 @@
 -- What is due of a channel is put back: that is the move, of each state that the hall stood for.
-use Rattle.std.proofs.Common.{◌≡◌, ◌⊎◌, inl, inr, ◌<◌, ◌≤◌, ◌==◌, ◌&&◌, ℕ, Bool, true, false, if◌then◌else◌, List, set, get_or, length, Option, Some, None, refl, sym, ap, subst, ◌∙◌, get_or-set_same, length-set}
+use Rattle.std.proofs.Common.{◌≡◌, inl, ◌<◌, ◌≤◌, ℕ, Bool, true, false, if◌then◌else◌, List, set, get_or, length, Option, Some, None, refl, sym, ap, subst, ◌∙◌, get_or-set_same, length-set}
 use Rattle.std.specs.Prelude.{IsTrue, IsSome, slice_get}
-use Rattle.std.specs.List.{All, HoldsAt}
 use Rattle.std.proofs.lemmas.Bool.{eq-eqb}
 use Rattle.std.proofs.lemmas.Option.{get_or_from_slice_get, slice_get_within, slice_get-get_or, some_pair_parts}
 use Rattle.nsq_outside.specs.Causes.{Rose}
 use Rattle.nsq_outside.specs.Files.{Files}
 use Rattle.nsq_outside.specs.declared.journal.End.{End}
-use Rattle.nsq_outside.specs.declared.journal.End.TheVariants.{Done, Faulted, Skip}
-use Rattle.v2_frame.specs.declared.message.Message.{Message}
+use Rattle.nsq_outside.specs.declared.journal.End.TheVariants.{Done, Faulted}
 use Rattle.broker_history.specs.declared.entry.Act.{Act}
 use Rattle.broker_history.specs.declared.entry.Act.TheVariants.{TimedOut, CameDue}
 use Rattle.broker_history.specs.declared.entry.Entry.{Entry}
@@ -16,7 +14,6 @@ use Rattle.broker_history.specs.Entries.{History}
 use Rattle.broker_history.specs.Before.{is_moved_at, is_stuck_at}
 use Rattle.broker_history.specs.State.{Channel, State}
 use Rattle.broker_history.specs.Channels.{Room as Space, Moves, TimesOut, ComesDue}
-use Rattle.broker_history.specs.Changes.{AtChannel}
 use Rattle.broker_history.specs.Step.{room_of, DoesAct, DoesMove, IsMoveDue, IsAllowedAct, IsDaemons}
 use Rattle.channel_copies.specs.Clients.{client_of}
 use Rattle.channel_core.specs.Answers.{TellsDue}
@@ -34,7 +31,7 @@ use Rattle.floor_rooms.specs.declared.hall.Hall.{Hall}
 use Rattle.floor_rooms.specs.Rooms.{channel_name, topic_name}
 use Rattle.floor_rooms.specs.Sound.{IsSound, IsRoomSound, IsStallSound}
 use Rattle.floor_rooms.specs.Standing.{IsStallOf, HoldsFor, LiftsTo}
-use Rattle.floor_rooms.specs.Changes.{OthersStay, StallChange, AtRoom, InRoom, AtStall, TouchesStall, Touches, marked}
+use Rattle.floor_rooms.specs.Changes.{StallChange, AtStall, Touches, marked}
 use Rattle.floor_rooms.proofs.Staying.{others_stay}
 use Rattle.floor_rooms.proofs.Changing.{at_stall}
 use Rattle.floor_rooms.proofs.Orders.{stall_kept_off}
@@ -46,7 +43,7 @@ use Rattle.floor_moves.specs.declared.moving.Due.{Due}
 use Rattle.floor_moves.specs.Due.{HasStall, HasStallAt}
 use Rattle.floor_moves.specs.Moves.{Keeps, OnlyQueueFiles, Notes, entry_at, sight}
 use Rattle.floor_moves.specs.Moving.{act_of, is_done, IsFirstDue, IsDueAt, MovesStall, PutsDue, PutFails}
-use Rattle.floor_moves.proofs.Keeping.{keeps_from, rest_of, only_of_channel}
+use Rattle.floor_moves.proofs.Keeping.{rest_of, only_of_channel}
 use Rattle.floor_moves.proofs.Stepping.{Noted, noted_done, noted_fault, daemon, steps_to, rose_none, rose_one}
 
 pub some_same : {X : Type 0} (x y : X) → Some x ≡ Some y → x ≡ y

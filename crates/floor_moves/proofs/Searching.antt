@@ -1,11 +1,10 @@
 -- A look through channels for what is due.
-use Rattle.std.proofs.Common.{◌≡◌, ◌<◌, ◌≤◌, ◌+◌, ℕ, suc, min, Bool, true, false, ◌&&◌, ◌||◌, nat_le, List, [], ◌∷◌, length, Option, Some, None, Result, Ok, Err, refl, sym, ap, subst, ◌∙◌, arith, get_or}
+use Rattle.std.proofs.Common.{◌≡◌, ◌<◌, ◌≤◌, ◌+◌, ℕ, min, Bool, true, false, nat_le, List, [], ◌∷◌, length, Option, Some, None, refl, sym, ap, subst, arith, get_or}
 use Rattle.std.specs.Prelude.{IsSome}
 use Rattle.std.specs.List.{All, AllWithin, count_by, slice_get}
 use Rattle.std.proofs.lemmas.Bool.{false≢true, leb-true, le-leb, leb-false}
-use Rattle.std.proofs.lemmas.Option.{get_or_from_slice_get, slice_get_within}
+use Rattle.std.proofs.lemmas.Option.{get_or_from_slice_get}
 use Rattle.nsq_base.specs.declared.options.Options.{Options}
-use Rattle.v2_frame.specs.declared.message.Message.{Message}
 use Rattle.broker_history.specs.State.{Place as CopyPlace, Queued, InFlight, Deferred, Finished, Emptied, Dropped, Copy, is_due}
 use Rattle.broker_history.specs.Channels.{one}
 use Rattle.broker_history.proofs.Counting.{count-cons}
@@ -18,7 +17,7 @@ use Rattle.floor_rooms.specs.declared.room.Room.{Room}
 use Rattle.floor_rooms.specs.declared.hall.Hall.{Hall}
 use Rattle.floor_rooms.specs.Rooms.{topic_name}
 use Rattle.floor_rooms.specs.Sound.{IsQuietUntil, IsStallSound, IsRoomSound, IsSound}
-use Rattle.floor_moves.specs.Due.{has_come, sooner, HasStall, HasStallAt, IsDueNow, AreQuiet, RoomsAreQuiet, StallsSearched}
+use Rattle.floor_moves.specs.Due.{has_come, sooner, IsDueNow, AreQuiet, RoomsAreQuiet}
 
 -- what was due is due later
 still_one : (early now : ℕ) (p : CopyPlace) → early ≤ now → is_due early p ≡ true → is_due now p ≡ true

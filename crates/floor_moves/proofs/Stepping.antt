@@ -1,24 +1,21 @@
 -- One entry was noted with its end, and that is a step.
-use Rattle.std.proofs.Common.{◌≡◌, ◌≤◌, ◌<◌, ◌+◌, ◌-◌, ◌^◌, ◌==◌, ℕ, min, Bool, true, false, ◌&&◌, List, [], ◌∷◌, ◌++◌, Option, Some, None, refl, sym, ap, subst, ◌∙◌, arith}
+use Rattle.std.proofs.Common.{◌≡◌, ◌≤◌, ℕ, Bool, false, [], ◌∷◌, ◌++◌, Option, Some, refl, ap, subst, ◌∙◌, arith}
 use Rattle.std.specs.Prelude.{IsTrue, IfSome}
-use Rattle.std.proofs.lemmas.Bool.{eq-eqb}
 use Rattle.nsq_outside.specs.Causes.{Rose}
 use Rattle.nsq_outside.specs.Files.{Files}
 use Rattle.nsq_outside.specs.Journals as journals
 use Rattle.nsq_outside.specs.declared.journal.End.{End}
-use Rattle.nsq_outside.specs.declared.journal.End.TheVariants.{Done, Faulted, Skip}
+use Rattle.nsq_outside.specs.declared.journal.End.TheVariants.{Done, Faulted}
 use Rattle.broker_history.specs.declared.entry.Act.{Act}
-use Rattle.broker_history.specs.declared.entry.Act.TheVariants.{TimedOut, CameDue}
 use Rattle.broker_history.specs.declared.entry.Entry.{Entry}
 use Rattle.broker_history.specs.State.{State, at_moment}
-use Rattle.broker_history.specs.Entries.{History, faults_of, is_due_move}
-use Rattle.broker_history.specs.Before.{is_moved_at, is_stuck_at}
-use Rattle.broker_history.specs.Step.{Step, DoesAct, DoesMove, IsMoveDue, IsAllowedAct, IsDaemons, last_moment}
+use Rattle.broker_history.specs.Entries.{History}
+use Rattle.broker_history.specs.Step.{Step, DoesAct, IsAllowedAct, IsDaemons}
 use Rattle.floor_rooms.specs.declared.hall.Hall.{Hall}
 use Rattle.floor_rooms.specs.Sound.{IsSound}
-use Rattle.floor_rooms.specs.Standing.{Carries, HoldsFor}
+use Rattle.floor_rooms.specs.Standing.{HoldsFor}
 use Rattle.floor_rooms.proofs.Orders.{holds_at}
-use Rattle.floor_moves.specs.Moves.{Sight, sight, Notes, Rests, Moves, RoseBy, Keeps, entry_at}
+use Rattle.floor_moves.specs.Moves.{sight, Rests, RoseBy, Keeps, entry_at}
 
 -- what was aside is noted
 abbrev pub Noted : (tells : Bool) (old mid new : History) (kept : Option Entry) (entry : Entry) (end : End) → Type 0

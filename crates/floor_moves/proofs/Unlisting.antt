@@ -1,25 +1,23 @@
 -- Topics that rest are listed no more: the hall is as sound, and stands for the same.
-use Rattle.std.proofs.Common.{◌≡◌, ◌≢◌, ◌≤◌, ◌<◌, ◌+◌, ℕ, suc, zero, set, Bool, true, false, if◌then◌else◌, List, [], ◌∷◌, ◌++◌, length, get_or, Option, Some, None, refl, sym, ap, subst, ◌∙◌, arith}
-use Rattle.std.specs.Prelude.{IfSome, slice_get}
-use Rattle.std.specs.List.{All, Contains}
+use Rattle.std.proofs.Common.{◌≡◌, ◌≢◌, ◌<◌, ℕ, suc, zero, set, true, false, if◌then◌else◌, List, ◌∷◌, length, get_or, Some, refl, sym, ap, subst, ◌∙◌, arith}
+use Rattle.std.specs.Prelude.{IfSome}
+use Rattle.std.specs.List.{Contains}
 use Rattle.std.proofs.lemmas.Bool.{false≢true}
-use Rattle.std.proofs.lemmas.Option.{get_or_from_slice_get, slice_get_read, slice_get_within, slice_get-get_or}
+use Rattle.std.proofs.lemmas.Option.{slice_get_read, slice_get-get_or}
 use Rattle.nsq_outside.specs.Files.{Files}
-use Rattle.broker_history.specs.State.{Topic, State}
-use Rattle.floor_rooms.specs.declared.stall.Stall.{Stall}
+use Rattle.broker_history.specs.State.{State}
 use Rattle.floor_rooms.specs.declared.room.Room.{Room}
 use Rattle.floor_rooms.specs.declared.hall.Hall.{Hall}
 use Rattle.floor_rooms.specs.Rooms.{topic_name, room_in, stall_in}
-use Rattle.floor_rooms.specs.Places.{IsThere}
 use Rattle.floor_rooms.specs.Sound.{IsRoomSound, IsSound, rests}
-use Rattle.floor_rooms.specs.Standing.{IsRoomOf, HoldsFor}
+use Rattle.floor_rooms.specs.Standing.{HoldsFor}
 use Rattle.floor_rooms.specs.Changes.{AtRoom}
 use Rattle.floor_rooms.proofs.Placing.{found_at, put_at}
 use Rattle.broker_history.proofs.Lists.{find_put, same_bytes}
-use Rattle.floor_rooms.proofs.Sounding.{KeepsRest, Lowers, at_all, room_lowered, sound_at_room}
-use Rattle.floor_rooms.proofs.Holding.{StaysElse, holds_at_room, holds_same, room_alike}
+use Rattle.floor_rooms.proofs.Sounding.{KeepsRest, at_all, room_lowered, sound_at_room}
+use Rattle.floor_rooms.proofs.Holding.{holds_at_room, holds_same, room_alike}
 use Rattle.floor_moves.specs.Pending.{IsUnlisted, Unlists}
-use Rattle.floor_moves.proofs.PuttingBack.{some_same, stands_now}
+use Rattle.floor_moves.proofs.PuttingBack.{some_same}
 
 abbrev pub Rested : Room → Room → Type 0
 Rested a b = (b ≡ record a { listed = false }) × (rests a ≡ true)

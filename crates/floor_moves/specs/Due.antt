@@ -1,5 +1,5 @@
 -- Where a copy is due.
-use Rattle.std.specs.Prelude.{◌≡◌, ◌<◌, ◌≤◌, ℕ, min, Bool, false, nat_le, List, Option, Some, None, IsSome, Result, Ok, Err, All, slice_get}
+use Rattle.std.specs.Prelude.{◌≡◌, ◌<◌, ℕ, min, Bool, false, nat_le, List, Option, Some, None, IsSome, Result, Ok, Err, All, slice_get}
 use Rattle.std.specs.List.{AllWithin}
 use Rattle.channel_core.specs.Moves.{due_in}
 use Rattle.floor_rooms.specs.declared.stall.Stall.{Stall}

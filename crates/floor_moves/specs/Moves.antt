@@ -1,5 +1,5 @@
 -- What a move makes of a hall: one entry is noted, by which each state that the hall stood for comes to one that it stands for.
-use Rattle.std.specs.Prelude.{◌≡◌, ◌≤◌, ◌<◌, ℕ, ◌+◌, ◌-◌, ◌^◌, min, Bool, true, false, if◌then◌else◌, List, [], ◌∷◌, ◌++◌, IsTrue, Some, slice_get}
+use Rattle.std.specs.Prelude.{◌≡◌, ◌≤◌, ℕ, ◌+◌, ◌-◌, ◌^◌, min, Bool, true, List, [], ◌∷◌, ◌++◌, IsTrue}
 use Rattle.nsq_outside.specs.Causes.{Rose}
 use Rattle.nsq_outside.specs.Files.{Files}
 use Rattle.nsq_outside.specs.declared.journal.End.{End}
@@ -7,11 +7,9 @@ use Rattle.queue_image.specs.FileNames.{IsOwnFile, IsQueueName}
 use Rattle.broker_history.specs.declared.entry.Act.{Act}
 use Rattle.broker_history.specs.declared.entry.Entry.{Entry}
 use Rattle.broker_history.specs.State.{State}
-use Rattle.broker_history.specs.Entries.{History, faults_of, is_held}
+use Rattle.broker_history.specs.Entries.{History, faults_of}
 use Rattle.broker_history.specs.Before.{is_moved_at, is_stuck_at}
 use Rattle.broker_history.specs.Step.{Step}
-use Rattle.floor_rooms.specs.declared.stall.Stall.{Stall}
-use Rattle.floor_rooms.specs.declared.room.Room.{Room}
 use Rattle.floor_rooms.specs.declared.hall.Hall.{Hall}
 use Rattle.floor_rooms.specs.Standing.{HoldsFor}
 use Rattle.floor_moves.specs.declared.made.Made.{Made}

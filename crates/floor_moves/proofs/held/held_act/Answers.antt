@@ -1,4 +1,4 @@
-use Rattle.std.proofs.Common.{◌≡◌, ◌∙◌, ap}
+use Rattle.std.proofs.Common.{◌∙◌, ap}
 use Rattle.broker_history.specs.declared.entry.Act.TheVariants.{HeldBack}
 use Rattle.floor_rooms.specs.Rooms.{topic_name}
 use Rattle.floor_moves.specs.Holding.{HasHeld}

@@ -1,6 +1,5 @@
-use Rattle.std.proofs.Common.{◌≡◌}
 use Rattle.floor_rooms.specs.declared.hall.Hall.{Hall}
-use Rattle.floor_moves.specs.Holding.{HasHeld, SettlesHeld}
+use Rattle.floor_moves.specs.Holding.{HasHeld}
 use Rattle.floor_moves.proofs.HoldingBack.{back_rests, back_touches, held_noted, settled_touches}
 use Rattle.floor_moves.proofs.Joining.{room_range, room_range_now, stall_holds, stall_range, stall_range_now}
 use Rattle.floor_moves.proofs.Keeping.{keeps_marked, keeps_on, keeps_quiet}

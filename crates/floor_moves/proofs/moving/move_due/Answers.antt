@@ -1,5 +1,4 @@
-use Rattle.std.proofs.Common.{◌≡◌, ◌∙◌, Some, ap}
-use Rattle.std.specs.Prelude.{IsTrue}
+use Rattle.std.proofs.Common.{◌∙◌, Some, ap}
 use Rattle.broker_history.specs.declared.entry.Act.{Act}
 use Rattle.floor_moves.specs.Moves.{entry_at}
 use Rattle.floor_moves.proofs.PuttingBack.{due_done, due_stuck}

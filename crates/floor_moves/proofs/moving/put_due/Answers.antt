@@ -1,6 +1,5 @@
-use Rattle.std.proofs.Common.{◌≡◌, refl, sym, ap, subst, ◌∙◌}
+use Rattle.std.proofs.Common.{sym, ap, subst}
 use Rattle.floor_rooms.specs.declared.hall.Hall.{Hall}
-use Rattle.floor_rooms.specs.Standing.{HoldsFor}
 use Rattle.floor_moves.specs.Moving.{PutsDue, act_of}
 use Rattle.floor_moves.proofs.Keeping.{keeps_marked}
 use Rattle.floor_moves.proofs.PuttingBack.{due_marked, due_put, is_marked, only_queues, touches}

@@ -1,14 +1,9 @@
-use Rattle.std.proofs.Common.{◌≡◌, false, true, Some, length, refl, sym, ap, subst, ◌∙◌}
-use Rattle.std.specs.Prelude.{slice_get}
+use Rattle.std.proofs.Common.{false, length, refl, sym, ap, ◌∙◌}
 use Rattle.std.specs.Vec.{with_item}
 use Rattle.std.proofs.lemmas.Option.{slice_get_read}
-use Rattle.floor_rooms.specs.declared.room.Room.{Room}
 use Rattle.floor_rooms.specs.declared.hall.Hall.{Hall}
 use Rattle.floor_rooms.specs.Rooms.{topic_name}
-use Rattle.floor_rooms.specs.Sound.{rests}
-use Rattle.floor_rooms.specs.Changes.{AtRoom}
-use Rattle.floor_moves.proofs.PuttingBack.{some_same}
-use Rattle.floor_moves.proofs.Unlisting.{Rested, rested_at, unlisted_is, unlisted_sound, unlisted_stands}
+use Rattle.floor_moves.proofs.Unlisting.{rested_at, unlisted_is, unlisted_sound, unlisted_stands}
 use Rattle.floor_moves.proofs.pending.unlist.Goals as goal
 
 pub returns-then-not-rests-clause-busy : goal.returns-then-not-rests-clause-busy

@@ -1,0 +1,94 @@
+-- What moves leave of a hall, and of files.
+use Rattle.std.proofs.Common.{◌≡◌, ◌≤◌, ℕ, List, Option, Some, None, refl, sym, ap, subst, ◌∙◌, arith}
+use Rattle.std.specs.Prelude.{IfSome}
+use Rattle.nsq_base.specs.Name.{IsName}
+use Rattle.nsq_outside.specs.Files.{Files}
+use Rattle.queue_image.specs.FileNames.{IsQueueName}
+use Rattle.queue_image.specs.FileNames.IsQueueName.{of_topic, of_channel}
+use Rattle.disk_queue.specs.Seen.{Seen as Queue}
+use Rattle.backlog.specs.Lists.{DiskChanges}
+use Rattle.channel_core.specs.Seen.{queue_name}
+use Rattle.floor_rooms.specs.declared.hall.Hall.{Hall}
+use Rattle.floor_rooms.proofs.Holding.{StaysElse}
+use Rattle.floor_moves.specs.Moves.{Keeps, OnlyQueueFiles}
+
+pub keeps_from : (h h' : Hall) → h' ≡ record h { rooms = h'.rooms; pending = h'.pending; quiet_until = h'.quiet_until; unsaved_from = h'.unsaved_from } → Keeps h h'
+keeps_from h h' e = record {
+  options = ap (λ (x : Hall). x.options) e;
+  epoch = ap (λ (x : Hall). x.epoch) e;
+  began_at = ap (λ (x : Hall). x.began_at) e;
+  ids_used = ap (λ (x : Hall). x.ids_used) e;
+  moment = ap (λ (x : Hall). x.moment) e;
+  stopped = ap (λ (x : Hall). x.stopped) e;
+  stuck = ap (λ (x : Hall). x.stuck) e;
+  unsaved_names = ap (λ (x : Hall). x.unsaved_names) e;
+  clients = ap (λ (x : Hall). x.clients) e;
+}
+
+-- a mark
+pub keeps_marked : (h h' : Hall) (unsaved : ℕ) → h' ≡ record h { rooms = h'.rooms; unsaved_from = unsaved } → Keeps h h'
+keeps_marked h h' unsaved e = record {
+  options = ap (λ (x : Hall). x.options) e;
+  epoch = ap (λ (x : Hall). x.epoch) e;
+  began_at = ap (λ (x : Hall). x.began_at) e;
+  ids_used = ap (λ (x : Hall). x.ids_used) e;
+  moment = ap (λ (x : Hall). x.moment) e;
+  stopped = ap (λ (x : Hall). x.stopped) e;
+  stuck = ap (λ (x : Hall). x.stuck) e;
+  unsaved_names = ap (λ (x : Hall). x.unsaved_names) e;
+  clients = ap (λ (x : Hall). x.clients) e;
+}
+
+pub keeps_on : (h h1 h' : Hall) → Keeps h h1 → Keeps h1 h' → Keeps h h'
+keeps_on h h1 h' a b = record {
+  options = b.options ∙ a.options;
+  epoch = b.epoch ∙ a.epoch;
+  began_at = b.began_at ∙ a.began_at;
+  ids_used = b.ids_used ∙ a.ids_used;
+  moment = b.moment ∙ a.moment;
+  stopped = b.stopped ∙ a.stopped;
+  stuck = b.stuck ∙ a.stuck;
+  unsaved_names = b.unsaved_names ∙ a.unsaved_names;
+  clients = b.clients ∙ a.clients;
+}
+
+same_most : (a b : ℕ) → b ≡ a → a ≤ b
+same_most a b e = omega (arith, e)
+
+pub rest_of : (h h' : Hall) → Keeps h h' → StaysElse h h'
+rest_of h h' k = record {
+  options = k.options;
+  epoch = k.epoch;
+  ids_used = k.ids_used;
+  moment = same_most h.moment h'.moment k.moment;
+  stopped = k.stopped;
+  clients = ap (λ cs. cs.items) k.clients;
+}
+
+-- what changes on a queue's disk is in files of queues
+only_of : (name : List ℕ) (queue : Option Queue) (old new : Files) → IsQueueName name → IfSome queue (λ q. q.name ≡ name) → DiskChanges queue old new → OnlyQueueFiles old new
+only_of name None old new named is change = λ file other. change file
+only_of name (Some q) old new named is change = λ file other. change file (other q.name (subst IsQueueName (sym is) named))
+
+pub only_of_topic : (name : List ℕ) (queue : Option Queue) (old new : Files) → IsName name → IfSome queue (λ q. q.name ≡ name) → DiskChanges queue old new → OnlyQueueFiles old new
+only_of_topic name queue old new named is change = only_of name queue old new (of_topic named) is change
+
+pub only_of_channel : (topic channel : List ℕ) (queue : Option Queue) (old new : Files) → IsName topic → IsName channel → IfSome queue (λ q. q.name ≡ queue_name topic channel) → DiskChanges queue old new → OnlyQueueFiles old new
+only_of_channel topic channel queue old new nt nc is change = only_of (queue_name topic channel) queue old new (of_channel topic channel nt nc refl) is change
+
+pub only_same : (old new : Files) → ((file : List ℕ) → new file ≡ old file) → OnlyQueueFiles old new
+only_same old new same = λ file other. same file
+
+-- another moment until which all is quiet
+pub keeps_quiet : (h h' : Hall) (quiet : ℕ) → h' ≡ record h { quiet_until = quiet } → Keeps h h'
+keeps_quiet h h' quiet e = record {
+  options = ap (λ (x : Hall). x.options) e;
+  epoch = ap (λ (x : Hall). x.epoch) e;
+  began_at = ap (λ (x : Hall). x.began_at) e;
+  ids_used = ap (λ (x : Hall). x.ids_used) e;
+  moment = ap (λ (x : Hall). x.moment) e;
+  stopped = ap (λ (x : Hall). x.stopped) e;
+  stuck = ap (λ (x : Hall). x.stuck) e;
+  unsaved_names = ap (λ (x : Hall). x.unsaved_names) e;
+  clients = ap (λ (x : Hall). x.clients) e;
+}

@@ -1,0 +1,19 @@
+use Rattle.std.proofs.Common.{refl}
+use Rattle.floor_rooms.specs.Changes.{InRoom}
+use Rattle.floor_rooms.proofs.Marked.{at_room_read, in_room_read, range_of}
+use Rattle.floor_moves.specs.Holding.{UndoesHeld}
+use Rattle.floor_moves.proofs.held.undo_held.Goals as goal
+
+pub returns-clause-stall : goal.returns-clause-stall
+returns-clause-stall c =
+    let room = c.index_mut.result.now in
+    let stall = c.index_mut-2.result.now in
+    at_room_read c.args.place.room (InRoom c.args.place.stall UndoesHeld) c.args.hall.now.rooms.items room _ c.requires.room c.index_mut.ensures.value
+    (in_room_read c.args.place.stall UndoesHeld room _ stall _ (range_of c.args.place.stall c.args.hall.now.rooms.items c.args.place.room room c.index_mut.ensures.value c.requires.stall) c.index_mut-2.ensures.value refl refl
+    (record {
+      nothing = c.undo_held.ensures.nothing_now;
+      back = c.undo_held.ensures.back;
+      queue = c.undo_held.ensures.queue;
+      rest = c.undo_held.ensures.rest;
+      same = refl;
+    }))

@@ -1,0 +1,34 @@
+use Rattle.std.proofs.Common.{sym, ap, subst}
+use Rattle.floor_rooms.specs.declared.hall.Hall.{Hall}
+use Rattle.floor_moves.specs.Moving.{PutsDue, act_of}
+use Rattle.floor_moves.proofs.Keeping.{keeps_marked}
+use Rattle.floor_moves.proofs.PuttingBack.{due_marked, due_put, is_marked, only_queues, touches}
+use Rattle.floor_moves.proofs.moving.put_due.Goals as goal
+
+pub returns-clause-puts : goal.returns-clause-puts
+returns-clause-puts g c = λ due is told.
+    let h0 : Hall = c.args.hall.now in
+    let h1 : Hall = c.mark_stall.new.self in
+    let h2 : Hall = c.move_first-moved.new.hall in
+    let h3 : Hall = c.settle_stall.new.self in
+    let old = g.F.Folder.files c.args.folder.now in
+    let new = g.F.Folder.files c.move_first-moved.new.folder in
+    subst (PutsDue h0.moment (act_of due) h0 old h3 new) (sym c.is_done.ensures)
+    (due_put g.F.Folder.tells_files h0 h1 h2 h3 old new (g.F.Folder.folder_faults c.args.folder.now) (g.F.Folder.folder_faults c.move_first-moved.new.folder) c.args.place due c.move_first-moved.result
+    c.mark_stall.ensures.sound (keeps_marked h0 h1 _ c.mark_stall.ensures.rest) (keeps_marked h1 h2 _ c.move_first-moved.ensures.rest)
+    (due_marked h0 h1 c.args.place due c.mark_stall.ensures.stall (ap (λ (h : Hall). h.moment) c.mark_stall.ensures.rest) is) c.move_first-moved.ensures.stall
+    (λ s holds. c.mark_stall.ensures.stands old s holds) (λ s holds. c.settle_stall.ensures.stands new s holds) told)
+
+pub returns-clause-sound : goal.returns-clause-sound
+returns-clause-sound g c =
+    let h1 : Hall = c.mark_stall.new.self in
+    let h2 : Hall = c.move_first-moved.new.hall in
+    let at = c.move_first-moved.ensures.stall in
+    c.settle_stall.ensures.sound h1
+    (touches g.F.Folder.tells_files h1 h2 (g.F.Folder.files c.args.folder.now) (g.F.Folder.files c.move_first-moved.new.folder) (g.F.Folder.folder_faults c.args.folder.now) (g.F.Folder.folder_faults c.move_first-moved.new.folder) c.args.place c.move_first-moved.result c.mark_stall.ensures.sound at
+    c.move_first-moved.ensures.rest (is_marked c.args.hall.now h1 c.args.place.room c.args.place.stall c.mark_stall.ensures.stall at.room at.does.stall at.there at.does.there))
+
+pub returns-clause-files : goal.returns-clause-files
+returns-clause-files g c =
+    only_queues g.F.Folder.tells_files c.mark_stall.new.self c.move_first-moved.new.hall (g.F.Folder.files c.args.folder.now) (g.F.Folder.files c.move_first-moved.new.folder) (g.F.Folder.folder_faults c.args.folder.now) (g.F.Folder.folder_faults c.move_first-moved.new.folder) c.args.place
+    c.move_first-moved.result c.mark_stall.ensures.sound c.move_first-moved.ensures.stall

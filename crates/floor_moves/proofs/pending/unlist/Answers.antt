@@ -1,0 +1,32 @@
+use Rattle.std.proofs.Common.{false, length, refl, sym, ap, ◌∙◌}
+use Rattle.std.specs.Vec.{with_item}
+use Rattle.std.proofs.lemmas.Option.{slice_get_read}
+use Rattle.floor_rooms.specs.declared.hall.Hall.{Hall}
+use Rattle.floor_rooms.specs.Rooms.{topic_name}
+use Rattle.floor_moves.proofs.Unlisting.{rested_at, unlisted_is, unlisted_sound, unlisted_stands}
+use Rattle.floor_moves.proofs.pending.unlist.Goals as goal
+
+pub returns-then-not-rests-clause-busy : goal.returns-then-not-rests-clause-busy
+returns-then-not-rests-clause-busy c = record {
+  room = c.index.result.now;
+  there = slice_get_read c.args.hall.now.rooms.items (length c.args.hall.now.rooms.items) c.in-Some.i c.index.result.now refl c.in-Some.ensures.stands.in_range c.index.ensures;
+  busy = sym c.if-not-rests.ensures;
+}
+
+pub returns-clause-sound : goal.returns-clause-sound
+returns-clause-sound c =
+    let h : Hall = c.args.hall.now in
+    let at = rested_at h.rooms.items c.in-Some.i c.index.result.now c.index_mut.result.now c.in-Some.ensures.stands.in_range c.index.ensures c.index_mut.ensures.value (sym c.if-not-rests.ensures) in
+    unlisted_sound h _ c.in-Some.i c.requires refl at
+
+pub returns-clause-stands : goal.returns-clause-stands
+returns-clause-stands c =
+    let h : Hall = c.args.hall.now in
+    let at = rested_at h.rooms.items c.in-Some.i c.index.result.now c.index_mut.result.now c.in-Some.ensures.stands.in_range c.index.ensures c.index_mut.ensures.value (sym c.if-not-rests.ensures) in
+    unlisted_stands h _ c.in-Some.i c.requires refl at
+
+pub returns-clause-none : goal.returns-clause-none
+returns-clause-none c = λ none.
+    let h : Hall = c.args.hall.now in
+    let at = rested_at h.rooms.items c.in-Some.i c.index.result.now c.index_mut.result.now c.in-Some.ensures.stands.in_range c.index.ensures c.index_mut.ensures.value (sym c.if-not-rests.ensures) in
+    unlisted_is h (record h { rooms = with_item h.rooms c.in-Some.i (record (c.index_mut.result.now) { listed = false }) }) c.in-Some.i c.requires refl at c.args.name (sym (c.in-Some.ensures.stands.is_key c.index_mut.result.now) ∙ ap topic_name (sym c.index_mut.ensures.value))

@@ -1,0 +1,5 @@
+pub mod Moves
+pub mod Due
+pub mod Moving
+pub mod Holding
+pub mod Pending

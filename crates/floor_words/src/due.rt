@@ -6,7 +6,7 @@ use floor_rooms::Hall;
 
 /// What a client that is ready for it is to be sent.
 #[derive(Clone, Copy, PartialEq, Eq)]
-pub enum Due {
+pub enum NextDue {
     /// Its channel was deleted.
     Dropped,
     /// It was silent for too long.
@@ -20,30 +20,30 @@ pub enum Due {
 }
 
 /// What is to be sent to this client at the hall's moment, as far as its channel's copies don't decide: the first that holds.
-pub fn next_due_to(hall: &Hall, client: &Client) -> Due
+pub fn next_due_to(hall: &Hall, client: &Client) -> NextDue
     requires { IsSound hall.now }
     ensures { IsDueTo hall.now client.now result }
 {
     if client.is_lost() {
-        return Due::Dropped;
+        return NextDue::Dropped;
     }
     if client.is_silent(hall.moment) {
-        return Due::Silent;
+        return NextDue::Silent;
     }
     if client.is_beat_due(hall.moment) {
-        return Due::Beat;
+        return NextDue::Beat;
     }
     if !client.is_subscribed() {
-        return Due::Nothing;
+        return NextDue::Nothing;
     }
     let Some(names) = client.channel() else {
-        return Due::Nothing;
+        return NextDue::Nothing;
     };
     let Some(i) = hall.room_place(names.0) else {
-        return Due::Nothing;
+        return NextDue::Nothing;
     };
     let Some(j) = hall.stall_place(i, names.1) else {
-        return Due::Nothing;
+        return NextDue::Nothing;
     };
-    Due::Message(i, j)
+    NextDue::Message(i, j)
 }

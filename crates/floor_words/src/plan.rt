@@ -6,7 +6,7 @@ ghost use Rattle.floor_rooms.specs.Sound.{IsSound};
 ghost use Rattle.floor_words.specs.Plans.{IsAllowedPlan, IsPlanOf, IsShortPlan, KnowsPlan, Serves, is_strange};
 
 use crate::asked::said_to;
-use crate::due::{Due, next_due_to};
+use crate::due::{NextDue, next_due_to};
 use crate::listed::names;
 use broker_history::{Act, Ask};
 use desk::Call;
@@ -150,11 +150,11 @@ fn plan_next(hall: &Hall, number: u64) -> Plan
 {
     let client = client_of(hall, number);
     match next_due_to(hall, client) {
-        Due::Dropped => plain(Act::Dropped),
-        Due::Silent => plain(Act::Silent),
-        Due::Beat => plain(Act::Beat),
-        Due::Nothing => plain(Act::Idle),
-        Due::Message(i, j) => Plan::Draw(i, j),
+        NextDue::Dropped => plain(Act::Dropped),
+        NextDue::Silent => plain(Act::Silent),
+        NextDue::Beat => plain(Act::Beat),
+        NextDue::Nothing => plain(Act::Idle),
+        NextDue::Message(i, j) => Plan::Draw(i, j),
     }
 }
 

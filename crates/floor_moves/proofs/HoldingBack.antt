@@ -179,7 +179,7 @@ module _ (tells : Bool) (place : Place) (id : List ℕ) (f0 f1 : Files) (n0 n1 :
           let entry : entry_at h1.moment act ≡ entry_at h0.moment (HeldBack (topic_name d.at.room) (channel_name d.at.does.stall) id) = ap (λ n. entry_at n act) moment ∙ ap (entry_at h0.moment) told_act in
           record {
             entry = (entry_at h0.moment (HeldBack (topic_name d.at.room) (channel_name d.at.does.stall) id), Done);
-            is = record { held = refl; now = refl };
+            is = record { held = refl; now = refl; done = refl };
             noted = noted_done tells_notes first mid last kept (entry_at h0.moment (HeldBack (topic_name d.at.room) (channel_name d.at.does.stall) id)) (subst (λ x. Noted tells_notes first mid last kept x Done) entry noted);
             step = λ told s holds.
                 let r = held_carries told end s holds in

@@ -41,7 +41,7 @@ use Rattle.floor_rooms.proofs.Sounding.{at_all}
 use Rattle.floor_moves.specs.declared.due.Place.{Place}
 use Rattle.floor_moves.specs.declared.moving.Due.{Due}
 use Rattle.floor_moves.specs.Due.{HasStall, HasStallAt}
-use Rattle.floor_moves.specs.Moves.{Keeps, OnlyQueueFiles, Notes, entry_at, sight}
+use Rattle.floor_moves.specs.Moves.{Keeps, OnlyQueueFiles, Notes, entry_at, sight, IsMade, IsKeptOff}
 use Rattle.floor_moves.specs.Moving.{act_of, is_done, IsFirstDue, IsDueAt, MovesStall, PutsDue, PutFails}
 use Rattle.floor_moves.proofs.Keeping.{rest_of, only_of_channel}
 use Rattle.floor_moves.proofs.Stepping.{Noted, noted_done, noted_fault, daemon, steps_to, rose_none, rose_one}
@@ -281,10 +281,10 @@ may_fault s at true topic channel id daemons due = (daemons, refl, due)
 may_fault s at false topic channel id daemons due = (daemons, refl, due)
 
 module _ (tells_notes tells_files : Bool) (h h' : Hall) (old new : Files) (before after : ℕ) (first mid last : History) (kept : Option Entry) (due : Due) (sound : IsSound h) (running : h.stopped ≡ false) (keeps : Keeps h h') (rises : before ≤ after) where
-  pub due_done : Noted tells_notes first mid last kept (entry_at h.moment (act_of due)) Done → (IsTrue tells_files → PutsDue h.moment (act_of due) h old h' new true) → Notes tells_notes tells_files (λ e. is_moved_at h.moment e ≡ true) (sight h first old before) (sight h' last new after)
+  pub due_done : Noted tells_notes first mid last kept (entry_at h.moment (act_of due)) Done → (IsTrue tells_files → PutsDue h.moment (act_of due) h old h' new true) → Notes tells_notes tells_files (IsMade h.moment (act_of due)) (sight h first old before) (sight h' last new after)
   due_done noted puts = record {
     entry = (entry_at h.moment (act_of due), Done);
-    is = moved_by h.moment due.flies due.topic due.channel due.id 0 Done;
+    is = record { moved = moved_by h.moment due.flies due.topic due.channel due.id 0 Done; of = refl; done = refl };
     noted = noted_done tells_notes first mid last kept (entry_at h.moment (act_of due)) noted;
     step = λ told s holds.
         let r = puts told s holds in
@@ -294,11 +294,11 @@ module _ (tells_notes tells_files : Bool) (h h' : Hall) (old new : Files) (befor
   }
 
   pub due_stuck : Noted tells_notes first mid last kept (entry_at h.moment (act_of due)) (Faulted 0) → (IsTrue tells_files → PutsDue h.moment (act_of due) h old h' new false) → Rose before after
-      → Notes tells_notes tells_files (λ e. is_stuck_at h.moment e ≡ true) (sight h first old before) (sight h' last new after) × (IsTrue tells_files → Rose before after)
+      → Notes tells_notes tells_files (IsKeptOff h.moment (act_of due)) (sight h first old before) (sight h' last new after) × Rose before after
   due_stuck noted puts rose = (
     record {
       entry = (entry_at h.moment (act_of due), Faulted 0);
-      is = stuck_by h.moment due.flies due.topic due.channel due.id 0;
+      is = record { stuck = stuck_by h.moment due.flies due.topic due.channel due.id 0; of = refl };
       noted = noted_fault tells_notes first mid last kept (entry_at h.moment (act_of due)) noted;
       step = λ told s holds.
           let r = puts told s holds in
@@ -306,5 +306,5 @@ module _ (tells_notes tells_files : Bool) (h h' : Hall) (old new : Files) (befor
       rose = λ told. rose_one before after rose;
       faults = rises;
     },
-    λ told. rose,
+    rose,
   )

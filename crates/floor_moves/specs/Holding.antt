@@ -2,6 +2,7 @@
 use Rattle.std.specs.Prelude.{◌≡◌, ℕ, ◌+◌, Bool, true, IsTrue, IsSome, List, Some, slice_get}
 use Rattle.nsq_outside.specs.Files.{Files}
 use Rattle.nsq_outside.specs.declared.journal.End.{End}
+use Rattle.nsq_outside.specs.declared.journal.End.TheVariants.{Done}
 use Rattle.v2_frame.specs.declared.message.Message.{Message}
 use Rattle.backlog.specs.Lists.{OnDisk}
 use Rattle.broker_history.specs.declared.entry.Act.{Act}
@@ -58,10 +59,11 @@ pub record UndoesHeld (a b : Stall) : Type 0 where
   pub rest : b.channel ≡ record a.channel { backlog = b.channel.backlog; drawn = Nothing }
   pub same : b ≡ record a { channel = b.channel }
 
--- the entry is of a move that is never due, at this moment
+-- the entry is of a move that is never due, at this moment, and it was made
 pub record IsHeldAt (at : ℕ) (e : Entry × End) : Type 0 where
   pub held : is_held e.0.act ≡ true
   pub now : e.0.at ≡ at
+  pub done : e.1 ≡ Done
 
 -- the act names the topic and the channel that stand there
 pub record IsActOf (place : Place) (id : List ℕ) (rooms : List Room) (act : Act) : Type 0 where

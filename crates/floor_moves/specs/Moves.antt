@@ -3,6 +3,7 @@ use Rattle.std.specs.Prelude.{◌≡◌, ◌≤◌, ℕ, ◌+◌, ◌-◌, ◌^�
 use Rattle.nsq_outside.specs.Causes.{Rose}
 use Rattle.nsq_outside.specs.Files.{Files}
 use Rattle.nsq_outside.specs.declared.journal.End.{End}
+use Rattle.nsq_outside.specs.declared.journal.End.TheVariants as end
 use Rattle.queue_image.specs.FileNames.{IsOwnFile, IsQueueName}
 use Rattle.broker_history.specs.declared.entry.Act.{Act}
 use Rattle.broker_history.specs.declared.entry.Entry.{Entry}
@@ -48,11 +49,22 @@ pub record Rests (tells_notes tells_files : Bool) (old new : Sight) : Type 0 whe
   pub same : IsTrue tells_files → (s : State) → HoldsFor old.hall old.files s → HoldsFor new.hall new.files s
   pub faults : old.faults ≤ new.faults
 
--- how a move ended: a due move of the hall's moment was made; or it got stuck at a disk fault; or nothing was done
-abbrev pub Moves : (tells_notes tells_files : Bool) → (old new : Sight) → Made → Type 0
-Moves tells_notes tells_files old new made.Done = Notes tells_notes tells_files (λ e. is_moved_at old.hall.moment e ≡ true) old new
-Moves tells_notes tells_files old new made.Stuck = Notes tells_notes tells_files (λ e. is_stuck_at old.hall.moment e ≡ true) old new × (IsTrue tells_files → Rose old.faults new.faults)
-Moves tells_notes tells_files old new made.Memory = Rests tells_notes tells_files old new
+-- the entry is this move of a moment, which was made
+pub record IsMade (at : ℕ) (move : Act) (e : Entry × End) : Type 0 where
+  pub moved : is_moved_at at e ≡ true
+  pub of : e.0.act ≡ move
+  pub done : e.1 ≡ end.Done
+
+-- the entry is this move of a moment, which a disk fault kept off
+pub record IsKeptOff (at : ℕ) (move : Act) (e : Entry × End) : Type 0 where
+  pub stuck : is_stuck_at at e ≡ true
+  pub of : e.0.act ≡ move
+
+-- how a move ended: it was made at the hall's moment; or a disk fault kept it off, and the count rose; or nothing was done
+abbrev pub Moves : (tells_notes tells_files : Bool) → (move : Act) → (old new : Sight) → Made → Type 0
+Moves tells_notes tells_files move old new made.Done = Notes tells_notes tells_files (IsMade old.hall.moment move) old new
+Moves tells_notes tells_files move old new made.Stuck = Notes tells_notes tells_files (IsKeptOff old.hall.moment move) old new × Rose old.faults new.faults
+Moves tells_notes tells_files move old new made.Memory = Rests tells_notes tells_files old new
 
 -- no file changed but those of queues
 abbrev pub OnlyQueueFiles : Files → Files → Type 0

@@ -18,7 +18,9 @@ use Rattle.floor_rooms.specs.Rooms.{channel_name, topic_name}
 use Rattle.floor_rooms.specs.Standing.{Carries, HoldsFor}
 use Rattle.floor_moves.specs.declared.due.Place.{Place}
 use Rattle.floor_moves.specs.declared.moving.Due.{Due}
+use Rattle.floor_moves.specs.declared.made.Made.{Made}
 use Rattle.floor_moves.specs.Due.{HasStallAt}
+use Rattle.floor_moves.specs.Moves.{Sight, Moves}
 
 -- the move of what is due
 abbrev pub act_of : Due → Act
@@ -33,6 +35,12 @@ pub record IsFirstDue (now : ℕ) (due : Due) (s : Stall) : Type 0 where
 pub record IsDueAt (h : Hall) (place : Place) (due : Due) : Type 0 where
   pub at : HasStallAt place.room place.stall (IsFirstDue h.moment due) h.rooms.items
   pub topic : due.topic ≡ topic_name at.room
+
+-- the move of what is due first at a place ended so
+pub record MovesFirst (tells_notes tells_files : Bool) (place : Place) (old new : Sight) (answer : Made) : Type 0 where
+  pub due : Due
+  pub first : IsDueAt old.hall place due
+  pub moves : Moves tells_notes tells_files (act_of due) old new answer
 
 -- what one call of `move_due` made of a channel, of the folder's files and of its count of faults
 pub record MovesStall (tells : Bool) (now : ℕ) (answer : Moved) (old new : Files) (before after : ℕ) (a b : Stall) : Type 0 where

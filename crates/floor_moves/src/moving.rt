@@ -3,8 +3,8 @@ ghost use Rattle.floor_rooms.specs.Changes.{AtStall};
 ghost use Rattle.floor_rooms.specs.Sound.{IsSound};
 ghost use Rattle.floor_moves.specs.declared.moving.Due.{Due as DueCopy};
 ghost use Rattle.floor_moves.specs.Due.{HasStallAt, IsDueNow};
-ghost use Rattle.floor_moves.specs.Moves.{sight, Keeps, Moves, OnlyQueueFiles};
-ghost use Rattle.floor_moves.specs.Moving.{act_of, is_done, IsDueAt, MovesStall, PutFails, PutsDue};
+ghost use Rattle.floor_moves.specs.Moves.{sight, Keeps, OnlyQueueFiles};
+ghost use Rattle.floor_moves.specs.Moving.{act_of, is_done, IsDueAt, MovesFirst, MovesStall, PutFails, PutsDue};
 
 use crate::noting::announce;
 use crate::{Made, Place};
@@ -43,7 +43,7 @@ pub fn move_due<F: Folder, J: Journal<Entry>, L: Ledger>(
     requires due { HasStallAt place.room place.stall (IsDueNow hall.old.moment) hall.old.rooms.items }
     requires calm { J.is_aside journal.old ≡ false }
     requires scratch { 16777242 ≤ length scratch.old }
-    ensures moves { Moves J.tells_notes F.tells_files (sight hall.old (J.notes journal.old) (F.files folder.old) (F.folder_faults folder.old)) (sight hall.new (J.notes journal.new) (F.files folder.new) (F.folder_faults folder.new)) result }
+    ensures moves { MovesFirst J.tells_notes F.tells_files place (sight hall.old (J.notes journal.old) (F.files folder.old) (F.folder_faults folder.old)) (sight hall.new (J.notes journal.new) (F.files folder.new) (F.folder_faults folder.new)) result }
     ensures sound { IsSound hall.new }
     ensures calm { J.is_aside journal.new ≡ false }
     ensures keeps { Keeps hall.old hall.new }

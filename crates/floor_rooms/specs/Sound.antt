@@ -1,7 +1,7 @@
 -- What a hall keeps, whatever is told of files and of entries. The conditions of the calls of topics and channels follow from it.
-use Rattle.std.specs.Prelude.{◌≡◌, ◌⊎◌, ◌<◌, ◌≤◌, ℕ, ◌+◌, ◌^◌, ◌==◌, ◌&&◌, ◌||◌, Bool, true, false, not, nat_eq, if◌then◌else◌, List, [], ◌∷◌, All, AllPairs, Contains, Option, Some, None, IfSome, IsSome, is_some, is_none}
+use Rattle.std.specs.Prelude.{◌≡◌, ◌<◌, ◌≤◌, ℕ, ◌^◌, ◌==◌, ◌&&◌, ◌||◌, Bool, true, false, not, nat_eq, if◌then◌else◌, List, [], ◌∷◌, All, AllPairs, Contains, Option, Some, None, IfSome, IsSome, is_some, is_none}
 use Rattle.std.specs.List.{list_any}
-use Rattle.nsq_base.specs.Name.{IsName, is_ephemeral}
+use Rattle.nsq_base.specs.Name.{IsName}
 use Rattle.nsq_base.specs.Names.{IsAscendingBy}
 use Rattle.nsq_base.specs.Options.{IsInRange}
 use Rattle.nsq_base.specs.declared.options.Options.{Options}

@@ -1,5 +1,5 @@
 -- Which states a hall stands for in a folder's files.
-use Rattle.std.specs.Prelude.{◌≡◌, ◌≤◌, ℕ, false, List, All, Option, None, IfSome}
+use Rattle.std.specs.Prelude.{◌≡◌, ◌≤◌, ℕ, false, List, All, None, IfSome}
 use Rattle.nsq_base.specs.Name.{IsName, is_ephemeral}
 use Rattle.nsq_outside.specs.Files.{Files}
 use Rattle.queue_image.specs.FileNames.{meta_file}

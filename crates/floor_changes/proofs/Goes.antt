@@ -6,7 +6,7 @@ use Rattle.std.specs.Global.{Vec}
 use Rattle.std.specs.Str.{bytes_eq}
 use Rattle.std.proofs.Math.Seq.{drop-append_seam, take-append_seam}
 use Rattle.std.proofs.lemmas.Bool.{false≢true}
-use Rattle.std.proofs.lemmas.List.{get_or-set_same, length-set, length-take-le, set_split, take-append-drop}
+use Rattle.std.proofs.lemmas.List.{drop-set-lt, get_or-set_same, length-set, length-take-le, set_split, take-append-drop, take-set}
 use Rattle.std.proofs.lemmas.List.Elements.{All-filter, All-nil, All-weaker, filter-append, filter_passes}
 use Rattle.std.proofs.lemmas.List.Kept.{AllPairs-filter}
 use Rattle.std.proofs.lemmas.Option.{get_or_from_slice_get, slice_get_within}
@@ -40,15 +40,17 @@ use Rattle.floor_rooms.specs.declared.stall.Stall.{Stall}
 use Rattle.floor_rooms.specs.declared.room.Room.{Room}
 use Rattle.floor_rooms.specs.declared.hall.Hall.{Hall}
 use Rattle.floor_rooms.specs.Rooms.{channel_name, stall_names, topic_name, room_in, stall_in, stall_at, without_room}
-use Rattle.floor_rooms.specs.Sound.{AreMembers, AsksForNone, HasItsChannel, IsRoomSound, IsSound, rests}
+use Rattle.floor_rooms.specs.Sound.{AreMembers, AsksForNone, HasItsChannel, IsPast, IsRoomSound, IsSound, rests}
 use Rattle.floor_rooms.specs.Standing.{HoldsFor, IsDurableChannel, IsDurableTopic, IsRoomOf}
-use Rattle.floor_rooms.specs.Changes.{AtRoom, OthersStay, TouchesRoom, marked}
+use Rattle.floor_rooms.specs.Changes.{AtRoom, KeepsRooms, OnlyQueueFiles, OthersStay, TouchesRoom, marked}
 use Rattle.floor_rooms.proofs.Placing.{at_place, found_at, standing_at}
 use Rattle.floor_rooms.proofs.Staying.{IsElsewhere, idle_stays, others_stay, room_named, room_stays, topic_is_no_channel}
 use Rattle.floor_rooms.proofs.Changing.{IsNamedRoom, apart_names, named_room}
-use Rattle.floor_rooms.proofs.Sounding.{KeepsRest, at_all, room_lowered, room_touched, sound_at_room}
+use Rattle.floor_rooms.proofs.Sounding.{KeepsRest, all_past, at_all, room_lowered, room_past, room_touched, sound_at_room}
 use Rattle.floor_rooms.proofs.Holding.{StaysElse}
 use Rattle.floor_rooms.proofs.Marked.{IsElse, MarksRoom, else_keeps, else_stays}
+use Rattle.floor_rooms.proofs.Dating.{keeps_at_room, keeps_marks_room, keeps_room_alike, keeps_then, since_equal}
+use Rattle.floor_rooms.proofs.Filing.{only_of_topic}
 use Rattle.floor_rooms.proofs.Orders.{room_as_before}
 use Rattle.floor_rooms.proofs.Turning.{room_change}
 
@@ -129,6 +131,7 @@ module _ (h h' : Hall) (i : ℕ) (room : Room) (sound : IsSound h) (at : slice_g
             (λ c has. if_some_weaker (λ (route : Route). IsSome (stall_at h.rooms.items route.topic route.channel)) (λ (route : Route). IsSome (stall_at h'.rooms.items route.topic route.channel)) (held_channel c.phase c.route)
             (λ route there. still_there route.topic route.channel there) has) h.clients.items sound.channels);
         ready = subst (All AsksForNone) (sym keeps.clients) sound.ready;
+        past = subst (All (IsPast h'.moment)) (sym left_rooms) (All-filter p (IsPast h'.moment) h.rooms.items (all_past h h' keeps.later sound));
       }
 
   module _ (old new : Files) (s : State) (rest : StaysElse h h') (others : OthersStay (topic_name room) old new) (idle : is_ephemeral (topic_name room) ≡ false → IsIdle (new (meta_file (topic_name room)))) (holds : HoldsFor h old s) where
@@ -144,7 +147,7 @@ module _ (h h' : Hall) (i : ℕ) (room : Room) (sound : IsSound h) (at : slice_g
           | inl same ↦
               let is : topic_name room ≡ name = exact_bytes (topic_name room) name same in
               subst (λ n. IsIdle (new (meta_file n))) is (idle (ap is_ephemeral is ∙ named.1))
-          | inr other ↦ idle_stays old new (topic_name room) name others (apart_names (topic_name room) name other.0) (holds.idle name named other.1)
+          | inr other ↦ idle_stays old new (topic_name room) name others (apart_names (topic_name room) name other.0) (holds.idle.topics name named other.1)
         ]
 
     channels_left : (topic channel : List ℕ) → IsName topic → IsDurableChannel topic channel → stall_at h'.rooms.items topic channel ≡ None → IsIdle (new (meta_file (queue_name topic channel)))
@@ -156,26 +159,30 @@ module _ (h h' : Hall) (i : ℕ) (room : Room) (sound : IsSound h) (at : slice_g
           | inr other ↦ other.1
         ] in
         idle_stays old new (topic_name room) (queue_name topic channel) others
-        (λ e. topic_is_no_channel (topic_name room) topic channel (at_all (IsRoomSound h) h.rooms.items i room sound.rooms at).named (sym e)) (holds.idle_channels topic channel nt nc before)
+        (λ e. topic_is_no_channel (topic_name room) topic channel (at_all (IsRoomSound h) h.rooms.items i room sound.rooms at).named (sym e)) (holds.idle.channels topic channel nt nc before)
 
     pub left_stands : HoldsFor h' new (without_topic s (topic_name room))
     left_stands =
-        let earlier = holds.moment in
+        let earlier = holds.stands.moment in
         let later = rest.moment in
         let Both : Room → Topic → Type 0 = λ a t. IsNamedRoom a × IsRoomOf old a t in
         let all : Pairwise Both h.rooms.items s.topics =
-        pairs_become (IsRoomOf old) Both IsNamedRoom h.rooms.items s.topics (λ a t n r. (n, r)) (All-weaker (IsRoomSound h) IsNamedRoom (named_room h) h.rooms.items sound.rooms) holds.topics in
+        pairs_become (IsRoomOf old) Both IsNamedRoom h.rooms.items s.topics (λ a t n r. (n, r)) (All-weaker (IsRoomSound h) IsNamedRoom (named_room h) h.rooms.items sound.rooms) holds.stands.topics in
         record {
-          options = holds.options ∙ sym rest.options;
-          epoch = holds.epoch ∙ sym rest.epoch;
-          ids_used = holds.ids_used ∙ sym rest.ids_used;
-          moment = omega (arith, earlier, later);
-          stopped = holds.stopped ∙ sym rest.stopped;
-          clients = holds.clients ∙ sym rest.clients;
-          topics = subst (λ xs. Pairwise (IsRoomOf new) xs (without_topic s (topic_name room)).topics) (sym left_rooms)
-              (pairs_gone topic_name (λ (t : Topic). t.name) Both (IsRoomOf new) (topic_name room) h.rooms.items s.topics (λ a t x. room_named old a t x.1) room_left all);
-          idle = idle_left;
-          idle_channels = channels_left;
+          stands = record {
+            options = holds.stands.options ∙ sym rest.options;
+            epoch = holds.stands.epoch ∙ sym rest.epoch;
+            ids_used = holds.stands.ids_used ∙ sym rest.ids_used;
+            moment = omega (arith, earlier, later);
+            stopped = holds.stands.stopped ∙ sym rest.stopped;
+            clients = holds.stands.clients ∙ sym rest.clients;
+            topics = subst (λ xs. Pairwise (IsRoomOf new) xs (without_topic s (topic_name room)).topics) (sym left_rooms)
+                (pairs_gone topic_name (λ (t : Topic). t.name) Both (IsRoomOf new) (topic_name room) h.rooms.items s.topics (λ a t x. room_named old a t x.1) room_left all);
+          };
+          idle = record {
+            topics = idle_left;
+            channels = channels_left;
+          };
         }
 
 -- an item that went and is put back at its place is set there
@@ -200,9 +207,9 @@ keeps_rooms h rooms unsaved sound = else_keeps h (record h { rooms = rooms; unsa
 
 -- a queue whose deletion is done begins with nothing
 forgotten_idle : (queue : Option Queue) (e : Bool) (name : List ℕ) (files : Files) → is_some queue ≡ not e → e ≡ false → IfSome queue (λ q. q.name ≡ name) → DeleteFinds queue files IsGone → IsIdle (files (meta_file name))
-forgotten_idle None true name files some durable is found = absurd (false≢true (sym durable))
-forgotten_idle None false name files some durable is found = absurd (false≢true some)
-forgotten_idle (Some q) e name files some durable is found = subst (λ n. IsIdle (files (meta_file n))) is found.idle
+forgotten_idle None true name files some durable is finds = absurd (false≢true (sym durable))
+forgotten_idle None false name files some durable is finds = absurd (false≢true some)
+forgotten_idle (Some q) e name files some durable is finds = subst (λ n. IsIdle (files (meta_file n))) is finds.idle
 
 -- one that could not be deleted has the same name and as many records
 same_kept : (q r : Option Queue) → EmptyQueueSeen q r emptying.Fault → SameQueue q r
@@ -254,6 +261,20 @@ module _ (h0 h1 : Hall) (i : ℕ) (room : Room) (sound : IsSound h1) (range : i 
   pub marked_idle : (new : Files) → DeleteFinds room.queue.backlog.queue new IsGone → is_ephemeral (topic_name room) ≡ false → IsIdle (new (meta_file (topic_name room)))
   marked_idle new found durable = forgotten_idle room.queue.backlog.queue (is_ephemeral (topic_name room)) (topic_name room) new room_sound.backlog.durable durable room_sound.backlog.queue found
 
+  -- only its mark changed before it went
+  pub marked_keeps : KeepsRooms h0.moment h0.rooms.items h1.rooms.items
+  marked_keeps = keeps_marks_room h0.moment i h0.rooms.items h1.rooms.items at
+
+  pub marked_gone : IsSound h0 → (xs : List Room) → xs ≡ take i h1.rooms.items ++ drop (suc i) h1.rooms.items → (d : Room) → xs ≡ without_room h0.rooms.items (topic_name (get_or h0.rooms.items i d))
+  marked_gone sound0 xs e d =
+      let same : get_or h0.rooms.items i d ≡ at.room = get_or_from_slice_get h0.rooms.items i at.room d at.there in
+      e ∙ ap (λ (zs : List Room). take i zs ++ drop (suc i) zs) at.is ∙ ap (λ (zs : List Room). zs ++ drop (suc i) (set h0.rooms.items i at.after)) (take-set h0.rooms.items i at.after)
+      ∙ ap (λ (zs : List Room). take i h0.rooms.items ++ zs) (drop-set-lt (suc i) h0.rooms.items i at.after (omega arith))
+      ∙ gone_standing topic_name h0.rooms.items (topic_name at.room) i at.room (standing_at topic_name h0.rooms.items i at.room sound0.room_order at.there) ∙ ap (λ (r : Room). without_room h0.rooms.items (topic_name r)) (sym same)
+
+  pub marked_only : (old new : Files) → DiskChanges room.queue.backlog.queue old new → OnlyQueueFiles old new
+  marked_only old new change = only_of_topic (topic_name room) room.queue.backlog.queue old new room_sound.named room_sound.backlog.queue change
+
   module _ (h2 : Hall) (rest : IsElse h1 h2) (back : AtRoom i KeepsBack h1.rooms.items h2.rooms.items) where
     back_is : back.room ≡ room
     back_is = sym (get_or_from_slice_get h1.rooms.items i back.room room back.there) ∙ get_or_from_slice_get h1.rooms.items i room room marked_at
@@ -294,9 +315,16 @@ module _ (h0 h1 : Hall) (i : ℕ) (room : Room) (sound : IsSound h1) (range : i 
       rests = λ l. back_rests ∙ back_room.rests (sym (ap (λ (r : Room). r.listed) back.does.0) ∙ l);
     }
 
+    pub back_keeps : KeepsRooms h0.moment h0.rooms.items h2.rooms.items
+    back_keeps =
+        keeps_then h0.moment h0.rooms.items h1.rooms.items h2.rooms.items marked_keeps
+        (keeps_at_room h0.moment i KeepsBack h1.rooms.items h2.rooms.items back
+        (keeps_room_alike h0.moment back.room back.after back_name (ap (λ (q : TopicSeen). q.paused) seen_queue) (since_equal h0.moment back.room.since back.after.since (ap (λ (r : Room). r.since) back.does.0)) (ap (λ (r : Room). r.stalls.items) back.does.0)))
+
     pub back_sound : KeepsRest h1 h2 → IsSound h2
     back_sound keeps =
         sound_at_room h1 h2 i KeepsBack sound keeps back back_name (ap (λ (r : Room). r.stalls.items) back.does.0) (room_touched h1 h2 back.room back.after keeps.lowers back_room back_touches)
+        (subst (λ o. IfSome o (λ m. m ≤ h2.moment)) (sym (ap (λ (r : Room). r.since) back.does.0)) (room_past h1 h2 i KeepsBack sound keeps.later back))
 
     pub back_stands : (old new : Files) (s : State) → DiskChanges room.queue.backlog.queue old new → ((t : Topic) → IsTopicOf back.room.queue old t → IsTopicOf back.after.queue new t) → (Stands back.room.queue.backlog.queue old → Stands back.after.queue.backlog.queue new) → HoldsFor h1 old s → HoldsFor h2 new s
     back_stands old new s change topic stands holds =

@@ -1,6 +1,8 @@
 -- What changes of a hall as one of its topics or of its channels does.
-use Rattle.std.specs.Prelude.{◌≡◌, ◌≢◌, ◌⊎◌, ◌≤◌, ℕ, Bool, true, false, List, ◌∷◌, [], ◌++◌, All, if◌then◌else◌, Option, Some, None, IfSome, IsSome, slice_get, slice_set}
+use Rattle.std.specs.Prelude.{◌≡◌, ◌≢◌, ◌⊎◌, ◌≤◌, ℕ, Bool, true, false, List, ◌∷◌, [], ◌++◌, All, if◌then◌else◌, Option, Some, None, IfSome, IsSome, slice_get, slice_set, option_and_then}
 use Rattle.nsq_outside.specs.Files.{Files}
+use Rattle.queue_image.specs.FileNames.{IsOwnFile, IsQueueName}
+use Rattle.history.specs.Found.{Pairwise}
 use Rattle.backlog.specs.Seen.{SameQueue}
 use Rattle.topic_core.specs.Laws.{OwnFilesStay}
 use Rattle.topic_core.specs.Seen.{IsSettled, owed_of}
@@ -10,7 +12,7 @@ use Rattle.channel_core.specs.declared.drawn.Drawn.TheVariants.{Nothing}
 use Rattle.floor_rooms.specs.declared.stall.Stall.{Stall}
 use Rattle.floor_rooms.specs.declared.room.Room.{Room}
 use Rattle.floor_rooms.specs.declared.hall.Hall.{Hall}
-use Rattle.floor_rooms.specs.Rooms.{channel_name, topic_name, stall_names, room_in, stall_in, put_room, put_stall}
+use Rattle.floor_rooms.specs.Rooms.{channel_name, topic_name, stall_names, room_in, stall_in, stall_at, put_room, put_stall}
 use Rattle.floor_rooms.specs.Sound.{IsSound, rests}
 
 -- the files of all queues but the one of this name are as they were
@@ -96,3 +98,42 @@ pub record Touches (i j : ℕ) (old new : Hall) : Type 0 where
 -- the names of topics that may have something to do, with this one at the end unless it is among them already
 abbrev pub listed_with : List (List ℕ) → (listed : Bool) → (name : List ℕ) → List (List ℕ)
 listed_with pending listed name = if listed then pending else pending ++ name ∷ []
+
+-- since when a queue may be unsaved: a mark stays, and one that is new is of this moment
+abbrev pub SinceStays : (at : ℕ) → Option ℕ → Option ℕ → Type 0
+SinceStays at (Some moment) since = since ≡ Some moment
+SinceStays at None since = IfSome since (λ moment. moment ≡ at)
+
+-- what a move leaves of a channel: what options and names made it, its pause, its clients' numbers and its mark
+pub record KeepsStall (at : ℕ) (old new : Stall) : Type 0 where
+  pub about : new.channel.about ≡ old.channel.about
+  pub paused : new.channel.paused ≡ old.channel.paused
+  pub members : new.members.items ≡ old.members.items
+  pub since : SinceStays at old.since new.since
+
+-- and of a topic with its channels, which stay at their places
+pub record KeepsRoom (at : ℕ) (old new : Room) : Type 0 where
+  pub name : topic_name new ≡ topic_name old
+  pub paused : new.queue.paused ≡ old.queue.paused
+  pub since : SinceStays at old.since new.since
+  pub stalls : Pairwise (KeepsStall at) old.stalls.items new.stalls.items
+
+-- and of all topics, which stay at their places
+abbrev pub KeepsRooms : (at : ℕ) → (old new : List Room) → Type 0
+KeepsRooms at old new = Pairwise (KeepsRoom at) old new
+
+-- since when a topic's queue, and a channel's, may be unsaved, where it is there
+abbrev pub room_since : List Room → (topic : List ℕ) → Option ℕ
+room_since rooms topic = option_and_then (λ (r : Room). r.since) (room_in rooms topic)
+
+abbrev pub stall_since : List Room → (topic channel : List ℕ) → Option ℕ
+stall_since rooms topic channel = option_and_then (λ (s : Stall). s.since) (stall_at rooms topic channel)
+
+-- no mark of a queue that is there begins anew, whatever topics and channels come and go
+pub record KeepsSince (at : ℕ) (old new : List Room) : Type 0 where
+  pub topics : (topic : List ℕ) → IfSome (room_in new topic) (λ r. SinceStays at (room_since old topic) r.since)
+  pub channels : (topic channel : List ℕ) → IfSome (stall_at new topic channel) (λ s. SinceStays at (stall_since old topic channel) s.since)
+
+-- no file changed but those of queues
+abbrev pub OnlyQueueFiles : Files → Files → Type 0
+OnlyQueueFiles old new = (file : List ℕ) → ((name : List ℕ) → IsQueueName name → IsOwnFile name file → ⊥) → new file ≡ old file

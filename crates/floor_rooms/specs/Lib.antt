@@ -5,3 +5,4 @@ pub mod Standing
 pub mod Changes
 pub mod Made
 pub mod RoomChanges
+pub mod Kept

@@ -1,10 +1,11 @@
 -- Topics that rest are listed no more: the hall is as sound, and stands for the same.
-use Rattle.std.proofs.Common.{◌≡◌, ◌≢◌, ◌<◌, ℕ, suc, zero, set, true, false, if◌then◌else◌, List, ◌∷◌, length, get_or, Some, refl, sym, ap, subst, ◌∙◌, arith}
+use Rattle.std.proofs.Common.{◌≡◌, ◌≢◌, ◌<◌, ◌≤◌, ℕ, suc, zero, set, true, false, if◌then◌else◌, List, ◌∷◌, length, get_or, Some, refl, sym, ap, subst, ◌∙◌, arith}
 use Rattle.std.specs.Prelude.{IfSome}
 use Rattle.std.specs.List.{Contains}
 use Rattle.std.proofs.lemmas.Bool.{false≢true}
 use Rattle.std.proofs.lemmas.Option.{slice_get_read, slice_get-get_or}
 use Rattle.nsq_outside.specs.Files.{Files}
+use Rattle.history.specs.Found.{Pairwise}
 use Rattle.broker_history.specs.State.{State}
 use Rattle.floor_rooms.specs.declared.room.Room.{Room}
 use Rattle.floor_rooms.specs.declared.hall.Hall.{Hall}
@@ -14,10 +15,14 @@ use Rattle.floor_rooms.specs.Standing.{HoldsFor}
 use Rattle.floor_rooms.specs.Changes.{AtRoom}
 use Rattle.floor_rooms.proofs.Placing.{found_at, put_at}
 use Rattle.broker_history.proofs.Lists.{find_put, same_bytes}
-use Rattle.floor_rooms.proofs.Sounding.{KeepsRest, at_all, room_lowered, sound_at_room}
+use Rattle.floor_rooms.proofs.Sounding.{KeepsRest, at_all, room_lowered, room_past, sound_at_room}
 use Rattle.floor_rooms.proofs.Holding.{holds_at_room, holds_same, room_alike}
-use Rattle.floor_moves.specs.Pending.{IsUnlisted, Unlists}
+use Rattle.floor_moves.specs.Pending.{IsRelisted, IsUnlisted, Unlists}
 use Rattle.floor_moves.proofs.PuttingBack.{some_same}
+use Rattle.floor_moves.proofs.Keeping.{keeps_from}
+use Rattle.floor_rooms.proofs.Dating.{pairs_one, pairs_then}
+use Rattle.floor_moves.proofs.Remaining.{relisted_keep, relisted_on, relisted_same}
+use Rattle.floor_moves.specs.Moves.{Keeps}
 
 abbrev pub Rested : Room → Room → Type 0
 Rested a b = (b ≡ record a { listed = false }) × (rests a ≡ true)
@@ -30,6 +35,7 @@ module _ (h h' : Hall) (i : ℕ) (sound : IsSound h) (rest : h' ≡ record h { r
     epoch = ap (λ (x : Hall). x.epoch) rest;
     ids_used = ap (λ (x : Hall). x.ids_used) rest;
     moment = omega (arith, moment, same);
+    later = omega (arith, same);
     clients = ap (λ (x : Hall). x.clients.items) rest;
   }
 
@@ -58,7 +64,8 @@ module _ (h h' : Hall) (i : ℕ) (sound : IsSound h) (rest : h' ≡ record h { r
       room_lowered h h' at.after keeps.lowers (subst (IsRoomSound h) (sym at.does.0) now)
 
   pub unlisted_sound : IsSound h'
-  unlisted_sound = sound_at_room h h' i Rested sound keeps at same_name same_stalls room_now
+  unlisted_sound =
+      sound_at_room h h' i Rested sound keeps at same_name same_stalls room_now (subst (λ o. IfSome o (λ m. m ≤ h'.moment)) (sym (ap (λ (r : Room). r.since) at.does.0)) (room_past h h' i Rested sound keeps.later at))
 
   pub unlisted_stands : (files : Files) (s : State) → HoldsFor h files s → HoldsFor h' files s
   unlisted_stands files s holds =
@@ -129,6 +136,7 @@ module _ (h h' : Hall) (name : List ℕ) (more : List (List ℕ)) (sound : IsSou
     members = sound.members;
     channels = sound.channels;
     ready = sound.ready;
+    past = sound.past;
   }
 
 -- where a hall's own list is another's
@@ -145,9 +153,11 @@ with_pending h h' files s rest holds =
     }) (ap (λ (x : Hall). x.rooms.items) rest) holds
 
 -- one more name went
-pub unlists_on : (h h1 h2 h3 : Hall) → Unlists h h1 → h2 ≡ record h1 { rooms = h2.rooms } → h3 ≡ record h2 { pending = h3.pending } → IsSound h3 → ((files : Files) (s : State) → HoldsFor h1 files s → HoldsFor h3 files s) → Unlists h h3
-unlists_on h h1 h2 h3 a r2 r3 sound stands = record {
+pub unlists_on : (h h1 h2 h3 : Hall) → Unlists h h1 → h2 ≡ record h1 { rooms = h2.rooms } → Pairwise IsRelisted h1.rooms.items h2.rooms.items → h3 ≡ record h2 { pending = h3.pending } → IsSound h3 → ((files : Files) (s : State) → HoldsFor h1 files s → HoldsFor h3 files s)
+    → Unlists h h3
+unlists_on h h1 h2 h3 a r2 rooms r3 sound stands = record {
   sound = sound;
+  rooms = pairs_then IsRelisted relisted_on h.rooms.items h1.rooms.items h3.rooms.items a.rooms (subst (λ (x : Hall). Pairwise IsRelisted h1.rooms.items x.rooms.items) (sym r3) rooms);
   rest = r3 ∙ ap (λ (x : Hall). record x { pending = h3.pending }) r2 ∙ ap (λ (x : Hall). record x { rooms = h2.rooms; pending = h3.pending }) a.rest ∙ ap (λ rooms. record h { rooms = rooms; pending = h3.pending }) (sym (ap (λ (x : Hall). x.rooms) r3));
   stands = λ files s holds. stands files s (a.stands files s holds);
 }
@@ -161,3 +171,19 @@ rested_at rooms i read room within r e idle = record {
   is = refl;
   does = (refl, subst (λ (x : Room). rests x ≡ true) (some_same read room (sym (slice_get_read rooms (length rooms) i read refl within r) ∙ slice_get_read rooms (length rooms) i room refl within e)) idle);
 }
+
+-- no name went yet
+pub unlists_same : (h : Hall) → IsSound h → Unlists h h
+unlists_same h sound = record { sound = sound; rest = refl; rooms = relisted_same h.rooms.items; stands = λ files s holds. holds }
+
+-- one more topic was found to be listed or not
+pub unlists_more : (h h1 h2 : Hall) → Unlists h h1 → h2 ≡ record h1 { rooms = h2.rooms } → Pairwise IsRelisted h1.rooms.items h2.rooms.items → IsSound h2 → ((files : Files) (s : State) → HoldsFor h1 files s → HoldsFor h2 files s) → Unlists h h2
+unlists_more h h1 h2 a r2 rooms sound stands = unlists_on h h1 h2 h2 a r2 rooms refl sound stands
+
+-- that topic alone
+pub rested_alone : (old new : List Room) (i : ℕ) → AtRoom i Rested old new → Pairwise IsRelisted old new
+rested_alone old new i x = subst (Pairwise IsRelisted old) (sym x.is) (pairs_one IsRelisted (λ r. refl) old i x.room x.after x.there (subst (IsRelisted x.room) (sym x.does.0) refl))
+
+-- what that leaves of a hall
+pub unlists_keep : (h h' : Hall) → Unlists h h' → Keeps h h'
+unlists_keep h h' u = keeps_from h h' u.rest (relisted_keep h.moment h.rooms.items h'.rooms.items u.rooms)

@@ -89,8 +89,8 @@ pub fn identify(hall: &mut Hall, k: usize, identity: Identity)
     ensures sound { IsSound hall.new }
     ensures told { (files : Files) (body : List ℕ) → identity_of hall.old.options body ≡ Some (said identity) → DoesAt k (Identify body) false hall.old files hall.new files }
 {
-    speak(hall, k);
     let at = hall.moment;
+    speak(hall, k);
     let Identity {
         client_id,
         hostname,

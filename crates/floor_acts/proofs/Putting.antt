@@ -56,21 +56,22 @@ found_at_place cs k c up l e = (stands_at cs k c up l e).found c ∙ ap Some (sy
 -- with other clients the hall stands for the states that have those
 pub holds_clients : (h : Hall) (clients : Vec Client) (files : Files) (s : State) → HoldsFor h files s → HoldsFor (record h { clients = clients }) files (record s { clients = clients.items })
 holds_clients h clients files s holds = record {
-  options = holds.options;
-  epoch = holds.epoch;
-  ids_used = holds.ids_used;
-  moment = holds.moment;
-  stopped = holds.stopped;
-  clients = refl;
-  topics = holds.topics;
-  idle = holds.idle;
-  idle_channels = holds.idle_channels;
+  stands = record {
+    options = holds.stands.options;
+    epoch = holds.stands.epoch;
+    ids_used = holds.stands.ids_used;
+    moment = holds.stands.moment;
+    stopped = holds.stands.stopped;
+    clients = refl;
+    topics = holds.stands.topics;
+  };
+  idle = record { topics = holds.idle.topics; channels = holds.idle.channels };
 }
 
 pub carries_client : (h h' : Hall) (k : ℕ) (c d : Client) → IsSound h → k < length h.clients.items → c ≡ get_or h.clients.items k c → d.number ≡ c.number → h' ≡ record h { clients = h'.clients } → h'.clients.items ≡ set h.clients.items k d → (files : Files)
     → Carries h files h' files (λ s t. t ≡ with_client s d)
 carries_client h h' k c d sound l e same rest put files = λ s holds.
-    let whole : h'.clients.items ≡ put_client s.clients d = put ∙ put_at_place h.clients.items k c d sound.client_order l e same ∙ ap (λ xs. put_client xs d) (sym holds.clients) in (
+    let whole : h'.clients.items ≡ put_client s.clients d = put ∙ put_at_place h.clients.items k c d sound.client_order l e same ∙ ap (λ xs. put_client xs d) (sym holds.stands.clients) in (
       with_client s d,
       refl,
       subst (λ (x : Hall). HoldsFor x files (with_client s d)) (sym rest)
@@ -100,6 +101,7 @@ sound_clients h h' sound rest up members channels ready =
           }) r.stalls.items all) h.rooms.items sound.members;
       channels = channels;
       ready = ready;
+      past = sound.past;
     })
 
 -- a client that is the same to its channel as another one of its number
@@ -141,7 +143,7 @@ carries_found h h' k f x y sound l e is same rest put files =
     holds_read (λ c. Carries h files h' files (λ s t. t ≡ at_client f s c.number)) h.clients.items k x l e
     (λ s holds.
     let r = carries_client h h' k x (f x) sound l e same rest (put ∙ ap (set h.clients.items k) is) files s holds in
-    (r.0, r.1 ∙ sym (ap (changed_client f s) (ap (λ cs. client_in cs x.number) holds.clients ∙ found_at_place h.clients.items k x sound.client_order l e)), r.2))
+    (r.0, r.1 ∙ sym (ap (changed_client f s) (ap (λ cs. client_in cs x.number) holds.stands.clients ∙ found_at_place h.clients.items k x sound.client_order l e)), r.2))
 
 -- a client that is read behind a change, and what a second change makes of all
 pub changed_length : (f : Client → Client) (k : ℕ) (old new : List Client) → k < length old → ChangesAt k f old new → length new ≡ length old
@@ -199,7 +201,7 @@ on_none : (r : Option Route) (topic channel : List ℕ) → r ≡ None → is_on
 on_none None topic channel e = refl
 on_none (Some route) topic channel e = absurd (let no : ⊥ = cc in no)
 
-none_held : (p : Phase) (r : Option Route) (topic channel : List ℕ) → held_channel p r ≡ None → (not (is_lost p) && is_on r topic channel) ≡ false
+pub none_held : (p : Phase) (r : Option Route) (topic channel : List ℕ) → held_channel p r ≡ None → (not (is_lost p) && is_on r topic channel) ≡ false
 none_held Fresh r topic channel e = on_none r topic channel e
 none_held Subscribed r topic channel e = on_none r topic channel e
 none_held Closing r topic channel e = on_none r topic channel e
@@ -223,7 +225,7 @@ identifies h h' k i body files is carries =
     λ d s holds.
     let c : Client = get_or h.clients.items k d in
     let r = carries d s holds in
-    (r.0, r.1 ∙ sym (ap (with_identity (with_client s (spoke h.moment c)) h.moment (spoke h.moment c)) (ap (λ o. identity_of o body) holds.options ∙ is)), r.2)
+    (r.0, r.1 ∙ sym (ap (with_identity (with_client s (spoke h.moment c)) h.moment (spoke h.moment c)) (ap (λ o. identity_of o body) holds.stands.options ∙ is)), r.2)
 
 -- a client begins
 pub none_stands : (cs : List Client) (n i : ℕ) → StandsAt cs n i → client_in cs n ≡ None → ⊥
@@ -255,20 +257,21 @@ pub carries_begun : (h h' : Hall) (number : ℕ) (files : Files) → h' ≡ reco
 carries_begun h h' number files rest whole =
     λ s holds.
     let put : h'.clients.items ≡ put_client s.clients (new_client s.options h.moment number) =
-    whole ∙ ap (λ xs. put_client xs (new_client h.options h.moment number)) (sym holds.clients) ∙ ap (λ o. put_client s.clients (new_client o h.moment number)) (sym holds.options) in
+    whole ∙ ap (λ xs. put_client xs (new_client h.options h.moment number)) (sym holds.stands.clients) ∙ ap (λ o. put_client s.clients (new_client o h.moment number)) (sym holds.stands.options) in
     let now : HoldsFor (record h { clients = h'.clients }) files (record s { clients = put_client s.clients (new_client s.options h.moment number) }) =
     subst (λ xs. HoldsFor (record h { clients = h'.clients }) files (record s { clients = xs })) put (holds_clients h h'.clients files s holds) in
     (begun s h.moment number, refl, subst (λ (x : Hall). HoldsFor x files (begun s h.moment number)) (sym rest) (holds_began (record h { clients = h'.clients }) files _ (s.began ++ number ∷ []) now))
   where
     holds_began : (g : Hall) (files : Files) (s : State) (began : List ℕ) → HoldsFor g files s → HoldsFor g files (record s { began = began })
     holds_began g files s began holds = record {
-      options = holds.options;
-      epoch = holds.epoch;
-      ids_used = holds.ids_used;
-      moment = holds.moment;
-      stopped = holds.stopped;
-      clients = holds.clients;
-      topics = holds.topics;
+      stands = record {
+        options = holds.stands.options;
+        epoch = holds.stands.epoch;
+        ids_used = holds.stands.ids_used;
+        moment = holds.stands.moment;
+        stopped = holds.stands.stopped;
+        clients = holds.stands.clients;
+        topics = holds.stands.topics;
+      };
       idle = holds.idle;
-      idle_channels = holds.idle_channels;
     }

@@ -31,11 +31,11 @@ pub fn finish<L: Ledger>(hall: &mut Hall, k: usize, id: MsgId, steps: &mut Steps
     ensures told { (files : Files) → DoesAt k (Fin id) false hall.old files hall.new files }
     ensures keeps { KeepsRooms hall.old.moment hall.old.rooms.items hall.new.rooms.items }
 {
+    let number = hall.clients[k].number();
     let Some(spot) = spot_of(hall, k) else {
         unreachable!()
     };
     speak(hall, k);
-    let number = hall.clients[k].number();
     finish_at(hall, spot, number, id, steps);
     hall.settle_stall(spot.room, spot.stall);
     hall.clients[k].finish();
@@ -52,11 +52,11 @@ pub fn touch<L: Ledger>(hall: &mut Hall, k: usize, id: MsgId, steps: &mut Steps<
     ensures told { (files : Files) → DoesAt k (Touch id) false hall.old files hall.new files }
     ensures keeps { KeepsRooms hall.old.moment hall.old.rooms.items hall.new.rooms.items }
 {
+    let number = hall.clients[k].number();
     let Some(spot) = spot_of(hall, k) else {
         unreachable!()
     };
     speak(hall, k);
-    let number = hall.clients[k].number();
     touch_at(hall, spot, number, id, steps);
     hall.settle_stall(spot.room, spot.stall);
 }
@@ -87,11 +87,11 @@ pub fn requeue<F: Folder, L: Ledger>(
     ensures faults { F.folder_faults folder.old ≤ F.folder_faults folder.new }
     ensures cause { RequeueFails delay (F.folder_faults folder.old) (F.folder_faults folder.new) result }
 {
+    let number = hall.clients[k].number();
     let Some(spot) = spot_of(hall, k) else {
         unreachable!()
     };
     speak(hall, k);
-    let number = hall.clients[k].number();
     hall.mark_stall(spot.room, spot.stall);
     let answer = give_back_at(hall, spot, number, id, delay, folder, scratch, steps);
     hall.settle_stall(spot.room, spot.stall);

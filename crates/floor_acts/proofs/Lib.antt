@@ -1,0 +1,4 @@
+pub mod Putting
+pub mod Finding
+pub mod Flying
+pub mod Acting

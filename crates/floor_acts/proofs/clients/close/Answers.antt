@@ -1,0 +1,33 @@
+use Rattle.std.proofs.Common.{◌∙◌, ap, arith, refl}
+use Rattle.broker_history.specs.State.{Client, Closing, is_subscribed}
+use Rattle.broker_history.specs.Step.{spoke}
+use Rattle.floor_acts.proofs.Putting.{carries_twice, changed_length, changed_range, changed_read, changed_twice, closed, sound_client}
+use Rattle.floor_acts.proofs.clients.close.Goals as goal
+
+pub index_mut-requires : goal.index_mut-requires
+index_mut-requires c =
+    let same = changed_length (spoke c.args.hall.now.moment) c.args.k c.args.hall.now.clients.items c.speak.new.hall.clients.items c.requires.client c.speak.ensures.clients in
+    let there = c.requires.client in
+    omega (arith, same, there, c.speak.new.hall.clients.ok.0)
+
+pub close-requires : goal.close-requires
+close-requires c =
+    ap (λ (d : Client). is_subscribed d.phase) (changed_read (spoke c.args.hall.now.moment) c.args.k c.args.hall.now.clients.items c.speak.new.hall.clients.items c.index_mut.result.now c.index_mut.result.now c.requires.client c.speak.ensures.clients c.index_mut.ensures.value)
+    ∙ c.requires.subscribed c.index_mut.result.now
+
+pub returns-clause-clients : goal.returns-clause-clients
+returns-clause-clients c =
+    changed_twice (spoke c.args.hall.now.moment) (λ (d : Client). record d { phase = Closing }) c.args.k c.args.hall.now.clients.items c.speak.new.hall.clients.items c.index_mut.result.now c.close.new.self c.requires.client c.speak.ensures.clients c.index_mut.ensures.value c.close.ensures
+
+pub returns-clause-sound : goal.returns-clause-sound
+returns-clause-sound c =
+    sound_client c.speak.new.hall _ c.args.k c.index_mut.result.now c.close.new.self c.speak.ensures.sound
+    (changed_range (spoke c.args.hall.now.moment) c.args.k c.args.hall.now.clients.items c.speak.new.hall.clients.items c.requires.client c.speak.ensures.clients) c.index_mut.ensures.value
+    (closed c.index_mut.result.now c.close.new.self c.close.ensures
+    (ap (λ (d : Client). is_subscribed d.phase) (changed_read (spoke c.args.hall.now.moment) c.args.k c.args.hall.now.clients.items c.speak.new.hall.clients.items c.index_mut.result.now c.index_mut.result.now c.requires.client c.speak.ensures.clients c.index_mut.ensures.value)
+    ∙ c.requires.subscribed c.index_mut.result.now)) refl refl
+
+pub returns-clause-told : goal.returns-clause-told
+returns-clause-told c = λ files.
+    carries_twice c.args.hall.now c.speak.new.hall _ c.args.k (spoke c.args.hall.now.moment) (λ (d : Client). record d { phase = Closing }) c.index_mut.result.now c.close.new.self files c.speak.ensures.sound c.requires.client c.speak.ensures.clients (c.speak.ensures.nop files)
+    c.index_mut.ensures.value c.close.ensures (λ d. refl) refl refl

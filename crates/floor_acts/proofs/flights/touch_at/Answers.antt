@@ -1,0 +1,17 @@
+use Rattle.std.proofs.Common.{refl}
+use Rattle.broker_history.specs.Channels.{MovesLive, Touches}
+use Rattle.channel_core.specs.Drawing.{timeout_of}
+use Rattle.floor_rooms.specs.declared.stall.Stall.{Stall}
+use Rattle.floor_rooms.specs.Changes.{InRoom}
+use Rattle.floor_rooms.proofs.Marked.{at_room_read, in_room_read, range_of}
+use Rattle.floor_acts.specs.Flights.{FliesStall}
+use Rattle.floor_acts.proofs.flights.touch_at.Goals as goal
+
+pub returns-clause-stall : goal.returns-clause-stall
+returns-clause-stall g c =
+    let room = c.index_mut.result.now in
+    let stall = c.index_mut-2.result.now in
+    let Flies = FliesStall (λ (a : Stall). Touches MovesLive c.args.number c.args.id c.args.hall.now.moment (timeout_of c.args.number a.channel) a.channel.about.max_msg_timeout) in
+    at_room_read c.args.spot.room (InRoom c.args.spot.stall Flies) c.args.hall.now.rooms.items room _ c.requires.room c.index_mut.ensures.value
+    (in_room_read c.args.spot.stall Flies room _ stall _ (range_of c.args.spot.stall c.args.hall.now.rooms.items c.args.spot.room room c.index_mut.ensures.value c.requires.stall) c.index_mut-2.ensures.value refl refl
+    (record { row = c.touch.ensures.row; rest = c.touch.ensures.rest; same = refl }))

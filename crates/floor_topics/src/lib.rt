@@ -7,6 +7,7 @@ mod creating;
 mod emptying;
 mod messages;
 mod pausing;
+pub mod probe;
 mod published;
 mod publishing;
 

@@ -27,20 +27,25 @@ ids_sound h n within s = record {
   members = s.members;
   channels = s.channels;
   ready = s.ready;
+  past = s.past;
 }
 
 -- and stands for the state with so many more
 pub ids_hold : (h : Hall) (files : Files) (s : State) (count more : ℕ) → count ≡ more → HoldsFor h files s → HoldsFor (record h { ids_used = h.ids_used + count }) files (record s { ids_used = s.ids_used + more })
 ids_hold h files s count more same holds = record {
-  options = holds.options;
-  epoch = holds.epoch;
-  ids_used = ap (λ n. n + more) holds.ids_used ∙ ap (λ k. h.ids_used + k) (sym same);
-  moment = holds.moment;
-  stopped = holds.stopped;
-  clients = holds.clients;
-  topics = holds.topics;
-  idle = holds.idle;
-  idle_channels = holds.idle_channels;
+  stands = record {
+    options = holds.stands.options;
+    epoch = holds.stands.epoch;
+    ids_used = ap (λ n. n + more) holds.stands.ids_used ∙ ap (λ k. h.ids_used + k) (sym same);
+    moment = holds.stands.moment;
+    stopped = holds.stands.stopped;
+    clients = holds.stands.clients;
+    topics = holds.stands.topics;
+  };
+  idle = record {
+    topics = holds.idle.topics;
+    channels = holds.idle.channels;
+  };
 }
 
 -- changes of rooms, lists and facts for speed, one after another

@@ -1,5 +1,5 @@
 -- Messages that are put into a topic of the hall.
-use Rattle.std.proofs.Common.{◌≡◌, inl, ◌≤◌, ℕ, Bool, true, false, List, [], ◌∷◌, length, Option, Some, None, refl, sym, ap, subst, ◌∙◌, arith}
+use Rattle.std.proofs.Common.{◌≡◌, inl, ◌≤◌, ◌+◌, ℕ, Bool, true, false, List, [], ◌∷◌, length, Option, Some, None, refl, sym, ap, subst, ◌∙◌, arith}
 use Rattle.std.specs.Prelude.{IfSome, IsSome, IsTrue, unwrap_or}
 use Rattle.std.specs.List.{All, Contains, slice_get}
 use Rattle.std.proofs.lemmas.Bool.{false≢true}
@@ -32,7 +32,7 @@ use Rattle.floor_rooms.proofs.Turning.{room_change}
 use Rattle.floor_rooms.proofs.Dating.{keeps_at_room, keeps_equal, keeps_lists, keeps_marks_room, keeps_room_alike, keeps_then, since_equal, since_kept}
 use Rattle.floor_rooms.proofs.Filing.{only_of_topic}
 use Rattle.floor_rooms.proofs.Naming.{names_kept}
-use Rattle.floor_topics.specs.Publishing.{PutsRoom, put_into}
+use Rattle.floor_topics.specs.Publishing.{FillsRoom, put_into}
 use Rattle.floor_topics.proofs.Bodies.{put_delays, put_keeps}
 use Rattle.floor_topics.proofs.Frames.{ids_hold}
 use Rattle.floor_topics.proofs.Marks.{is_listed, is_marked, is_named}
@@ -43,7 +43,7 @@ same_capacity a b ms AllDone h = ap (λ (x : Backlog). x.capacity) h.0
 same_capacity a b ms AllFault h = ap (λ (x : Backlog). x.capacity) h.0
 
 -- one call of a topic's queue, of a hall in which the topic is marked and listed
-module _ (tells : Bool) (h h' : Hall) (old new : Files) (ms : List Message) (answer : PutAll) (i : ℕ) (sound : IsSound h) (rest : h' ≡ record h { rooms = h'.rooms }) (at : AtRoom i (PutsRoom tells ms answer old new) h.rooms.items h'.rooms.items) where
+module _ (tells : Bool) (h h' : Hall) (old new : Files) (ms : List Message) (answer : PutAll) (i : ℕ) (sound : IsSound h) (rest : h' ≡ record h { rooms = h'.rooms }) (at : AtRoom i (FillsRoom tells ms answer old new) h.rooms.items h'.rooms.items) where
   put_else : IsElse h h'
   put_else = ap (λ (x : Hall). record x { rooms = h'.rooms; pending = h'.pending; unsaved_names = h'.unsaved_names; quiet_until = h'.quiet_until; unsaved_from = h'.unsaved_from }) rest
 
@@ -83,12 +83,12 @@ module _ (tells : Bool) (h h' : Hall) (old new : Files) (ms : List Message) (ans
 
   pub put_sound : IsSome at.room.since → at.room.listed ≡ true → IsSound h'
   put_sound marked listed =
-      sound_at_room h h' i (PutsRoom tells ms answer old new) sound put_keeps_rest at put_name put_stalls (room_touched h h' at.room at.after put_keeps_rest.lowers put_before (put_touches marked listed))
-      (subst (λ o. IfSome o (λ m. m ≤ h'.moment)) (sym (ap (λ (r : Room). r.since) at.does.same)) (room_past h h' i (PutsRoom tells ms answer old new) sound put_keeps_rest.later at))
+      sound_at_room h h' i (FillsRoom tells ms answer old new) sound put_keeps_rest at put_name put_stalls (room_touched h h' at.room at.after put_keeps_rest.lowers put_before (put_touches marked listed))
+      (subst (λ o. IfSome o (λ m. m ≤ h'.moment)) (sym (ap (λ (r : Room). r.since) at.does.same)) (room_past h h' i (FillsRoom tells ms answer old new) sound put_keeps_rest.later at))
 
   pub put_change : IsTrue tells → RoomChange h h' old new (topic_name at.room) at.room at.after
   put_change told =
-      room_change h h' old new i (PutsRoom tells ms answer old new) sound at put_name put_stalls (else_stays h h' put_else)
+      room_change h h' old new i (FillsRoom tells ms answer old new) sound at put_name put_stalls (else_stays h h' put_else)
       (others_stay at.room.queue.backlog.queue (topic_name at.room) old new put_before.backlog.queue (at.does.others told))
 
   pub put_files : IsTrue tells → OnlyQueueFiles old new
@@ -96,35 +96,35 @@ module _ (tells : Bool) (h h' : Hall) (old new : Files) (ms : List Message) (ans
 
   pub put_leaves : (moment : ℕ) → KeepsRooms moment h.rooms.items h'.rooms.items
   put_leaves moment =
-      keeps_at_room moment i (PutsRoom tells ms answer old new) h.rooms.items h'.rooms.items at
+      keeps_at_room moment i (FillsRoom tells ms answer old new) h.rooms.items h'.rooms.items at
       (keeps_room_alike moment at.room at.after put_name (ap (λ (q : TopicSeen). q.paused) at.does.seen.is) (since_equal moment at.room.since at.after.since (ap (λ (r : Room). r.since) at.does.same)) put_stalls)
 
 -- each state has the messages in the topic then
-pub put_done : (tells : Bool) (h h' : Hall) (old new : Files) (ms : List Message) (i : ℕ) (sound : IsSound h) (rest : h' ≡ record h { rooms = h'.rooms }) (at : AtRoom i (PutsRoom tells ms AllDone old new) h.rooms.items h'.rooms.items) → IsTrue tells → All (λ m. m.delay ≤ longest_delay) ms
+pub put_done : (tells : Bool) (h h' : Hall) (old new : Files) (ms : List Message) (i : ℕ) (sound : IsSound h) (rest : h' ≡ record h { rooms = h'.rooms }) (at : AtRoom i (FillsRoom tells ms AllDone old new) h.rooms.items h'.rooms.items) → IsTrue tells → All (λ m. m.delay ≤ longest_delay) ms
     → (s : State) → HoldsFor h old s → (t : State) × AtTopic (topic_name at.room) (λ a b. b ≡ put_messages at.room.queue.backlog.capacity a ms) s t × HoldsFor h' new t
 put_done tells h h' old new ms i sound rest at told short s holds =
     let mem : ℕ = at.room.queue.backlog.capacity in
     at_room h h' old new s (topic_name at.room) at.room at.after (λ a b. b ≡ put_messages mem a ms) sound holds (put_change tells h h' old new ms AllDone i sound rest at told)
     (λ t of.
-      let keeps = put_keeps mem t ms in
-      record {
-        to = put_messages mem t ms;
-        row = refl;
-        queue = at.does.row told t of.queue;
-        stands = at.does.stands told of.stands;
-        delays = put_delays mem t ms short of.delays;
-        taken = subst (λ o. IfSome o (λ x. x.message.delay ≤ longest_delay)) (sym keeps.taken) of.taken;
-        channels = keeps.channels;
-      })
+    let keeps = put_keeps mem t ms in
+    record {
+      to = put_messages mem t ms;
+      row = refl;
+      queue = at.does.row told t of.queue;
+      stands = at.does.stands told of.stands;
+      delays = put_delays mem t ms short of.delays;
+      taken = subst (λ o. IfSome o (λ x. x.message.delay ≤ longest_delay)) (sym keeps.taken) of.taken;
+      channels = keeps.channels;
+    })
 
 -- or is the same
-pub put_fault : (tells : Bool) (h h' : Hall) (old new : Files) (ms : List Message) (i : ℕ) (sound : IsSound h) (rest : h' ≡ record h { rooms = h'.rooms }) (at : AtRoom i (PutsRoom tells ms AllFault old new) h.rooms.items h'.rooms.items) → IsTrue tells → (s : State) → HoldsFor h old s → HoldsFor h' new s
+pub put_fault : (tells : Bool) (h h' : Hall) (old new : Files) (ms : List Message) (i : ℕ) (sound : IsSound h) (rest : h' ≡ record h { rooms = h'.rooms }) (at : AtRoom i (FillsRoom tells ms AllFault old new) h.rooms.items h'.rooms.items) → IsTrue tells → (s : State) → HoldsFor h old s → HoldsFor h' new s
 put_fault tells h h' old new ms i sound rest at told s holds =
     room_as_before h h' old new s (topic_name at.room) at.room at.after sound holds (put_change tells h h' old new ms AllFault i sound rest at told)
     (λ t of. record { to = t; row = refl; queue = at.does.row told t of.queue; stands = at.does.stands told of.stands; delays = of.delays; taken = of.taken; channels = refl })
 
 -- with the ids that the messages use
-pub put_counted : (tells : Bool) (h h' : Hall) (old new : Files) (ms : List Message) (i : ℕ) (sound : IsSound h) (rest : h' ≡ record h { rooms = h'.rooms }) (at : AtRoom i (PutsRoom tells ms AllDone old new) h.rooms.items h'.rooms.items) → IsTrue tells → All (λ m. m.delay ≤ longest_delay) ms
+pub put_counted : (tells : Bool) (h h' : Hall) (old new : Files) (ms : List Message) (i : ℕ) (sound : IsSound h) (rest : h' ≡ record h { rooms = h'.rooms }) (at : AtRoom i (FillsRoom tells ms AllDone old new) h.rooms.items h'.rooms.items) → IsTrue tells → All (λ m. m.delay ≤ longest_delay) ms
     → (topic : List ℕ) → topic_name at.room ≡ topic → (count : ℕ) → count ≡ length ms → (s : State) → HoldsFor h old s → (t : State) × (t ≡ put_into s topic ms) × HoldsFor (record h' { ids_used = h'.ids_used + count }) new t
 put_counted tells h h' old new ms i sound rest at told short topic called count all s holds =
     let r = put_done tells h h' old new ms i sound rest at told short s holds in
@@ -140,7 +140,7 @@ put_counted tells h h' old new ms i sound rest at told short topic called count 
 -- a topic that stands at a place is marked and listed, and then messages are put into it
 module _ (tells : Bool) (h0 h1 h2 h3 h4 : Hall) (old new : Files) (ms : List Message) (answer : PutAll) (i u : ℕ) (topic : List ℕ) (e1 : h1 ≡ record h0 { rooms = h1.rooms; pending = h1.pending }) (same : h1.rooms.items ≡ h0.rooms.items)
     (e2 : h2 ≡ record h1 { rooms = h2.rooms; unsaved_from = u }) (mark : AtRoom i (MarksRoom h1.moment) h1.rooms.items h2.rooms.items) (e3 : h3 ≡ record h2 { rooms = h3.rooms; pending = h3.pending }) (list : AtRoom i (ListsRoom h2.pending.items h3.pending.items) h2.rooms.items h3.rooms.items)
-    (sound : IsSound h3) (e4 : h4 ≡ record h3 { rooms = h4.rooms }) (at : AtRoom i (PutsRoom tells ms answer old new) h3.rooms.items h4.rooms.items) (stands : StandsAt topic_name h0.rooms.items topic i) where
+    (sound : IsSound h3) (e4 : h4 ≡ record h3 { rooms = h4.rooms }) (at : AtRoom i (FillsRoom tells ms answer old new) h3.rooms.items h4.rooms.items) (stands : StandsAt topic_name h0.rooms.items topic i) where
   pub there_named : topic_name at.room ≡ topic
   there_named =
       is_named i h1.moment h2.pending.items h3.pending.items h1.rooms.items h2.rooms.items h3.rooms.items mark list at.room at.there ∙ ap topic_name (sym (get_or_from_slice_get h0.rooms.items i mark.room mark.room (ap (λ rs. slice_get rs i) (sym same) ∙ mark.there)))

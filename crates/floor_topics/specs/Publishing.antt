@@ -46,7 +46,7 @@ PutsInto topic messages Done s t = t ≡ put_into s topic messages
 PutsInto topic messages Fault s t = t ≡ s
 
 -- what one call of `put_all` made of a topic's queue
-pub record PutsRoom (tells : Bool) (messages : List Message) (answer : PutAll) (old new : Files) (a b : Room) : Type 0 where
+pub record FillsRoom (tells : Bool) (messages : List Message) (answer : PutAll) (old new : Files) (a b : Room) : Type 0 where
   pub same : b ≡ record a { queue = b.queue }
   pub settled : IsSettled b.queue
   pub queue : SameQueue a.queue.backlog.queue b.queue.backlog.queue

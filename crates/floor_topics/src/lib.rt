@@ -7,7 +7,6 @@ mod creating;
 mod emptying;
 mod messages;
 mod pausing;
-pub mod probe;
 mod published;
 mod publishing;
 

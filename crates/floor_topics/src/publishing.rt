@@ -11,7 +11,7 @@ ghost use Rattle.floor_rooms.specs.Kept.{NamesTold};
 ghost use Rattle.floor_rooms.specs.Rooms.{topic_name};
 ghost use Rattle.floor_rooms.specs.Sound.{IsSound};
 ghost use Rattle.floor_rooms.specs.Standing.{Carries, longest_delay};
-ghost use Rattle.floor_topics.specs.Publishing.{Publishes, PublishFails, PutsInto, PutsRoom, Refuses, ids_after};
+ghost use Rattle.floor_topics.specs.Publishing.{Publishes, PublishFails, PutsInto, FillsRoom, Refuses, ids_after};
 
 use crate::Published;
 use crate::messages::messages_of;
@@ -111,7 +111,7 @@ fn put_at<F: Folder>(
     requires short { All FitsLimit messages.old.items }
     requires scratch { 16777242 ≤ length scratch.old }
     ensures rest { hall.new ≡ record hall.old { rooms = hall.new.rooms } }
-    ensures room { AtRoom i (PutsRoom F.tells_files messages.old.items result (F.files folder.old) (F.files folder.new)) hall.old.rooms.items hall.new.rooms.items }
+    ensures room { AtRoom i (FillsRoom F.tells_files messages.old.items result (F.files folder.old) (F.files folder.new)) hall.old.rooms.items hall.new.rooms.items }
     ensures faults { F.folder_faults folder.old ≤ F.folder_faults folder.new }
     ensures cause { PutAllFails (F.folder_faults folder.old) (F.folder_faults folder.new) result }
 {
@@ -168,7 +168,7 @@ fn filled<F: Folder>(
     requires settled { IsSettled room.queue }
     requires short { All FitsLimit messages.old.items }
     requires scratch { 16777242 ≤ length scratch.old }
-    ensures room { IfSome result (λ r. PutsRoom F.tells_files messages.old.items AllDone (F.files folder.old) (F.files folder.new) room r) }
+    ensures room { IfSome result (λ r. FillsRoom F.tells_files messages.old.items AllDone (F.files folder.old) (F.files folder.new) room r) }
     ensures refused { result ≡ None → Refuses F.tells_files room.queue.backlog.queue (F.files folder.old) (F.files folder.new) }
     ensures faults { F.folder_faults folder.old ≤ F.folder_faults folder.new }
     ensures cause { result ≡ None → Rose (F.folder_faults folder.old) (F.folder_faults folder.new) }

@@ -5,3 +5,5 @@ pub mod Putting
 pub mod Joining
 pub mod Coming
 pub mod Publishes
+pub mod Paused
+pub mod Channels

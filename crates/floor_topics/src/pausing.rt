@@ -8,9 +8,10 @@ ghost use Rattle.floor_rooms.specs.Kept.{NamesTold};
 ghost use Rattle.floor_rooms.specs.Rooms.{channel_name, topic_name};
 ghost use Rattle.floor_rooms.specs.Sound.{IsSound};
 ghost use Rattle.floor_rooms.specs.Standing.{Carries};
+ghost use Rattle.floor_topics.specs.Pausing.{PausesRoom, PausesStall};
 
 use floor_rooms::Hall;
-use nsq_base::Memory;
+use nsq_base::{Memory, Topic};
 
 /// Pauses the topic at this place, or lets it go on. That of a durable one is to be saved. Want of memory, the only error, leaves all as it is.
 pub fn pause(hall: &mut Hall, i: usize, on: bool) -> Result<(), Memory>
@@ -31,20 +32,26 @@ pub fn pause(hall: &mut Hall, i: usize, on: bool) -> Result<(), Memory>
     Ok(())
 }
 
-// Pauses a topic that is listed among those that may have something to take or to pay, or lets it go on.
+// Pauses a topic, or lets it go on.
 fn set_paused(hall: &mut Hall, i: usize, on: bool)
     requires sound { IsSound hall.old }
     requires room { i < length hall.old.rooms.items }
     ensures rest { hall.new ≡ record hall.old { rooms = hall.new.rooms; unsaved_names = hall.new.unsaved_names } }
     ensures unsaved { HoldsAt (λ r. hall.new.unsaved_names ≡ (hall.old.unsaved_names || not (is_ephemeral (topic_name r)))) hall.old.rooms.items i }
-    ensures room { AtRoom i (λ a b. b ≡ record a { queue = record (a.queue) { paused = on } }) hall.old.rooms.items hall.new.rooms.items }
+    ensures room { AtRoom i (PausesRoom on) hall.old.rooms.items hall.new.rooms.items }
 {
-    let queue = &mut hall.rooms[i].queue;
-    queue.pause(on);
-    let name = queue.name();
-    if !name.ephemeral() {
-        hall.unsaved_names = true;
+    hall.unsaved_names = also_durable(hall.unsaved_names, hall.rooms[i].name());
+    hall.rooms[i].queue.pause(on);
+}
+
+// Whether names are unsaved, also where that of this topic is to be saved.
+fn also_durable(unsaved: bool, topic: Topic) -> bool
+    ensures { result ≡ (unsaved || not (is_ephemeral topic)) }
+{
+    if unsaved {
+        return true;
     }
+    !topic.ephemeral()
 }
 
 /// Pauses the channel at this place of a topic, or lets it go on. That of a durable one is to be saved.
@@ -59,10 +66,8 @@ pub fn pause_channel(hall: &mut Hall, i: usize, j: usize, on: bool)
     ensures names { NamesTold hall.old hall.new }
     ensures since { KeepsSince hall.old.moment hall.old.rooms.items hall.new.rooms.items }
 {
+    hall.unsaved_names = also_durable_at(hall, i, j);
     pause_stall(hall, i, j, on);
-    if !is_ephemeral_at(hall, i, j) {
-        hall.unsaved_names = true;
-    }
 }
 
 // One call of the channel's.
@@ -70,20 +75,23 @@ fn pause_stall(hall: &mut Hall, i: usize, j: usize, on: bool)
     requires room { i < length hall.old.rooms.items }
     requires stall { HoldsAt (λ r. j < length r.stalls.items) hall.old.rooms.items i }
     ensures rest { hall.new ≡ record hall.old { rooms = hall.new.rooms } }
-    ensures stall { AtStall i j (λ a b. b ≡ record a { channel = record (a.channel) { paused = on } }) hall.old.rooms.items hall.new.rooms.items }
+    ensures stall { AtStall i j (PausesStall on) hall.old.rooms.items hall.new.rooms.items }
 {
     hall.rooms[i].stalls[j].channel.pause(on);
 }
 
-// Whether the channel at this place is ephemeral.
-fn is_ephemeral_at(hall: &Hall, i: usize, j: usize) -> bool
+// Whether names are unsaved, also where that of the channel at this place is to be saved.
+fn also_durable_at(hall: &Hall, i: usize, j: usize) -> bool
     requires room { i < length hall.now.rooms.items }
     requires stall { HoldsAt (λ r. j < length r.stalls.items) hall.now.rooms.items i }
-    ensures { HoldsAt (λ r. HoldsAt (λ x. result ≡ is_ephemeral_channel (topic_name r) (channel_name x)) r.stalls.items j) hall.now.rooms.items i }
+    ensures { HoldsAt (λ r. HoldsAt (λ x. result ≡ (hall.now.unsaved_names || not (is_ephemeral_channel (topic_name r) (channel_name x)))) r.stalls.items j) hall.now.rooms.items i }
 {
-    let room = &hall.rooms[i];
-    if room.name().ephemeral() {
+    if hall.unsaved_names {
         return true;
     }
-    room.stalls[j].name().ephemeral()
+    let room = &hall.rooms[i];
+    if room.name().ephemeral() {
+        return false;
+    }
+    !room.stalls[j].name().ephemeral()
 }

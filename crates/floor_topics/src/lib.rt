@@ -1,0 +1,17 @@
+//! Topics and channels of a hall as clients and the daemon's callers ask for them: a publish, and what makes, pauses, empties and deletes.
+//!
+//! Each function says which states of `broker_history` the hall stands for afterwards, and what it leaves of names that are saved and of marks.
+#![tactic(auto)]
+
+mod creating;
+mod emptying;
+mod messages;
+mod pausing;
+mod published;
+mod publishing;
+
+pub use creating::create;
+pub use emptying::{empty_channel, empty_topic};
+pub use pausing::{pause, pause_channel};
+pub use published::Published;
+pub use publishing::publish;

@@ -1,5 +1,5 @@
 -- A copy that came up while its id was in flight is held back: that is the move, of each state that the hall stood for.
-use Rattle.std.proofs.Common.{◌≡◌, inl, ◌≤◌, ◌+◌, ℕ, Bool, false, List, get_or, Option, Some, refl, sym, ap, subst, ◌∙◌, arith}
+use Rattle.std.proofs.Common.{◌≡◌, inl, ◌≤◌, ◌+◌, ℕ, Bool, false, List, [], ◌∷◌, ◌++◌, get_or, Option, Some, refl, sym, ap, subst, ◌∙◌, arith}
 use Rattle.std.specs.Prelude.{IsTrue, slice_get}
 use Rattle.std.proofs.lemmas.Option.{get_or_from_slice_get}
 use Rattle.nsq_base.specs.declared.options.Options.{Options}
@@ -27,7 +27,8 @@ use Rattle.floor_rooms.specs.declared.hall.Hall.{Hall}
 use Rattle.floor_rooms.specs.Rooms.{channel_name, topic_name}
 use Rattle.floor_rooms.specs.Sound.{IsRoomSound, IsStallSound}
 use Rattle.floor_rooms.specs.Standing.{IsStallOf, HoldsFor, LiftsTo}
-use Rattle.floor_rooms.specs.Changes.{StallChange, AtStall, Touches}
+use Rattle.floor_rooms.specs.Changes.{StallChange, AtStall, KeepsStall, OnlyQueueFiles, SinceStays, Touches}
+use Rattle.floor_rooms.proofs.Holding.{StaysElse}
 use Rattle.floor_rooms.proofs.Staying.{others_stay}
 use Rattle.floor_rooms.proofs.Changing.{at_stall}
 use Rattle.floor_rooms.proofs.Orders.{stall_as_before}
@@ -36,9 +37,10 @@ use Rattle.floor_rooms.proofs.Sounding.{at_all}
 use Rattle.floor_rooms.proofs.Turning.{stall_change}
 use Rattle.floor_moves.specs.declared.due.Place.{Place}
 use Rattle.floor_moves.specs.Due.{HasStallAt}
-use Rattle.floor_moves.specs.Moves.{Keeps, Notes, Rests, entry_at, sight}
+use Rattle.floor_moves.specs.Moves.{Keeps, Notes, NothingNoted, Sight, entry_at, sight}
 use Rattle.floor_moves.specs.Holding.{DrawsHeld, IsDrawnFrom, SettlesHeld, UndoesHeld, IsHeldAt, IsActOf}
-use Rattle.floor_moves.proofs.Keeping.{keeps_marked, keeps_on, rest_of}
+use Rattle.floor_moves.proofs.Keeping.{keeps_on, keeps_stall, only_of_channel, only_on, rest_rooms}
+use Rattle.floor_moves.proofs.Remaining.{since_same}
 use Rattle.floor_moves.proofs.PuttingBack.{room_here, some_same, stands_now}
 use Rattle.floor_moves.proofs.Joining.{Both, join, others_on, named_on}
 use Rattle.floor_moves.proofs.Stepping.{Noted, noted_done, daemon, steps_to, rose_none}
@@ -89,18 +91,35 @@ module _ (tells : Bool) (told : IsTrue tells) (now : ℕ) (id : List ℕ) (f0 f1
         stands = subst (λ q. Stands q f1) (sym e.queue) (d.disk.stands told i.stands);
       }
 
--- a channel of a sound hall, before `next`
-module _ (tells : Bool) (place : Place) (id : List ℕ) (f0 f1 : Files) (n0 n1 : ℕ) (h0 h1 : Hall) (d : IsDrawnFrom tells place id f0 f1 n0 n1 h0 h1) where
-  room_is : IsRoomSound h0 d.at.room
-  room_is = at_all (IsRoomSound h0) h0.rooms.items place.room d.at.room d.sound.rooms d.at.there
+-- what settling, or putting back, leaves of a channel
+pub settle_keeps : (tells : Bool) (now : ℕ) (old new : Files) (before after : ℕ) (a b : Stall) → SettlesHeld tells now old new before after a b → KeepsStall now a b
+settle_keeps tells now old new before after a b e = record {
+  about = ap (λ (v : ChannelSeen). v.about) e.rest;
+  paused = ap (λ (v : ChannelSeen). v.paused) e.rest;
+  members = ap (λ (s : Stall). s.members.items) e.same;
+  since = subst (λ (s : Stall). SinceStays now a.since s.since) (sym e.same) (since_same now a.since);
+}
 
-  stall_is : IsStallSound h0.options (topic_name d.at.room) h0.quiet_until h0.unsaved_from d.at.does.stall
-  stall_is = at_all (IsStallSound h0.options (topic_name d.at.room) h0.quiet_until h0.unsaved_from) d.at.room.stalls.items place.stall d.at.does.stall room_is.stalls d.at.does.there
+pub undo_keeps : (now : ℕ) (a b : Stall) → UndoesHeld a b → KeepsStall now a b
+undo_keeps now a b e = record {
+  about = ap (λ (v : ChannelSeen). v.about) e.rest;
+  paused = ap (λ (v : ChannelSeen). v.paused) e.rest;
+  members = ap (λ (s : Stall). s.members.items) e.same;
+  since = subst (λ (s : Stall). SinceStays now a.since s.since) (sym e.same) (since_same now a.since);
+}
+
+-- a channel of a sound hall, before `next`
+module _ (tells : Bool) (place : Place) (id : List ℕ) (b : Sight) (h1 : Hall) (first : History) (f1 : Files) (n1 : ℕ) (d : IsDrawnFrom tells place id b (sight h1 first f1 n1)) where
+  room_is : IsRoomSound b.hall d.at.room
+  room_is = at_all (IsRoomSound b.hall) b.hall.rooms.items place.room d.at.room d.sound.rooms d.at.there
+
+  stall_is : IsStallSound b.hall.options (topic_name d.at.room) b.hall.quiet_until b.hall.unsaved_from d.at.does.stall
+  stall_is = at_all (IsStallSound b.hall.options (topic_name d.at.room) b.hall.quiet_until b.hall.unsaved_from) d.at.room.stalls.items place.stall d.at.does.stall room_is.stalls d.at.does.there
 
   -- the act is of that channel
   act_is : (act : Act) → IsActOf place id h1.rooms.items act → act ≡ HeldBack (topic_name d.at.room) (channel_name d.at.does.stall) id
   act_is act is =
-      let room : is.room ≡ d.at.after = some_same is.room d.at.after (sym is.there ∙ ap (λ xs. slice_get xs place.room) d.at.is ∙ stands_now h0.rooms.items place.room d.at.room d.at.after d.at.there) in
+      let room : is.room ≡ d.at.after = some_same is.room d.at.after (sym is.there ∙ ap (λ xs. slice_get xs place.room) d.at.is ∙ stands_now b.hall.rooms.items place.room d.at.room d.at.after d.at.there) in
       let stall : is.stall ≡ d.at.does.after =
       some_same is.stall d.at.does.after
       (sym is.has ∙ ap (λ (r : Room). slice_get r.stalls.items place.stall) room ∙ ap (λ xs. slice_get xs place.stall) d.at.does.stalls ∙ stands_now d.at.room.stalls.items place.stall d.at.does.stall d.at.does.after d.at.does.there) in
@@ -108,22 +127,35 @@ module _ (tells : Bool) (place : Place) (id : List ℕ) (f0 f1 : Files) (n0 n1 :
       ∙ ap (λ t. HeldBack t (channel_name is.stall) id) (ap topic_name room ∙ ap (λ (r : Room). r.queue.name) d.at.does.is)
       ∙ ap (λ k. HeldBack (topic_name d.at.room) k id) (ap channel_name stall ∙ ap (λ (v : ChannelSeen). v.about.name) d.at.does.does.rest)
 
+  -- nothing but that channel changed
+  pub drawn_keeps : Keeps b.hall h1
+  drawn_keeps = keeps_stall b.hall h1 place.room place.stall (DrawsHeld tells b.hall.moment id b.files f1 b.faults n1) d.rest d.at (record {
+    about = ap (λ (v : ChannelSeen). v.about) d.at.does.does.rest;
+    paused = ap (λ (v : ChannelSeen). v.paused) d.at.does.does.rest;
+    members = ap (λ (s : Stall). s.members.items) d.at.does.does.same;
+    since = subst (λ (s : Stall). SinceStays b.hall.moment d.at.does.stall.since s.since) (sym d.at.does.does.same) (since_same b.hall.moment d.at.does.stall.since);
+  })
+
+  -- and no file but its queue's
+  pub drawn_files : IsTrue tells → OnlyQueueFiles b.files f1
+  drawn_files told = only_of_channel (topic_name d.at.room) (channel_name d.at.does.stall) d.at.does.stall.channel.backlog.queue b.files f1 room_is.named stall_is.named stall_is.queue (d.at.does.does.disk.others told)
+
   module _ (h2 h3 : Hall) (rest : h2 ≡ record h1 { rooms = h2.rooms }) where
-    rest_two : h2 ≡ record h0 { rooms = h2.rooms }
+    rest_two : h2 ≡ record (b.hall) { rooms = h2.rooms }
     rest_two = rest ∙ ap (λ (h : Hall). record h { rooms = h2.rooms }) d.rest
 
-    keeps_two : Keeps h0 h2
-    keeps_two = keeps_marked h0 h2 h0.unsaved_from rest_two
+    else_two : StaysElse b.hall h2
+    else_two = rest_rooms b.hall h2 rest_two
 
     -- it was settled
     module _ (f2 : Files) (n2 : ℕ) (e : AtStall place.room place.stall (SettlesHeld tells h1.moment f1 f2 n1 n2) h1.rooms.items h2.rooms.items) where
-      abbrev both : AtStall place.room place.stall (Both (DrawsHeld tells h0.moment id f0 f1 n0 n1) (SettlesHeld tells h1.moment f1 f2 n1 n2)) h0.rooms.items h2.rooms.items
-      both = join place.room place.stall (DrawsHeld tells h0.moment id f0 f1 n0 n1) (SettlesHeld tells h1.moment f1 f2 n1 n2) h0.rooms.items h1.rooms.items h2.rooms.items d.at e
+      abbrev both : AtStall place.room place.stall (Both (DrawsHeld tells b.hall.moment id b.files f1 b.faults n1) (SettlesHeld tells h1.moment f1 f2 n1 n2)) b.hall.rooms.items h2.rooms.items
+      both = join place.room place.stall (DrawsHeld tells b.hall.moment id b.files f1 b.faults n1) (SettlesHeld tells h1.moment f1 f2 n1 n2) b.hall.rooms.items h1.rooms.items h2.rooms.items d.at e
 
       settled_channel : both.does.after.channel ≡ record (d.at.does.stall.channel) { backlog = both.does.after.channel.backlog; deferred = both.does.after.channel.deferred; drawn = Nothing; spare = d.at.does.after.channel.spare; deferred_spare = both.does.after.channel.deferred_spare }
       settled_channel = both.does.does.second.rest ∙ ap (λ (v : ChannelSeen). record v { backlog = both.does.after.channel.backlog; deferred = both.does.after.channel.deferred; drawn = Nothing; deferred_spare = both.does.after.channel.deferred_spare }) d.at.does.does.rest
 
-      pub settled_touches : Touches place.room place.stall h0 h2
+      pub settled_touches : Touches place.room place.stall b.hall h2
       settled_touches = record {
         sound = d.sound;
         rest = rest_two;
@@ -151,52 +183,58 @@ module _ (tells : Bool) (place : Place) (id : List ℕ) (f0 f1 : Files) (n0 n1 :
         };
       }
 
-      held_change : IsTrue tells → StallChange h0 h2 f0 f2 (topic_name d.at.room) (channel_name d.at.does.stall) d.at.does.stall both.does.after
+      pub settled_files : IsTrue tells → OnlyQueueFiles b.files f2
+      settled_files told =
+          only_on b.files f1 f2 (drawn_files told)
+          (only_of_channel (topic_name d.at.room) (channel_name d.at.does.stall) d.at.does.after.channel.backlog.queue f1 f2 room_is.named stall_is.named
+          (named_on d.at.does.stall.channel.backlog.queue d.at.does.after.channel.backlog.queue (queue_name (topic_name d.at.room) (channel_name d.at.does.stall)) d.at.does.does.disk.queue stall_is.queue) (both.does.does.second.disk.others told))
+
+      held_change : IsTrue tells → StallChange b.hall h2 b.files f2 (topic_name d.at.room) (channel_name d.at.does.stall) d.at.does.stall both.does.after
       held_change told =
           let name : List ℕ = queue_name (topic_name d.at.room) (channel_name d.at.does.stall) in
-          stall_change h0 h2 f0 f2 place.room place.stall (Both (DrawsHeld tells h0.moment id f0 f1 n0 n1) (SettlesHeld tells h1.moment f1 f2 n1 n2)) d.sound both (ap (λ (v : ChannelSeen). v.about.name) settled_channel) (rest_of h0 h2 keeps_two)
-          (others_on name f0 f1 f2 (others_stay d.at.does.stall.channel.backlog.queue name f0 f1 stall_is.queue (d.at.does.does.disk.others told))
+          stall_change b.hall h2 b.files f2 place.room place.stall (Both (DrawsHeld tells b.hall.moment id b.files f1 b.faults n1) (SettlesHeld tells h1.moment f1 f2 n1 n2)) d.sound both (ap (λ (v : ChannelSeen). v.about.name) settled_channel) else_two
+          (others_on name b.files f1 f2 (others_stay d.at.does.stall.channel.backlog.queue name b.files f1 stall_is.queue (d.at.does.does.disk.others told))
           (others_stay d.at.does.after.channel.backlog.queue name f1 f2 (named_on d.at.does.stall.channel.backlog.queue d.at.does.after.channel.backlog.queue name d.at.does.does.disk.queue stall_is.queue) (both.does.does.second.disk.others told)))
 
-      held_carries : IsTrue tells → ((s : State) → HoldsFor h2 f2 s → HoldsFor h3 f2 s) → (s : State) → HoldsFor h0 f0 s → (t : State) × DoesMove s h0.moment (HeldBack (topic_name d.at.room) (channel_name d.at.does.stall) id) t × HoldsFor h3 f2 t
+      held_carries : IsTrue tells → ((s : State) → HoldsFor h2 f2 s → HoldsFor h3 f2 s) → (s : State) → HoldsFor b.hall b.files s → (t : State) × DoesMove s b.hall.moment (HeldBack (topic_name d.at.room) (channel_name d.at.does.stall) id) t × HoldsFor h3 f2 t
       held_carries told end s holds =
-          let moment : h1.moment ≡ h0.moment = ap (λ (h : Hall). h.moment) d.rest in
-          let timeout : h0.moment + d.at.does.stall.channel.about.msg_timeout ≡ h0.moment + s.options.msg_timeout = ap (λ (x : About). h0.moment + x.msg_timeout) stall_is.about ∙ ap (λ (o : Options). h0.moment + o.msg_timeout) (sym holds.options) in
-          let settles : SettlesHeld tells h0.moment f1 f2 n1 n2 d.at.does.after both.does.after = subst (λ n. SettlesHeld tells n f1 f2 n1 n2 d.at.does.after both.does.after) moment both.does.does.second in
+          let moment : h1.moment ≡ b.hall.moment = ap (λ (h : Hall). h.moment) d.rest in
+          let timeout : b.hall.moment + d.at.does.stall.channel.about.msg_timeout ≡ b.hall.moment + s.options.msg_timeout = ap (λ (x : About). b.hall.moment + x.msg_timeout) stall_is.about ∙ ap (λ (o : Options). b.hall.moment + o.msg_timeout) (sym holds.options) in
+          let settles : SettlesHeld tells b.hall.moment f1 f2 n1 n2 d.at.does.after both.does.after = subst (λ n. SettlesHeld tells n f1 f2 n1 n2 d.at.does.after both.does.after) moment both.does.does.second in
           let r =
-          at_stall h0 h2 f0 f2 s (topic_name d.at.room) (channel_name d.at.does.stall) d.at.does.stall both.does.after (HoldsBack Moves id (h0.moment + s.options.msg_timeout)) d.sound holds (held_change told)
-          (held_lifts tells told h0.moment id f0 f1 f2 n0 n1 n2 d.at.does.stall d.at.does.after both.does.after d.at.does.does settles (h0.moment + s.options.msg_timeout) timeout) in
+          at_stall b.hall h2 b.files f2 s (topic_name d.at.room) (channel_name d.at.does.stall) d.at.does.stall both.does.after (HoldsBack Moves id (b.hall.moment + s.options.msg_timeout)) d.sound holds (held_change told)
+          (held_lifts tells told b.hall.moment id b.files f1 f2 b.faults n1 n2 d.at.does.stall d.at.does.after both.does.after d.at.does.does settles (b.hall.moment + s.options.msg_timeout) timeout) in
           (r.0, r.1, end r.0 r.2)
 
       -- so that is noted
-      pub held_noted : (tells_notes : Bool) (first mid last : History) (kept : Option Entry) (act : Act) → IsActOf place id h1.rooms.items act → h0.stopped ≡ false → Keeps h1 h3 → ((s : State) → HoldsFor h2 f2 s → HoldsFor h3 f2 s) → Noted tells_notes first mid last kept (entry_at h1.moment act) Done
-          → Notes tells_notes tells (IsHeldAt h0.moment) (sight h0 first f0 n0) (sight h3 last f2 n2)
-      held_noted tells_notes first mid last kept act is running keeps end noted =
-          let moment : h1.moment ≡ h0.moment = ap (λ (h : Hall). h.moment) d.rest in
+      pub held_noted : (tells_notes : Bool) (mid last : History) (kept : Option Entry) (act : Act) → IsActOf place id h1.rooms.items act → b.hall.stopped ≡ false → Keeps h1 h3 → ((s : State) → HoldsFor h2 f2 s → HoldsFor h3 f2 s) → Noted tells_notes first mid last kept (entry_at h1.moment act) Done
+          → Notes tells_notes tells (IsHeldAt place id b.hall) b (sight h3 last f2 n2)
+      held_noted tells_notes mid last kept act is running keeps end noted =
+          let moment : h1.moment ≡ b.hall.moment = ap (λ (h : Hall). h.moment) d.rest in
           let told_act = act_is act is in
-          let keeps0 : Keeps h0 h3 = keeps_on h0 h1 h3 (keeps_marked h0 h1 h0.unsaved_from d.rest) keeps in
-          let rises : n0 ≤ n2 = let a = d.at.does.does.disk.faults in let b = both.does.does.second.disk.faults in omega (arith, a, b) in
-          let entry : entry_at h1.moment act ≡ entry_at h0.moment (HeldBack (topic_name d.at.room) (channel_name d.at.does.stall) id) = ap (λ n. entry_at n act) moment ∙ ap (entry_at h0.moment) told_act in
+          let keeps0 : Keeps b.hall h3 = keeps_on b.hall h1 h3 drawn_keeps keeps in
+          let rises : b.faults ≤ n2 = let early = d.at.does.does.disk.faults in let late = both.does.does.second.disk.faults in omega (arith, early, late) in
+          let entry : entry_at h1.moment act ≡ entry_at b.hall.moment (HeldBack (topic_name d.at.room) (channel_name d.at.does.stall) id) = ap (λ n. entry_at n act) moment ∙ ap (entry_at b.hall.moment) told_act in
           record {
-            entry = (entry_at h0.moment (HeldBack (topic_name d.at.room) (channel_name d.at.does.stall) id), Done);
-            is = record { held = refl; now = refl; done = refl };
-            noted = noted_done tells_notes first mid last kept (entry_at h0.moment (HeldBack (topic_name d.at.room) (channel_name d.at.does.stall) id)) (subst (λ x. Noted tells_notes first mid last kept x Done) entry noted);
+            entry = (entry_at b.hall.moment (HeldBack (topic_name d.at.room) (channel_name d.at.does.stall) id), Done);
+            is = record { of = record { room = d.at.room; stall = d.at.does.stall; there = d.at.there; has = d.at.does.there; is = refl }; held = refl; now = refl; done = refl };
+            noted = λ it. noted_done tells_notes first mid last kept (entry_at b.hall.moment (HeldBack (topic_name d.at.room) (channel_name d.at.does.stall) id)) (subst (λ x. Noted tells_notes first mid last kept x Done) entry noted) it ∙ ap (λ xs. xs ++ (entry_at b.hall.moment (HeldBack (topic_name d.at.room) (channel_name d.at.does.stall) id), Done) ∷ []) d.noted;
             step = λ told s holds.
                 let r = held_carries told end s holds in
-                steps_to h0 h3 f0 f2 s r.0 (HeldBack (topic_name d.at.room) (channel_name d.at.does.stall) id) Done d.sound keeps0 holds (daemon h0 f0 s running holds) r.1 r.2;
-            rose = λ told. rose_none n0 n2 rises;
+                steps_to b.hall h3 b.files f2 s r.0 (HeldBack (topic_name d.at.room) (channel_name d.at.does.stall) id) Done d.sound keeps0 holds (daemon b.hall b.files s running holds) r.1 r.2;
+            rose = λ told s holds. rose_none b.faults n2 rises;
             faults = rises;
           }
 
     -- it was put back
     module _ (e : AtStall place.room place.stall UndoesHeld h1.rooms.items h2.rooms.items) where
-      abbrev back : AtStall place.room place.stall (Both (DrawsHeld tells h0.moment id f0 f1 n0 n1) UndoesHeld) h0.rooms.items h2.rooms.items
-      back = join place.room place.stall (DrawsHeld tells h0.moment id f0 f1 n0 n1) UndoesHeld h0.rooms.items h1.rooms.items h2.rooms.items d.at e
+      abbrev back : AtStall place.room place.stall (Both (DrawsHeld tells b.hall.moment id b.files f1 b.faults n1) UndoesHeld) b.hall.rooms.items h2.rooms.items
+      back = join place.room place.stall (DrawsHeld tells b.hall.moment id b.files f1 b.faults n1) UndoesHeld b.hall.rooms.items h1.rooms.items h2.rooms.items d.at e
 
       back_channel : back.does.after.channel ≡ record (d.at.does.stall.channel) { backlog = back.does.after.channel.backlog; drawn = Nothing; spare = d.at.does.after.channel.spare; deferred_spare = d.at.does.after.channel.deferred_spare }
       back_channel = back.does.does.second.rest ∙ ap (λ (v : ChannelSeen). record v { backlog = back.does.after.channel.backlog; drawn = Nothing }) d.at.does.does.rest
 
-      pub back_touches : Touches place.room place.stall h0 h2
+      pub back_touches : Touches place.room place.stall b.hall h2
       back_touches = record {
         sound = d.sound;
         rest = rest_two;
@@ -224,15 +262,15 @@ module _ (tells : Bool) (place : Place) (id : List ℕ) (f0 f1 : Files) (n0 n1 :
         };
       }
 
-      pub back_rests : (tells_notes : Bool) (first last : History) → (IsTrue tells_notes → last ≡ first) → ((s : State) → HoldsFor h2 f1 s → HoldsFor h3 f1 s) → Rests tells_notes tells (sight h0 first f0 n0) (sight h3 last f1 n1)
-      back_rests tells_notes first last noted end = record {
-        noted = noted;
+      pub back_rests : (tells_notes : Bool) (last : History) → (IsTrue tells_notes → last ≡ first) → ((s : State) → HoldsFor h2 f1 s → HoldsFor h3 f1 s) → NothingNoted tells_notes tells b (sight h3 last f1 n1)
+      back_rests tells_notes last noted end = record {
+        noted = λ it. noted it ∙ d.noted;
         same = λ told s holds.
             let name : List ℕ = queue_name (topic_name d.at.room) (channel_name d.at.does.stall) in
-            let change = stall_change h0 h2 f0 f1 place.room place.stall (Both (DrawsHeld tells h0.moment id f0 f1 n0 n1) UndoesHeld) d.sound back (ap (λ (v : ChannelSeen). v.about.name) back_channel) (rest_of h0 h2 keeps_two)
-            (others_stay d.at.does.stall.channel.backlog.queue name f0 f1 stall_is.queue (d.at.does.does.disk.others told)) in
+            let change = stall_change b.hall h2 b.files f1 place.room place.stall (Both (DrawsHeld tells b.hall.moment id b.files f1 b.faults n1) UndoesHeld) d.sound back (ap (λ (v : ChannelSeen). v.about.name) back_channel) else_two
+            (others_stay d.at.does.stall.channel.backlog.queue name b.files f1 stall_is.queue (d.at.does.does.disk.others told)) in
             end s
-            (stall_as_before h0 h2 f0 f1 s (topic_name d.at.room) (channel_name d.at.does.stall) d.at.does.stall back.does.after d.sound holds change
-            (undone_is tells told h0.moment id f0 f1 f1 n0 n1 n1 d.at.does.stall d.at.does.after back.does.after d.at.does.does back.does.does.second));
+            (stall_as_before b.hall h2 b.files f1 s (topic_name d.at.room) (channel_name d.at.does.stall) d.at.does.stall back.does.after d.sound holds change
+            (undone_is tells told b.hall.moment id b.files f1 f1 b.faults n1 n1 d.at.does.stall d.at.does.after back.does.after d.at.does.does back.does.does.second));
         faults = d.at.does.does.disk.faults;
       }

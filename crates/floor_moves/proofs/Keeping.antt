@@ -8,12 +8,16 @@ use Rattle.queue_image.specs.FileNames.IsQueueName.{of_topic, of_channel}
 use Rattle.disk_queue.specs.Seen.{Seen as Queue}
 use Rattle.backlog.specs.Lists.{DiskChanges}
 use Rattle.channel_core.specs.Seen.{queue_name}
+use Rattle.floor_rooms.specs.declared.stall.Stall.{Stall}
 use Rattle.floor_rooms.specs.declared.hall.Hall.{Hall}
+use Rattle.floor_rooms.specs.Changes.{AtStall, KeepsRooms, KeepsStall, OnlyQueueFiles, marked}
 use Rattle.floor_rooms.proofs.Holding.{StaysElse}
-use Rattle.floor_moves.specs.Moves.{Keeps, OnlyQueueFiles}
+use Rattle.floor_moves.specs.Moves.{Keeps}
+use Rattle.floor_moves.proofs.Remaining.{rooms_at_stall, rooms_on, rooms_same, stall_marked}
 
-pub keeps_from : (h h' : Hall) → h' ≡ record h { rooms = h'.rooms; pending = h'.pending; quiet_until = h'.quiet_until; unsaved_from = h'.unsaved_from } → Keeps h h'
-keeps_from h h' e = record {
+-- other topics are listed
+pub keeps_from : (h h' : Hall) → h' ≡ record h { rooms = h'.rooms; pending = h'.pending } → KeepsRooms h.moment h.rooms.items h'.rooms.items → Keeps h h'
+keeps_from h h' e rooms = record {
   options = ap (λ (x : Hall). x.options) e;
   epoch = ap (λ (x : Hall). x.epoch) e;
   began_at = ap (λ (x : Hall). x.began_at) e;
@@ -23,11 +27,12 @@ keeps_from h h' e = record {
   stuck = ap (λ (x : Hall). x.stuck) e;
   unsaved_names = ap (λ (x : Hall). x.unsaved_names) e;
   clients = ap (λ (x : Hall). x.clients) e;
+  rooms = rooms;
 }
 
 -- a mark
-pub keeps_marked : (h h' : Hall) (unsaved : ℕ) → h' ≡ record h { rooms = h'.rooms; unsaved_from = unsaved } → Keeps h h'
-keeps_marked h h' unsaved e = record {
+pub keeps_marked : (h h' : Hall) (unsaved : ℕ) → h' ≡ record h { rooms = h'.rooms; unsaved_from = unsaved } → KeepsRooms h.moment h.rooms.items h'.rooms.items → Keeps h h'
+keeps_marked h h' unsaved e rooms = record {
   options = ap (λ (x : Hall). x.options) e;
   epoch = ap (λ (x : Hall). x.epoch) e;
   began_at = ap (λ (x : Hall). x.began_at) e;
@@ -37,6 +42,7 @@ keeps_marked h h' unsaved e = record {
   stuck = ap (λ (x : Hall). x.stuck) e;
   unsaved_names = ap (λ (x : Hall). x.unsaved_names) e;
   clients = ap (λ (x : Hall). x.clients) e;
+  rooms = rooms;
 }
 
 pub keeps_on : (h h1 h' : Hall) → Keeps h h1 → Keeps h1 h' → Keeps h h'
@@ -50,6 +56,7 @@ keeps_on h h1 h' a b = record {
   stuck = b.stuck ∙ a.stuck;
   unsaved_names = b.unsaved_names ∙ a.unsaved_names;
   clients = b.clients ∙ a.clients;
+  rooms = rooms_on h.moment h.rooms.items h1.rooms.items h'.rooms.items a.rooms (subst (λ n. KeepsRooms n h1.rooms.items h'.rooms.items) a.moment b.rooms);
 }
 
 same_most : (a b : ℕ) → b ≡ a → a ≤ b
@@ -65,6 +72,16 @@ rest_of h h' k = record {
   clients = ap (λ cs. cs.items) k.clients;
 }
 
+pub rest_rooms : (h h' : Hall) → h' ≡ record h { rooms = h'.rooms } → StaysElse h h'
+rest_rooms h h' e = record {
+  options = ap (λ (x : Hall). x.options) e;
+  epoch = ap (λ (x : Hall). x.epoch) e;
+  ids_used = ap (λ (x : Hall). x.ids_used) e;
+  moment = same_most h.moment h'.moment (ap (λ (x : Hall). x.moment) e);
+  stopped = ap (λ (x : Hall). x.stopped) e;
+  clients = ap (λ (x : Hall). x.clients.items) e;
+}
+
 -- what changes on a queue's disk is in files of queues
 only_of : (name : List ℕ) (queue : Option Queue) (old new : Files) → IsQueueName name → IfSome queue (λ q. q.name ≡ name) → DiskChanges queue old new → OnlyQueueFiles old new
 only_of name None old new named is change = λ file other. change file
@@ -75,6 +92,9 @@ only_of_topic name queue old new named is change = only_of name queue old new (o
 
 pub only_of_channel : (topic channel : List ℕ) (queue : Option Queue) (old new : Files) → IsName topic → IsName channel → IfSome queue (λ q. q.name ≡ queue_name topic channel) → DiskChanges queue old new → OnlyQueueFiles old new
 only_of_channel topic channel queue old new nt nc is change = only_of (queue_name topic channel) queue old new (of_channel topic channel nt nc refl) is change
+
+pub only_on : (f0 f1 f2 : Files) → OnlyQueueFiles f0 f1 → OnlyQueueFiles f1 f2 → OnlyQueueFiles f0 f2
+only_on f0 f1 f2 a b = λ file other. b file other ∙ a file other
 
 pub only_same : (old new : Files) → ((file : List ℕ) → new file ≡ old file) → OnlyQueueFiles old new
 only_same old new same = λ file other. same file
@@ -91,4 +111,18 @@ keeps_quiet h h' quiet e = record {
   stuck = ap (λ (x : Hall). x.stuck) e;
   unsaved_names = ap (λ (x : Hall). x.unsaved_names) e;
   clients = ap (λ (x : Hall). x.clients) e;
+  rooms = subst (λ (x : Hall). KeepsRooms h.moment h.rooms.items x.rooms.items) (sym e) (rooms_same h.moment h.rooms.items);
 }
+
+-- nothing changed
+pub keeps_same : (h : Hall) → Keeps h h
+keeps_same h = record { options = refl; epoch = refl; began_at = refl; ids_used = refl; moment = refl; stopped = refl; stuck = refl; unsaved_names = refl; clients = refl; rooms = rooms_same h.moment h.rooms.items }
+
+-- one channel was marked
+pub keeps_stall_mark : (h h' : Hall) (unsaved i j : ℕ) → h' ≡ record h { rooms = h'.rooms; unsaved_from = unsaved } → AtStall i j (λ a b. b ≡ record a { since = marked a.since h.moment }) h.rooms.items h'.rooms.items → Keeps h h'
+keeps_stall_mark h h' unsaved i j e x =
+    keeps_marked h h' unsaved e (rooms_at_stall h.moment i j (λ (a b : Stall). b ≡ record a { since = marked a.since h.moment }) h.rooms.items h'.rooms.items x (stall_marked h.moment x.does.stall x.does.after x.does.does))
+
+-- or changed in a way that keeps what moves do
+pub keeps_stall : (h h' : Hall) (i j : ℕ) (Does : Stall → Stall → Type 0) → h' ≡ record h { rooms = h'.rooms } → (x : AtStall i j Does h.rooms.items h'.rooms.items) → KeepsStall h.moment x.does.stall x.does.after → Keeps h h'
+keeps_stall h h' i j Does e x keeps = keeps_marked h h' h.unsaved_from e (rooms_at_stall h.moment i j Does h.rooms.items h'.rooms.items x keeps)

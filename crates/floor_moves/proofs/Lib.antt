@@ -1,3 +1,4 @@
+pub mod Remaining
 pub mod Keeping
 pub mod Stepping
 pub mod PuttingBack

@@ -31,7 +31,7 @@ use Rattle.floor_rooms.specs.declared.hall.Hall.{Hall}
 use Rattle.floor_rooms.specs.Rooms.{channel_name, topic_name}
 use Rattle.floor_rooms.specs.Sound.{IsSound, IsRoomSound, IsStallSound}
 use Rattle.floor_rooms.specs.Standing.{IsStallOf, HoldsFor, LiftsTo}
-use Rattle.floor_rooms.specs.Changes.{StallChange, AtStall, Touches, marked}
+use Rattle.floor_rooms.specs.Changes.{StallChange, AtStall, KeepsStall, OnlyQueueFiles, SinceStays, Touches, marked}
 use Rattle.floor_rooms.proofs.Staying.{others_stay}
 use Rattle.floor_rooms.proofs.Changing.{at_stall}
 use Rattle.floor_rooms.proofs.Orders.{stall_kept_off}
@@ -41,9 +41,10 @@ use Rattle.floor_rooms.proofs.Sounding.{at_all}
 use Rattle.floor_moves.specs.declared.due.Place.{Place}
 use Rattle.floor_moves.specs.declared.moving.Due.{Due}
 use Rattle.floor_moves.specs.Due.{HasStall, HasStallAt}
-use Rattle.floor_moves.specs.Moves.{Keeps, OnlyQueueFiles, Notes, entry_at, sight, IsMade, IsKeptOff}
+use Rattle.floor_moves.specs.Moves.{Keeps, Notes, entry_at, sight, IsMade, IsKeptOff}
 use Rattle.floor_moves.specs.Moving.{act_of, is_done, IsFirstDue, IsDueAt, MovesStall, PutsDue, PutFails}
-use Rattle.floor_moves.proofs.Keeping.{rest_of, only_of_channel}
+use Rattle.floor_moves.proofs.Keeping.{keeps_stall, rest_of, only_of_channel}
+use Rattle.floor_moves.proofs.Remaining.{since_same}
 use Rattle.floor_moves.proofs.Stepping.{Noted, noted_done, noted_fault, daemon, steps_to, rose_none, rose_one}
 
 pub some_same : {X : Type 0} (x y : X) → Some x ≡ Some y → x ≡ y
@@ -121,6 +122,15 @@ due_found h place due P room stall has r s topic channel first =
 abbrev act_with : Bool → (topic channel id : List ℕ) → Act
 act_with flies topic channel id = if flies then TimedOut topic channel id else CameDue topic channel id
 
+-- what one call leaves of a channel
+pub move_keeps : (tells : Bool) (now : ℕ) (answer : Moved) (old new : Files) (before after : ℕ) (a b : Stall) → MovesStall tells now answer old new before after a b → KeepsStall now a b
+move_keeps tells now answer old new before after a b m = record {
+  about = ap (λ (c : ChannelSeen). c.about) m.rest;
+  paused = ap (λ (c : ChannelSeen). c.paused) m.rest;
+  members = ap (λ (s : Stall). s.members.items) m.same;
+  since = subst (λ (s : Stall). SinceStays now a.since s.since) (sym m.same) (since_same now a.since);
+}
+
 -- one call of the channel's, of a hall that is marked
 module _ (tells : Bool) (h1 h2 : Hall) (old new : Files) (before after : ℕ) (place : Place) (answer : Moved) (sound : IsSound h1) (at : AtStall place.room place.stall (MovesStall tells h1.moment answer old new before after) h1.rooms.items h2.rooms.items) where
   room_is : IsRoomSound h1 at.room
@@ -160,6 +170,10 @@ module _ (tells : Bool) (h1 h2 : Hall) (old new : Files) (before after : ℕ) (p
       };
     };
   }
+
+  pub moved_keeps : h2 ≡ record h1 { rooms = h2.rooms } → Keeps h1 h2
+  moved_keeps rest =
+      keeps_stall h1 h2 place.room place.stall (MovesStall tells h1.moment answer old new before after) rest at (move_keeps tells h1.moment answer old new before after at.does.stall at.does.after at.does.does)
 
   -- no file changed but queues'
   pub only_queues : IsTrue tells → OnlyQueueFiles old new
@@ -289,12 +303,12 @@ module _ (tells_notes tells_files : Bool) (h h' : Hall) (old new : Files) (befor
     step = λ told s holds.
         let r = puts told s holds in
         steps_to h h' old new s r.0 (act_of due) Done sound keeps holds (may_by s h.moment due.flies due.topic due.channel due.id (daemon h old s running holds)) (does_by s r.0 h.moment due.flies due.topic due.channel due.id r.1) r.2;
-    rose = λ told. rose_none before after rises;
+    rose = λ told s holds. rose_none before after rises;
     faults = rises;
   }
 
   pub due_stuck : Noted tells_notes first mid last kept (entry_at h.moment (act_of due)) (Faulted 0) → (IsTrue tells_files → PutsDue h.moment (act_of due) h old h' new false) → Rose before after
-      → Notes tells_notes tells_files (IsKeptOff h.moment (act_of due)) (sight h first old before) (sight h' last new after) × Rose before after
+      → Notes tells_notes tells_files (IsKeptOff h.moment (act_of due)) (sight h first old before) (sight h' last new after) × (IsTrue tells_files → (s : State) → HoldsFor h old s → Rose before after)
   due_stuck noted puts rose = (
     record {
       entry = (entry_at h.moment (act_of due), Faulted 0);
@@ -303,8 +317,8 @@ module _ (tells_notes tells_files : Bool) (h h' : Hall) (old new : Files) (befor
       step = λ told s holds.
           let r = puts told s holds in
           steps_to h h' old new s s (act_of due) (Faulted 0) sound keeps holds (may_fault s h.moment due.flies due.topic due.channel due.id (daemon h old s running holds) r.0) (does_none s h.moment due.flies due.topic due.channel due.id) r.1;
-      rose = λ told. rose_one before after rose;
+      rose = λ told s holds. rose_one before after rose;
       faults = rises;
     },
-    rose,
+    λ told s holds. rose,
   )

@@ -15,7 +15,7 @@ use Rattle.floor_rooms.specs.declared.hall.Hall.{Hall}
 use Rattle.floor_rooms.specs.Sound.{IsSound}
 use Rattle.floor_rooms.specs.Standing.{HoldsFor}
 use Rattle.floor_rooms.proofs.Orders.{holds_at}
-use Rattle.floor_moves.specs.Moves.{sight, Rests, RoseBy, Keeps, entry_at}
+use Rattle.floor_moves.specs.Moves.{sight, NothingNoted, RoseBy, Keeps, entry_at}
 
 -- what was aside is noted
 abbrev pub Noted : (tells : Bool) (old mid new : History) (kept : Option Entry) (entry : Entry) (end : End) → Type 0
@@ -52,5 +52,5 @@ pub rose_one : (before now : ℕ) → Rose before now → RoseBy 1 before now
 rose_one before now h = h
 
 -- nothing was done
-pub rests_same : (tells_notes tells_files : Bool) (h : Hall) (old new : History) (files : Files) (faults : ℕ) → (IsTrue tells_notes → new ≡ old) → Rests tells_notes tells_files (sight h old files faults) (sight h new files faults)
+pub rests_same : (tells_notes tells_files : Bool) (h : Hall) (old new : History) (files : Files) (faults : ℕ) → (IsTrue tells_notes → new ≡ old) → NothingNoted tells_notes tells_files (sight h old files faults) (sight h new files faults)
 rests_same tells_notes tells_files h old new files faults noted = record { noted = noted; same = λ told s holds. holds; faults = omega arith }

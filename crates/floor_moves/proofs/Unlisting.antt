@@ -5,6 +5,7 @@ use Rattle.std.specs.List.{Contains}
 use Rattle.std.proofs.lemmas.Bool.{false≢true}
 use Rattle.std.proofs.lemmas.Option.{slice_get_read, slice_get-get_or}
 use Rattle.nsq_outside.specs.Files.{Files}
+use Rattle.history.specs.Found.{Pairwise}
 use Rattle.broker_history.specs.State.{State}
 use Rattle.floor_rooms.specs.declared.room.Room.{Room}
 use Rattle.floor_rooms.specs.declared.hall.Hall.{Hall}
@@ -16,8 +17,11 @@ use Rattle.floor_rooms.proofs.Placing.{found_at, put_at}
 use Rattle.broker_history.proofs.Lists.{find_put, same_bytes}
 use Rattle.floor_rooms.proofs.Sounding.{KeepsRest, at_all, room_lowered, sound_at_room}
 use Rattle.floor_rooms.proofs.Holding.{holds_at_room, holds_same, room_alike}
-use Rattle.floor_moves.specs.Pending.{IsUnlisted, Unlists}
+use Rattle.floor_moves.specs.Pending.{IsRelisted, IsUnlisted, Unlists}
 use Rattle.floor_moves.proofs.PuttingBack.{some_same}
+use Rattle.floor_moves.proofs.Keeping.{keeps_from}
+use Rattle.floor_moves.proofs.Remaining.{pairs_on, pairs_one, relisted_keep, relisted_on, relisted_same}
+use Rattle.floor_moves.specs.Moves.{Keeps}
 
 abbrev pub Rested : Room → Room → Type 0
 Rested a b = (b ≡ record a { listed = false }) × (rests a ≡ true)
@@ -145,9 +149,11 @@ with_pending h h' files s rest holds =
     }) (ap (λ (x : Hall). x.rooms.items) rest) holds
 
 -- one more name went
-pub unlists_on : (h h1 h2 h3 : Hall) → Unlists h h1 → h2 ≡ record h1 { rooms = h2.rooms } → h3 ≡ record h2 { pending = h3.pending } → IsSound h3 → ((files : Files) (s : State) → HoldsFor h1 files s → HoldsFor h3 files s) → Unlists h h3
-unlists_on h h1 h2 h3 a r2 r3 sound stands = record {
+pub unlists_on : (h h1 h2 h3 : Hall) → Unlists h h1 → h2 ≡ record h1 { rooms = h2.rooms } → Pairwise IsRelisted h1.rooms.items h2.rooms.items → h3 ≡ record h2 { pending = h3.pending } → IsSound h3 → ((files : Files) (s : State) → HoldsFor h1 files s → HoldsFor h3 files s)
+    → Unlists h h3
+unlists_on h h1 h2 h3 a r2 rooms r3 sound stands = record {
   sound = sound;
+  rooms = pairs_on IsRelisted h.rooms.items h1.rooms.items h3.rooms.items relisted_on a.rooms (subst (λ (x : Hall). Pairwise IsRelisted h1.rooms.items x.rooms.items) (sym r3) rooms);
   rest = r3 ∙ ap (λ (x : Hall). record x { pending = h3.pending }) r2 ∙ ap (λ (x : Hall). record x { rooms = h2.rooms; pending = h3.pending }) a.rest ∙ ap (λ rooms. record h { rooms = rooms; pending = h3.pending }) (sym (ap (λ (x : Hall). x.rooms) r3));
   stands = λ files s holds. stands files s (a.stands files s holds);
 }
@@ -161,3 +167,19 @@ rested_at rooms i read room within r e idle = record {
   is = refl;
   does = (refl, subst (λ (x : Room). rests x ≡ true) (some_same read room (sym (slice_get_read rooms (length rooms) i read refl within r) ∙ slice_get_read rooms (length rooms) i room refl within e)) idle);
 }
+
+-- no name went yet
+pub unlists_same : (h : Hall) → IsSound h → Unlists h h
+unlists_same h sound = record { sound = sound; rest = refl; rooms = relisted_same h.rooms.items; stands = λ files s holds. holds }
+
+-- one more topic was found to be listed or not
+pub unlists_more : (h h1 h2 : Hall) → Unlists h h1 → h2 ≡ record h1 { rooms = h2.rooms } → Pairwise IsRelisted h1.rooms.items h2.rooms.items → IsSound h2 → ((files : Files) (s : State) → HoldsFor h1 files s → HoldsFor h2 files s) → Unlists h h2
+unlists_more h h1 h2 a r2 rooms sound stands = unlists_on h h1 h2 h2 a r2 rooms refl sound stands
+
+-- that topic alone
+pub rested_alone : (old new : List Room) (i : ℕ) → AtRoom i Rested old new → Pairwise IsRelisted old new
+rested_alone old new i x = subst (Pairwise IsRelisted old) (sym x.is) (pairs_one IsRelisted old i x.room x.after x.there (λ r. refl) (subst (IsRelisted x.room) (sym x.does.0) refl))
+
+-- what that leaves of a hall
+pub unlists_keep : (h h' : Hall) → Unlists h h' → Keeps h h'
+unlists_keep h h' u = keeps_from h h' u.rest (relisted_keep h.moment h.rooms.items h'.rooms.items u.rooms)

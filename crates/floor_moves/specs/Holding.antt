@@ -21,6 +21,7 @@ use Rattle.floor_rooms.specs.Rooms.{channel_name, topic_name}
 use Rattle.floor_rooms.specs.Sound.{IsSound}
 use Rattle.floor_rooms.specs.Changes.{AtStall}
 use Rattle.floor_moves.specs.declared.due.Place.{Place}
+use Rattle.floor_moves.specs.Moves.{Sight}
 
 -- a copy of this id came up in the channel at this moment, while the id is in flight
 abbrev pub HasHeld : (id : List ℕ) → (now : ℕ) → Stall → Type 0
@@ -36,11 +37,12 @@ pub record DrawsHeld (tells : Bool) (now : ℕ) (id : List ℕ) (old new : Files
   pub same : b ≡ record a { channel = b.channel }
   pub marked : IsSome a.since
 
--- such a copy came up in the channel at a place of a hall that was sound, and of which that channel is marked
-pub record IsDrawnFrom (tells : Bool) (place : Place) (id : List ℕ) (old new : Files) (before after : ℕ) (h h' : Hall) : Type 0 where
-  pub sound : IsSound h
-  pub rest : h' ≡ record h { rooms = h'.rooms }
-  pub at : AtStall place.room place.stall (DrawsHeld tells h.moment id old new before after) h.rooms.items h'.rooms.items
+-- such a copy came up in the channel at a place of a hall that was sound, and of which that channel is marked; nothing else happened
+pub record IsDrawnFrom (tells : Bool) (place : Place) (id : List ℕ) (before after : Sight) : Type 0 where
+  pub sound : IsSound before.hall
+  pub rest : after.hall ≡ record (before.hall) { rooms = after.hall.rooms }
+  pub noted : after.noted ≡ before.noted
+  pub at : AtStall place.room place.stall (DrawsHeld tells before.hall.moment id before.files after.files before.faults after.faults) before.hall.rooms.items after.hall.rooms.items
 
 -- what settling that copy makes of a channel: it is deferred
 pub record SettlesHeld (tells : Bool) (now : ℕ) (old new : Files) (before after : ℕ) (a b : Stall) : Type 0 where
@@ -59,16 +61,17 @@ pub record UndoesHeld (a b : Stall) : Type 0 where
   pub rest : b.channel ≡ record a.channel { backlog = b.channel.backlog; drawn = Nothing }
   pub same : b ≡ record a { channel = b.channel }
 
--- the entry is of a move that is never due, at this moment, and it was made
-pub record IsHeldAt (at : ℕ) (e : Entry × End) : Type 0 where
-  pub held : is_held e.0.act ≡ true
-  pub now : e.0.at ≡ at
-  pub done : e.1 ≡ Done
-
--- the act names the topic and the channel that stand there
+-- the act holds the copy of an id back in the channel that stands at a place
 pub record IsActOf (place : Place) (id : List ℕ) (rooms : List Room) (act : Act) : Type 0 where
   pub room : Room
   pub stall : Stall
   pub there : slice_get rooms place.room ≡ Some room
   pub has : slice_get room.stalls.items place.stall ≡ Some stall
   pub is : act ≡ HeldBack (topic_name room) (channel_name stall) id
+
+-- the entry is that act at the hall's moment, which is never due, and it was made
+pub record IsHeldAt (place : Place) (id : List ℕ) (h : Hall) (e : Entry × End) : Type 0 where
+  pub of : IsActOf place id h.rooms.items e.0.act
+  pub held : is_held e.0.act ≡ true
+  pub now : e.0.at ≡ h.moment
+  pub done : e.1 ≡ Done

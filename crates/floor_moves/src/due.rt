@@ -16,8 +16,8 @@ pub struct Place {
     pub stall: usize,
 }
 
-/// A channel of which a copy is due at the hall's moment, looked for from the topic at this place on and then among those before it. Where there is
-/// none, the hall knows until when that stays so.
+/// A channel of which a copy is due at the hall's moment, whichever; where there is none, the hall knows until when that stays so. The search begins
+/// at the topic at this place, for speed alone.
 pub fn find_due(hall: &mut Hall, from: usize) -> Option<Place>
     requires { IsSound hall.old }
     ensures found { DueFound hall.old.moment hall.new.quiet_until hall.new.rooms.items result }

@@ -1,12 +1,10 @@
-ghost use Rattle.std.specs.Prelude.{◌≡◌, ◌^◌, ◌<◌, ◌≤◌, ℕ, HoldsAt, OnErr, OnOk, false, length};
-ghost use Rattle.nsq_outside.specs.Files.{Files};
-ghost use Rattle.floor_rooms.specs.Changes.{AtStall};
+ghost use Rattle.std.specs.Prelude.{◌≡◌, ◌^◌, ◌<◌, ◌≤◌, HoldsAt, IsTrue, OnErr, OnOk, false, length};
+ghost use Rattle.floor_rooms.specs.Changes.{AtStall, OnlyQueueFiles};
 ghost use Rattle.channel_core.specs.Drawing.{IsHeld};
 ghost use Rattle.floor_rooms.specs.Sound.{IsSound};
-ghost use Rattle.floor_rooms.specs.declared.hall.Hall.{Hall as Holding};
 ghost use Rattle.floor_moves.specs.Due.{HasStallAt};
 ghost use Rattle.floor_moves.specs.Holding.{HasHeld, IsActOf, IsDrawnFrom, IsHeldAt, SettlesHeld, UndoesHeld};
-ghost use Rattle.floor_moves.specs.Moves.{sight, Keeps, Notes, Rests};
+ghost use Rattle.floor_moves.specs.Moves.{sight, Keeps, Notes, NothingNoted, Sight};
 
 use crate::Place;
 use crate::noting::announce;
@@ -29,11 +27,13 @@ pub fn hold_back<F: Folder, J: Journal<Entry>, L: Ledger>(
     requires held { HasStallAt place.room place.stall (HasHeld id hall.old.moment) hall.old.rooms.items }
     requires moment { hall.old.moment ≤ 2 ^ 62 }
     requires calm { J.is_aside journal.old ≡ false }
-    ensures moves { (before : Holding) (files : Files) (faults : ℕ) → IsDrawnFrom F.tells_files place id files (F.files folder.old) faults (F.folder_faults folder.old) before hall.old → before.stopped ≡ false → OnOk result (Notes J.tells_notes F.tells_files (IsHeldAt before.moment) (sight before (J.notes journal.old) files faults) (sight hall.new (J.notes journal.new) (F.files folder.new) (F.folder_faults folder.new))) }
-    ensures rests { (before : Holding) (files : Files) (faults : ℕ) → IsDrawnFrom F.tells_files place id files (F.files folder.old) faults (F.folder_faults folder.old) before hall.old → OnErr result (Rests J.tells_notes F.tells_files (sight before (J.notes journal.old) files faults) (sight hall.new (J.notes journal.new) (F.files folder.new) (F.folder_faults folder.new))) }
-    ensures sound { (before : Holding) (files : Files) (faults : ℕ) → IsDrawnFrom F.tells_files place id files (F.files folder.old) faults (F.folder_faults folder.old) before hall.old → IsSound hall.new }
+    ensures moves { (before : Sight) → IsDrawnFrom F.tells_files place id before (sight hall.old (J.notes journal.old) (F.files folder.old) (F.folder_faults folder.old)) → before.hall.stopped ≡ false → OnOk result (Notes J.tells_notes F.tells_files (IsHeldAt place id before.hall) before (sight hall.new (J.notes journal.new) (F.files folder.new) (F.folder_faults folder.new))) }
+    ensures rests { (before : Sight) → IsDrawnFrom F.tells_files place id before (sight hall.old (J.notes journal.old) (F.files folder.old) (F.folder_faults folder.old)) → OnErr result (NothingNoted J.tells_notes F.tells_files before (sight hall.new (J.notes journal.new) (F.files folder.new) (F.folder_faults folder.new))) }
+    ensures sound { (before : Sight) → IsDrawnFrom F.tells_files place id before (sight hall.old (J.notes journal.old) (F.files folder.old) (F.folder_faults folder.old)) → IsSound hall.new }
+    ensures keeps { (before : Sight) → IsDrawnFrom F.tells_files place id before (sight hall.old (J.notes journal.old) (F.files folder.old) (F.folder_faults folder.old)) → Keeps before.hall hall.new }
+    ensures files { (before : Sight) → IsDrawnFrom F.tells_files place id before (sight hall.old (J.notes journal.old) (F.files folder.old) (F.folder_faults folder.old)) → IsTrue F.tells_files → OnlyQueueFiles before.files (F.files folder.new) }
     ensures calm { J.is_aside journal.new ≡ false }
-    ensures keeps { Keeps hall.old hall.new }
+    ensures stays { Keeps hall.old hall.new }
 {
     let Ok(()) = announce(journal, hall.moment, held_act(hall, place, id)) else {
         undo_held(hall, place);

@@ -14,4 +14,5 @@ pub use due::{Place, find_due};
 pub use held::hold_back;
 pub use made::Made;
 pub use moving::move_due;
+pub use noting::announce;
 pub use pending::find_pending;

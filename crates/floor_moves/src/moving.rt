@@ -1,9 +1,11 @@
 ghost use Rattle.std.specs.Prelude.{◌≡◌, ◌<◌, ◌≤◌, HoldsAt, IsTrue, false, length};
-ghost use Rattle.floor_rooms.specs.Changes.{AtStall};
+ghost use Rattle.nsq_outside.specs.Causes.{Rose};
+ghost use Rattle.floor_rooms.specs.Changes.{AtStall, OnlyQueueFiles};
 ghost use Rattle.floor_rooms.specs.Sound.{IsSound};
 ghost use Rattle.floor_moves.specs.declared.moving.Due.{Due as DueCopy};
+ghost use Rattle.floor_moves.specs.declared.made.Made.TheVariants.{Stuck};
 ghost use Rattle.floor_moves.specs.Due.{HasStallAt, IsDueNow};
-ghost use Rattle.floor_moves.specs.Moves.{sight, Keeps, OnlyQueueFiles};
+ghost use Rattle.floor_moves.specs.Moves.{sight, Keeps};
 ghost use Rattle.floor_moves.specs.Moving.{act_of, is_done, IsDueAt, MovesFirst, MovesStall, PutFails, PutsDue};
 
 use crate::noting::announce;
@@ -48,6 +50,7 @@ pub fn move_due<F: Folder, J: Journal<Entry>, L: Ledger>(
     ensures calm { J.is_aside journal.new ≡ false }
     ensures keeps { Keeps hall.old hall.new }
     ensures files { IsTrue F.tells_files → OnlyQueueFiles (F.files folder.old) (F.files folder.new) }
+    ensures fault { result ≡ Stuck → Rose (F.folder_faults folder.old) (F.folder_faults folder.new) }
 {
     let due = due_at(hall, place);
     let Ok(()) = announce(journal, hall.moment, act_of(due)) else {

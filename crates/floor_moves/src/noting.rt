@@ -5,7 +5,7 @@ use broker_history::{Act, Entry};
 use nsq_base::Memory;
 use nsq_outside::Journal;
 
-// Keeps the daemon's entry of a move aside: `note` appends it then.
+/// Keeps the daemon's entry of a move aside: `note` appends it then. Want of memory is the only error.
 pub fn announce<J: Journal<Entry>>(journal: &mut J, at: u64, act: Act) -> Result<(), Memory>
     requires { J.is_aside journal.old ≡ false }
     ensures aside { OnOk result (J.is_aside journal.new ≡ true) }

@@ -1,15 +1,16 @@
 ghost use Rattle.std.specs.Prelude.{◌≡◌, ℕ, List, ◌∷◌, IfSome, None};
 ghost use Rattle.nsq_outside.specs.Files.{Files};
+ghost use Rattle.history.specs.Found.{Pairwise};
 ghost use Rattle.broker_history.specs.State.{State};
 ghost use Rattle.floor_rooms.specs.Sound.{IsSound};
 ghost use Rattle.floor_rooms.specs.Standing.{HoldsFor};
 ghost use Rattle.floor_moves.specs.Moves.{Keeps};
-ghost use Rattle.floor_moves.specs.Pending.{IsBusyAt, IsFirstOf, IsUnlisted, PendingFound, Unlists};
+ghost use Rattle.floor_moves.specs.Pending.{IsBusyAt, IsFirstOf, IsRelisted, IsUnlisted, PendingFound, Unlists};
 
 use floor_rooms::Hall;
 use nsq_base::Topic;
 
-/// The first topic of those listed that has something to take or to pay. Those before it that have nothing are listed no more.
+/// A listed topic that has something to take or to pay; where there is none, none is listed any more. Topics that have nothing may be listed no more.
 pub fn find_pending(hall: &mut Hall) -> Option<usize>
     requires { IsSound hall.old }
     ensures found { PendingFound hall.new result }
@@ -42,6 +43,7 @@ fn unlist(hall: &mut Hall, name: Topic) -> Option<usize>
     ensures busy { IfSome result (IsBusyAt hall.new.rooms.items) }
     ensures none { result ≡ None → IsUnlisted hall.new name }
     ensures rest { hall.new ≡ record hall.old { rooms = hall.new.rooms } }
+    ensures rooms { Pairwise IsRelisted hall.old.rooms.items hall.new.rooms.items }
     ensures sound { IsSound hall.new }
     ensures stands { (files : Files) (s : State) → HoldsFor hall.old files s → HoldsFor hall.new files s }
 {

@@ -1,8 +1,12 @@
 use Rattle.std.proofs.Common.{◌∙◌, Some, ap}
 use Rattle.broker_history.specs.declared.entry.Act.{Act}
 use Rattle.floor_moves.specs.Moves.{entry_at}
+use Rattle.floor_moves.proofs.Keeping.{keeps_same}
 use Rattle.floor_moves.proofs.PuttingBack.{due_done, due_stuck}
 use Rattle.floor_moves.proofs.moving.move_due.Goals as goal
+
+pub returns-in_default-clause-keeps : goal.returns-in_default-clause-keeps
+returns-in_default-clause-keeps g c = keeps_same c.args.hall.now
 
 pub returns-then-put_due-clause-moves : goal.returns-then-put_due-clause-moves
 returns-then-put_due-clause-moves g c = record {

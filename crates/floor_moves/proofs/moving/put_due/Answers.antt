@@ -1,8 +1,8 @@
 use Rattle.std.proofs.Common.{sym, ap, subst}
 use Rattle.floor_rooms.specs.declared.hall.Hall.{Hall}
 use Rattle.floor_moves.specs.Moving.{PutsDue, act_of}
-use Rattle.floor_moves.proofs.Keeping.{keeps_marked}
-use Rattle.floor_moves.proofs.PuttingBack.{due_marked, due_put, is_marked, only_queues, touches}
+use Rattle.floor_moves.proofs.Keeping.{keeps_on, keeps_quiet, keeps_stall_mark}
+use Rattle.floor_moves.proofs.PuttingBack.{due_marked, due_put, is_marked, moved_keeps, only_queues, touches}
 use Rattle.floor_moves.proofs.moving.put_due.Goals as goal
 
 pub returns-clause-puts : goal.returns-clause-puts
@@ -15,7 +15,8 @@ returns-clause-puts g c = λ due is told.
     let new = g.F.Folder.files c.move_first-moved.new.folder in
     subst (PutsDue h0.moment (act_of due) h0 old h3 new) (sym c.is_done.ensures)
     (due_put g.F.Folder.tells_files h0 h1 h2 h3 old new (g.F.Folder.folder_faults c.args.folder.now) (g.F.Folder.folder_faults c.move_first-moved.new.folder) c.args.place due c.move_first-moved.result
-    c.mark_stall.ensures.sound (keeps_marked h0 h1 _ c.mark_stall.ensures.rest) (keeps_marked h1 h2 _ c.move_first-moved.ensures.rest)
+    c.mark_stall.ensures.sound (keeps_stall_mark h0 h1 _ c.args.place.room c.args.place.stall c.mark_stall.ensures.rest c.mark_stall.ensures.stall)
+    (moved_keeps g.F.Folder.tells_files h1 h2 old new (g.F.Folder.folder_faults c.args.folder.now) (g.F.Folder.folder_faults c.move_first-moved.new.folder) c.args.place c.move_first-moved.result c.mark_stall.ensures.sound c.move_first-moved.ensures.stall c.move_first-moved.ensures.rest)
     (due_marked h0 h1 c.args.place due c.mark_stall.ensures.stall (ap (λ (h : Hall). h.moment) c.mark_stall.ensures.rest) is) c.move_first-moved.ensures.stall
     (λ s holds. c.mark_stall.ensures.stands old s holds) (λ s holds. c.settle_stall.ensures.stands new s holds) told)
 
@@ -27,6 +28,18 @@ returns-clause-sound g c =
     c.settle_stall.ensures.sound h1
     (touches g.F.Folder.tells_files h1 h2 (g.F.Folder.files c.args.folder.now) (g.F.Folder.files c.move_first-moved.new.folder) (g.F.Folder.folder_faults c.args.folder.now) (g.F.Folder.folder_faults c.move_first-moved.new.folder) c.args.place c.move_first-moved.result c.mark_stall.ensures.sound at
     c.move_first-moved.ensures.rest (is_marked c.args.hall.now h1 c.args.place.room c.args.place.stall c.mark_stall.ensures.stall at.room at.does.stall at.there at.does.there))
+
+pub returns-clause-keeps : goal.returns-clause-keeps
+returns-clause-keeps g c =
+    let h0 : Hall = c.args.hall.now in
+    let h1 : Hall = c.mark_stall.new.self in
+    let h2 : Hall = c.move_first-moved.new.hall in
+    let h3 : Hall = c.settle_stall.new.self in
+    keeps_on h0 h1 h3 (keeps_stall_mark h0 h1 _ c.args.place.room c.args.place.stall c.mark_stall.ensures.rest c.mark_stall.ensures.stall)
+    (keeps_on h1 h2 h3
+    (moved_keeps g.F.Folder.tells_files h1 h2 (g.F.Folder.files c.args.folder.now) (g.F.Folder.files c.move_first-moved.new.folder) (g.F.Folder.folder_faults c.args.folder.now) (g.F.Folder.folder_faults c.move_first-moved.new.folder) c.args.place c.move_first-moved.result c.mark_stall.ensures.sound
+    c.move_first-moved.ensures.stall c.move_first-moved.ensures.rest)
+    (keeps_quiet h2 h3 _ c.settle_stall.ensures.rest))
 
 pub returns-clause-files : goal.returns-clause-files
 returns-clause-files g c =

@@ -1,11 +1,24 @@
 use Rattle.std.proofs.Common.{ap, ◌∙◌}
 use Rattle.floor_rooms.specs.declared.hall.Hall.{Hall}
-use Rattle.floor_moves.proofs.Unlisting.{unlists_on}
+use Rattle.floor_moves.proofs.Unlisting.{unlists_keep, unlists_more, unlists_on, unlists_same}
 use Rattle.floor_moves.proofs.pending.find_pending.Goals as goal
+
+pub loop-name-init : goal.loop-name-init
+loop-name-init c = unlists_same c.args.hall.now c.requires
+
+pub returns-then-is_some-clause-unlists : goal.returns-then-is_some-clause-unlists
+returns-then-is_some-clause-unlists c =
+    unlists_more c.args.hall.now c.loop-name.hall c.unlist-found.new.hall c.loop-name.invariant c.unlist-found.ensures.rest c.unlist-found.ensures.rooms c.unlist-found.ensures.sound (λ files s holds. c.unlist-found.ensures.stands files s holds)
+
+pub returns-then-is_some-clause-keeps : goal.returns-then-is_some-clause-keeps
+returns-then-is_some-clause-keeps c = unlists_keep c.args.hall.now c.unlist-found.new.hall (returns-then-is_some-clause-unlists c)
+
+pub returns-clause-keeps : goal.returns-clause-keeps
+returns-clause-keeps c = unlists_keep c.args.hall.now c.loop-name.hall c.loop-name.invariant
 
 pub loop-name-preserved : goal.loop-name-preserved
 loop-name-preserved c =
     let first = c.in-Some.ensures in
-    unlists_on c.args.hall.now c.loop-name.hall c.unlist-found.new.hall c.drop_first.new.hall c.loop-name.invariant c.unlist-found.ensures.rest c.drop_first.ensures.rest
+    unlists_on c.args.hall.now c.loop-name.hall c.unlist-found.new.hall c.drop_first.new.hall c.loop-name.invariant c.unlist-found.ensures.rest c.unlist-found.ensures.rooms c.drop_first.ensures.rest
     (c.drop_first.ensures.sound c.in-Some.name first.more (ap (λ (h : Hall). h.pending.items) c.unlist-found.ensures.rest ∙ first.is))
     (λ files s holds. c.drop_first.ensures.stands files s (c.unlist-found.ensures.stands files s holds))

@@ -3,7 +3,8 @@ use Rattle.std.specs.Vec.{with_item}
 use Rattle.std.proofs.lemmas.Option.{slice_get_read}
 use Rattle.floor_rooms.specs.declared.hall.Hall.{Hall}
 use Rattle.floor_rooms.specs.Rooms.{topic_name}
-use Rattle.floor_moves.proofs.Unlisting.{rested_at, unlisted_is, unlisted_sound, unlisted_stands}
+use Rattle.floor_moves.proofs.Remaining.{relisted_same}
+use Rattle.floor_moves.proofs.Unlisting.{rested_alone, rested_at, unlisted_is, unlisted_sound, unlisted_stands}
 use Rattle.floor_moves.proofs.pending.unlist.Goals as goal
 
 pub returns-then-not-rests-clause-busy : goal.returns-then-not-rests-clause-busy
@@ -24,6 +25,17 @@ returns-clause-stands c =
     let h : Hall = c.args.hall.now in
     let at = rested_at h.rooms.items c.in-Some.i c.index.result.now c.index_mut.result.now c.in-Some.ensures.stands.in_range c.index.ensures c.index_mut.ensures.value (sym c.if-not-rests.ensures) in
     unlisted_stands h _ c.in-Some.i c.requires refl at
+
+pub returns-in_default-clause-rooms : goal.returns-in_default-clause-rooms
+returns-in_default-clause-rooms c = relisted_same c.args.hall.now.rooms.items
+
+pub returns-then-not-rests-clause-rooms : goal.returns-then-not-rests-clause-rooms
+returns-then-not-rests-clause-rooms c = relisted_same c.args.hall.now.rooms.items
+
+pub returns-clause-rooms : goal.returns-clause-rooms
+returns-clause-rooms c =
+    let h : Hall = c.args.hall.now in
+    rested_alone h.rooms.items _ c.in-Some.i (rested_at h.rooms.items c.in-Some.i c.index.result.now c.index_mut.result.now c.in-Some.ensures.stands.in_range c.index.ensures c.index_mut.ensures.value (sym c.if-not-rests.ensures))
 
 pub returns-clause-none : goal.returns-clause-none
 returns-clause-none c = λ none.

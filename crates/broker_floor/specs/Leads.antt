@@ -1,6 +1,5 @@
 -- What turns of a number lead to.
 use Rattle.std.specs.Prelude.{◌≡◌, ◌⊎◌, ◌≤◌, ℕ, ◌+◌, Bool, true, false, IsTrue, ◌++◌, Some, IfSome}
-use Rattle.nsq_outside.specs.Causes.{Rose}
 use Rattle.broker_history.specs.State.{State}
 use Rattle.broker_history.specs.Entries.{History, faults_apart, faults_of}
 use Rattle.broker_history.specs.Legal.{Legal}
@@ -15,31 +14,22 @@ use Rattle.turn_laws.specs.Laws.{RoseBy}
 use Rattle.broker_floor.specs.Scenes.{IsAt, Scene, Stands}
 use Rattle.std.specs.List.{List}
 
--- from a state that the floor stood for, turns led to another one: the entries that they noted are legal
+-- from a state that the floor stood for, turns led to another one: the entries that they noted are legal, and no more of them ended with a disk fault than
+-- the folder's count rose; where such a fault kept the Stop's turn from paying all, it rose by more than those that don't stand just before the Stop
 pub record LedTo (old new : Scene) (s : State) : Type 0 where
   pub added : History
   pub whole : new.notes ≡ old.notes ++ added
   pub to : State
   pub legal : Legal s added to
   pub stands : Stands new to
+  pub counted : RoseBy (faults_of added) old.faults new.faults
+  pub apart : old.hall.stuck ≡ false → new.hall.stuck ≡ true → RoseBy (faults_apart added + 1) old.faults new.faults
 
 -- what they noted is laid out in turns of the number
 pub record AddsTurns (number : ℕ) (old new : Scene) : Type 0 where
   pub added : History
   pub whole : new.notes ≡ old.notes ++ added
   pub turns : AreTurns number added
-
--- no more entries ended with a disk fault than the folder's count rose
-pub record CountsFaults (old new : Scene) : Type 0 where
-  pub added : History
-  pub whole : new.notes ≡ old.notes ++ added
-  pub rose : RoseBy (faults_of added) old.faults new.faults
-
--- it rose by more than those that don't stand just before a Stop
-pub record CountsMore (old new : Scene) : Type 0 where
-  pub added : History
-  pub whole : new.notes ≡ old.notes ++ added
-  pub rose : RoseBy (faults_apart added + 1) old.faults new.faults
 
 -- turns made further readings, and the entries that they noted have their moments from these
 pub record Times (coming : ℕ → ℕ) (readings : ℕ) (old new : Scene) : Type 0 where
@@ -73,7 +63,4 @@ pub record Leads (tells_notes tells_files tells_readings : Bool) (number : ℕ) 
   pub files : IsTrue tells_files → OnlyQueueFiles old.files new.files
   pub turns : IsTrue tells_notes → AddsTurns number old new
   pub legal : IsTrue tells_notes → IsTrue tells_files → (s : State) → Stands old s → LedTo old new s
-  pub counted : IsTrue tells_notes → IsTrue tells_files → CountsFaults old new
-  pub stuck : IsTrue tells_files → old.hall.stuck ≡ false → new.hall.stuck ≡ true → Rose old.faults new.faults
-  pub apart : IsTrue tells_notes → IsTrue tells_files → old.hall.stuck ≡ false → new.hall.stuck ≡ true → CountsMore old new
   pub times : IsTrue tells_notes → IsTrue tells_readings → (coming : ℕ → ℕ) (readings : ℕ) → IsAt coming readings old → Times coming readings old new

@@ -1,5 +1,5 @@
 -- What one turn of a floor does.
-use Rattle.std.specs.Prelude.{◌≡◌, ◌⊎◌, ◌≤◌, ◌<◌, ℕ, ◌+◌, ◌^◌, min, max, Bool, true, false, All, IsTrue, [], ◌++◌, Option, IfSome, is_some}
+use Rattle.std.specs.Prelude.{◌≡◌, ◌⊎◌, ◌≤◌, ◌<◌, ℕ, ◌+◌, ◌^◌, min, max, Bool, true, false, All, IsTrue, List, [], ◌++◌, Option, IfSome, is_some}
 use Rattle.nsq_outside.specs.Causes.{Rose}
 use Rattle.disk_queue.specs.Seen.{Seen as Queue}
 use Rattle.backlog.specs.Seen.{QueueIsSaved}
@@ -22,7 +22,7 @@ use Rattle.turn_laws.specs.Laid.{IsLaid}
 use Rattle.turn_laws.specs.Laws.{RoseBy}
 use Rattle.floor_turns.specs.Acting.{ActsBy, FaultsRose}
 use Rattle.broker_floor.specs.Scenes.{Scene}
-use Rattle.broker_floor.specs.Leads.{LeavesHall}
+use Rattle.broker_floor.specs.Leads.{LeavesHall, MarksStand}
 
 -- the clock was read once, and the moment is its reading where that is later, and no later than the greatest one
 pub record ReadsOnce (tells_readings : Bool) (old new : Scene) : Type 0 where
@@ -53,7 +53,12 @@ pub record IsServed (h : Hall) (at number : ℕ) (c : Call) (answer : Turned) (a
 pub record IsStuckStop (tells_files : Bool) (c : Call) (added : History) (old new : Scene) : Type 0 where
   pub call : c ≡ call.Stop
   pub apart : faults_apart added ≡ 0
-  pub rose : IsTrue tells_files → Rose old.faults new.faults
+  pub rose : IsTrue tells_files → (s : State) → HoldsFor old.hall old.files s → Rose old.faults new.faults
+
+-- no mark of a queue begins anew; a tick may end marks, of what is saved
+abbrev pub MarksBy : Call → Turned → (at : ℕ) → (old new : List Room) → Type 0
+MarksBy call.Tick turned.Quiet at old new = MarksStand at old new
+MarksBy c answer at old new = KeepsSince at old new
 
 -- one turn of a number, for its call, and its answer: due moves, perhaps an entry that a disk fault kept off, where something is to be sent what was held
 -- back, and one act at most; all of them legal, at the moment of the turn, which read the clock once
@@ -64,11 +69,11 @@ pub record IsTurn (tells_notes tells_files tells_readings : Bool) (number : ℕ)
   pub noted : IsTrue tells_notes → new.notes ≡ old.notes ++ added
   pub legal : IsTrue tells_files → (s : State) → HoldsFor old.hall old.files s → MayBegin s number c → (t : State) × Legal s added t × HoldsFor new.hall new.files t
   pub reads : ReadsOnce tells_readings old new
-  pub counted : IsTrue tells_files → RoseBy (faults_of added) old.faults new.faults
-  pub caused : FaultsRose tells_files old.faults new.faults laid.acts
+  pub counted : IsTrue tells_files → (s : State) → HoldsFor old.hall old.files s → RoseBy (faults_of added) old.faults new.faults
+  pub caused : FaultsRose old.faults new.faults laid.acts
   pub faults : old.faults ≤ new.faults
   pub hall : LeavesHall old.hall new.hall
-  pub since : KeepsSince new.hall.moment old.hall.rooms.items new.hall.rooms.items
+  pub marks : MarksBy c answer new.hall.moment old.hall.rooms.items new.hall.rooms.items
   pub stuck : new.hall.stuck ≡ true → (old.hall.stuck ≡ true) ⊎ IsStuckStop tells_files c added old new
   pub files : IsTrue tells_files → OnlyQueueFiles old.files new.files
 

@@ -132,14 +132,14 @@ pub record Passes (at : ℕ) (held acts : History) (s : State) (new : Sight) : T
   pub steps : Steps between acts to
   pub holds : HoldsFor new.hall new.files to
 
--- an act ends with a disk fault only where the count rose; one that sends nothing for a damaged file only where files aren't told
-abbrev pub FaultRose : (tells_files : Bool) → (before now : ℕ) → Act → Type 0
-FaultRose tells_files before now (act.Stuck topic channel) = IsTrue tells_files → Rose before now
-FaultRose tells_files before now _ = Rose before now
+-- what is answered by a disk fault comes only where the count rose
+abbrev pub FaultRose : (before now : ℕ) → Act → Type 0
+FaultRose before now (act.Stuck topic channel) = Unit {0}
+FaultRose before now _ = Rose before now
 
-abbrev pub FaultsRose : (tells_files : Bool) → (before now : ℕ) → History → Type 0
-FaultsRose tells_files before now [] = Unit {0}
-FaultsRose tells_files before now (e ∷ h) = is_faulted e.1 ≡ true → FaultRose tells_files before now e.0.act
+abbrev pub FaultsRose : (before now : ℕ) → History → Type 0
+FaultsRose before now [] = Unit {0}
+FaultsRose before now (e ∷ h) = is_faulted e.1 ≡ true → FaultRose before now e.0.act
 
 -- what a call of a number made behind what was paid, and its answer
 pub record Acts (tells_notes tells_files : Bool) (number : ℕ) (c : Call) (answer : Turned) (old new : Sight) : Type 0 where
@@ -150,8 +150,8 @@ pub record Acts (tells_notes tells_files : Bool) (number : ℕ) (c : Call) (answ
   pub act : ActsBy old.hall.moment number c answer acts
   pub noted : IsTrue tells_notes → new.noted ≡ old.noted ++ (held ++ acts)
   pub leads : IsTrue tells_files → (s : State) → HoldsFor old.hall old.files s → MayBegin s number c → Passes old.hall.moment held acts s new
-  pub rose : IsTrue tells_files → RoseBy (faults_of acts) old.faults new.faults
-  pub caused : FaultsRose tells_files old.faults new.faults acts
+  pub rose : IsTrue tells_files → (s : State) → HoldsFor old.hall old.files s → RoseBy (faults_of acts) old.faults new.faults
+  pub caused : FaultsRose old.faults new.faults acts
   pub faults : old.faults ≤ new.faults
   pub clients : ClientsBy acts number old.hall new.hall
   pub stays : StaysSet old.hall new.hall

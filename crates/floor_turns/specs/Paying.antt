@@ -8,7 +8,7 @@ use Rattle.broker_history.specs.Legal.{Legal}
 use Rattle.floor_rooms.specs.declared.hall.Hall.{Hall}
 use Rattle.floor_rooms.specs.Sound.{IsSound}
 use Rattle.floor_rooms.specs.Standing.{HoldsFor}
-use Rattle.floor_moves.specs.Moves.{Sight, Notes, Rests, RoseBy}
+use Rattle.floor_moves.specs.Moves.{Sight, Notes, NothingNoted, RoseBy}
 use Rattle.floor_moves.specs.declared.made.Made.{Made}
 use Rattle.floor_moves.specs.declared.made.Made.TheVariants as made
 use Rattle.turn_laws.specs.Laid.{AreMoved, AreHeldBack, EndsStuck, IsMoved}
@@ -23,7 +23,7 @@ pub record Extends (tells_notes tells_files : Bool) (Is : History → Type 0) (o
   pub is : Is added
   pub noted : IsTrue tells_notes → new.noted ≡ old.noted ++ added
   pub legal : IsTrue tells_files → (s : State) → HoldsFor old.hall old.files s → (t : State) × Legal s added t × HoldsFor new.hall new.files t
-  pub rose : IsTrue tells_files → RoseBy (faults_of added) old.faults new.faults
+  pub rose : IsTrue tells_files → (s : State) → HoldsFor old.hall old.files s → RoseBy (faults_of added) old.faults new.faults
   pub faults : old.faults ≤ new.faults
 
 -- so many moves of this moment were made
@@ -53,16 +53,16 @@ abbrev pub LeavesHall : Paid → Hall → Type 0
 LeavesHall Clear h = IsClear h
 LeavesHall _ h = Unit {0}
 
-abbrev pub CountsStuck : (tells_files : Bool) → (before now : ℕ) → Paid → Type 0
-CountsStuck tells_files before now Stuck = IsTrue tells_files → Rose before now
-CountsStuck tells_files before now _ = Unit {0}
+abbrev pub CountsStuck : (tells_files : Bool) → (old new : Sight) → Paid → Type 0
+CountsStuck tells_files old new Stuck = IsTrue tells_files → (s : State) → HoldsFor old.hall old.files s → Rose old.faults new.faults
+CountsStuck tells_files old new _ = Unit {0}
 
 -- due moves of the hall's moment were made, no more than so many: until nothing was due any more, until they were so many, until one got stuck, or until
 -- memory was wanting
 pub record Pays (tells_notes tells_files : Bool) (most : ℕ) (old new : Sight) (paid : Paid) : Type 0 where
   pub extends : Extends tells_notes tells_files (IsPayment old.hall.moment most paid) old new
   pub leaves : LeavesHall paid new.hall
-  pub stuck : CountsStuck tells_files old.faults new.faults paid
+  pub stuck : CountsStuck tells_files old new paid
 
 -- behind what was paid a turn may make its act, also behind what was held back then, where that left no more due
 abbrev pub MayActBehind : (at : ℕ) → (paid : History) → State → Type 0
@@ -78,13 +78,13 @@ abbrev pub PaidMayStop : Type 0
 PaidMayStop = (tells_notes tells_files : Bool) (most : ℕ) (old new : Sight) (paid : Paid) (pays : Pays tells_notes tells_files most old new paid) → paid ≢ Wants → paid ≢ Most → IsSound new.hall
     → (t : State) → HoldsFor new.hall new.files t → MayStop pays.extends.added t old.hall.moment
 
--- how one move ended that was due: it was made at the hall's moment; or a disk fault kept it off, and the count rose where files are told; or nothing was
+-- how one move ended that was due: it was made at the hall's moment; or a disk fault kept it off, and where all is told the count rose; or nothing was
 -- done, as memory was wanting, or nothing is due
 abbrev pub MovesNext : (tells_notes tells_files : Bool) → (old new : Sight) → Moved → Type 0
 MovesNext tells_notes tells_files old new moved.Done = Notes tells_notes tells_files (IsMoved old.hall.moment) old new
-MovesNext tells_notes tells_files old new moved.Stuck = Notes tells_notes tells_files (λ e. is_stuck_at old.hall.moment e ≡ true) old new × (IsTrue tells_files → Rose old.faults new.faults)
-MovesNext tells_notes tells_files old new moved.Memory = Rests tells_notes tells_files old new
-MovesNext tells_notes tells_files old new moved.Nothing = Rests tells_notes tells_files old new × IsClear new.hall
+MovesNext tells_notes tells_files old new moved.Stuck = Notes tells_notes tells_files (λ e. is_stuck_at old.hall.moment e ≡ true) old new × (IsTrue tells_files → (s : State) → HoldsFor old.hall old.files s → Rose old.faults new.faults)
+MovesNext tells_notes tells_files old new moved.Memory = NothingNoted tells_notes tells_files old new
+MovesNext tells_notes tells_files old new moved.Nothing = NothingNoted tells_notes tells_files old new × IsClear new.hall
 
 -- how it ended, by how the one that was tried did
 abbrev pub ended : Made → Moved

@@ -48,4 +48,7 @@ pub fn carry_out<F: Folder, L: Ledger>(
     ensures scratch { length scratch.new ≡ length scratch.old }
     ensures files { IsTrue F.tells_files → OnlyQueueFiles (F.files folder.old) (F.files folder.new) }
     ensures faults { F.folder_faults folder.old ≤ F.folder_faults folder.new }
-{}
+{
+    let _ = (number, planned);
+    Err(Memory)
+}

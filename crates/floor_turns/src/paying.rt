@@ -1,12 +1,17 @@
-ghost use Rattle.std.specs.Prelude.{◌≡◌, ◌≤◌, IsTrue, false, length};
-ghost use Rattle.floor_rooms.specs.Changes.{KeepsRooms, OnlyQueueFiles};
+ghost use Rattle.std.specs.Prelude.{◌≡◌, ◌<◌, ◌≤◌, IsTrue, false, length};
+ghost use Rattle.nsq_outside.specs.Files.{Files};
+ghost use Rattle.broker_history.specs.State.{State};
+ghost use Rattle.floor_rooms.specs.Changes.{OnlyQueueFiles};
 ghost use Rattle.floor_rooms.specs.Sound.{IsSound};
+ghost use Rattle.floor_rooms.specs.Standing.{HoldsFor};
+ghost use Rattle.floor_moves.specs.Due.{DueFound};
 ghost use Rattle.floor_moves.specs.Moves.{sight, Keeps};
-ghost use Rattle.floor_turns.specs.Paying.{MovesNext, Pays};
+ghost use Rattle.floor_turns.specs.Paying.{MovesNext, Pays, ended};
 
 use broker_history::Entry;
-use floor_moves::{Made, Place, copy_message, find_due, find_pending, move_due, take_message};
+use floor_moves::{Made, Place, find_due, find_pending, move_due};
 use floor_rooms::Hall;
+use floor_stub::{copy_message, take_message};
 use nsq_base::Steps;
 use nsq_outside::{Folder, Journal};
 use std::sync::ledger::Ledger;
@@ -56,7 +61,6 @@ pub fn pay<F: Folder, J: Journal<Entry>, L: Ledger>(
     ensures calm { J.is_aside journal.new ≡ false }
     ensures scratch { length scratch.new ≡ length scratch.old }
     ensures keeps { Keeps hall.old hall.new }
-    ensures rooms { KeepsRooms hall.old.moment hall.old.rooms.items hall.new.rooms.items }
     ensures files { IsTrue F.tells_files → OnlyQueueFiles (F.files folder.old) (F.files folder.new) }
 {
     let mut from = 0;
@@ -88,15 +92,50 @@ fn next_move<F: Folder, J: Journal<Entry>, L: Ledger>(
     ensures sound { IsSound hall.new }
     ensures calm { J.is_aside journal.new ≡ false }
     ensures keeps { Keeps hall.old hall.new }
-    ensures rooms { KeepsRooms hall.old.moment hall.old.rooms.items hall.new.rooms.items }
     ensures files { IsTrue F.tells_files → OnlyQueueFiles (F.files folder.old) (F.files folder.new) }
 {
-    if hall.moment >= hall.quiet_until {
-        if let Some(place) = find_due(hall, *from) {
+    match due_place(hall, *from) {
+        Some(place) => {
             *from = place.room;
-            return ended(move_due(hall, place, folder, scratch, journal, steps));
+            ended(move_due(hall, place, folder, scratch, journal, steps))
         }
+        None => next_owed(hall, folder, scratch, journal, steps),
     }
+}
+
+// A channel of which a copy is due, looked for from the topic at a place on.
+fn due_place(hall: &mut Hall, from: usize) -> Option<Place>
+    requires { IsSound hall.old }
+    ensures found { DueFound hall.old.moment hall.new.quiet_until hall.new.rooms.items result }
+    ensures rest { hall.new ≡ record hall.old { quiet_until = hall.new.quiet_until } }
+    ensures sound { IsSound hall.new }
+    ensures stands { (files : Files) (s : State) → HoldsFor hall.old files s → HoldsFor hall.new files s }
+{
+    if hall.moment < hall.quiet_until {
+        return None;
+    }
+    find_due(hall, from)
+}
+
+// Takes a message that waits, or copies one that is owed to a channel, of a topic that is listed, where no copy is due.
+fn next_owed<F: Folder, J: Journal<Entry>, L: Ledger>(
+    hall: &mut Hall,
+    folder: &mut F,
+    scratch: &mut [u8],
+    journal: &mut J,
+    steps: &mut Steps<L>,
+) -> Moved
+    requires sound { IsSound hall.old }
+    requires running { hall.old.stopped ≡ false }
+    requires quiet { hall.old.moment < hall.old.quiet_until }
+    requires calm { J.is_aside journal.old ≡ false }
+    requires scratch { 16777242 ≤ length scratch.old }
+    ensures moves { MovesNext J.tells_notes F.tells_files (sight hall.old (J.notes journal.old) (F.files folder.old) (F.folder_faults folder.old)) (sight hall.new (J.notes journal.new) (F.files folder.new) (F.folder_faults folder.new)) result }
+    ensures sound { IsSound hall.new }
+    ensures calm { J.is_aside journal.new ≡ false }
+    ensures keeps { Keeps hall.old hall.new }
+    ensures files { IsTrue F.tells_files → OnlyQueueFiles (F.files folder.old) (F.files folder.new) }
+{
     let Some(i) = find_pending(hall) else {
         return Moved::Nothing;
     };

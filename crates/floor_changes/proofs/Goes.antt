@@ -144,7 +144,7 @@ module _ (h h' : Hall) (i : ℕ) (room : Room) (sound : IsSound h) (at : slice_g
           | inl same ↦
               let is : topic_name room ≡ name = exact_bytes (topic_name room) name same in
               subst (λ n. IsIdle (new (meta_file n))) is (idle (ap is_ephemeral is ∙ named.1))
-          | inr other ↦ idle_stays old new (topic_name room) name others (apart_names (topic_name room) name other.0) (holds.idle name named other.1)
+          | inr other ↦ idle_stays old new (topic_name room) name others (apart_names (topic_name room) name other.0) (holds.idle.topics name named other.1)
         ]
 
     channels_left : (topic channel : List ℕ) → IsName topic → IsDurableChannel topic channel → stall_at h'.rooms.items topic channel ≡ None → IsIdle (new (meta_file (queue_name topic channel)))
@@ -156,26 +156,30 @@ module _ (h h' : Hall) (i : ℕ) (room : Room) (sound : IsSound h) (at : slice_g
           | inr other ↦ other.1
         ] in
         idle_stays old new (topic_name room) (queue_name topic channel) others
-        (λ e. topic_is_no_channel (topic_name room) topic channel (at_all (IsRoomSound h) h.rooms.items i room sound.rooms at).named (sym e)) (holds.idle_channels topic channel nt nc before)
+        (λ e. topic_is_no_channel (topic_name room) topic channel (at_all (IsRoomSound h) h.rooms.items i room sound.rooms at).named (sym e)) (holds.idle.channels topic channel nt nc before)
 
     pub left_stands : HoldsFor h' new (without_topic s (topic_name room))
     left_stands =
-        let earlier = holds.moment in
+        let earlier = holds.stands.moment in
         let later = rest.moment in
         let Both : Room → Topic → Type 0 = λ a t. IsNamedRoom a × IsRoomOf old a t in
         let all : Pairwise Both h.rooms.items s.topics =
-        pairs_become (IsRoomOf old) Both IsNamedRoom h.rooms.items s.topics (λ a t n r. (n, r)) (All-weaker (IsRoomSound h) IsNamedRoom (named_room h) h.rooms.items sound.rooms) holds.topics in
+        pairs_become (IsRoomOf old) Both IsNamedRoom h.rooms.items s.topics (λ a t n r. (n, r)) (All-weaker (IsRoomSound h) IsNamedRoom (named_room h) h.rooms.items sound.rooms) holds.stands.topics in
         record {
-          options = holds.options ∙ sym rest.options;
-          epoch = holds.epoch ∙ sym rest.epoch;
-          ids_used = holds.ids_used ∙ sym rest.ids_used;
-          moment = omega (arith, earlier, later);
-          stopped = holds.stopped ∙ sym rest.stopped;
-          clients = holds.clients ∙ sym rest.clients;
-          topics = subst (λ xs. Pairwise (IsRoomOf new) xs (without_topic s (topic_name room)).topics) (sym left_rooms)
-              (pairs_gone topic_name (λ (t : Topic). t.name) Both (IsRoomOf new) (topic_name room) h.rooms.items s.topics (λ a t x. room_named old a t x.1) room_left all);
-          idle = idle_left;
-          idle_channels = channels_left;
+          stands = record {
+            options = holds.stands.options ∙ sym rest.options;
+            epoch = holds.stands.epoch ∙ sym rest.epoch;
+            ids_used = holds.stands.ids_used ∙ sym rest.ids_used;
+            moment = omega (arith, earlier, later);
+            stopped = holds.stands.stopped ∙ sym rest.stopped;
+            clients = holds.stands.clients ∙ sym rest.clients;
+            topics = subst (λ xs. Pairwise (IsRoomOf new) xs (without_topic s (topic_name room)).topics) (sym left_rooms)
+                (pairs_gone topic_name (λ (t : Topic). t.name) Both (IsRoomOf new) (topic_name room) h.rooms.items s.topics (λ a t x. room_named old a t x.1) room_left all);
+          };
+          idle = record {
+            topics = idle_left;
+            channels = channels_left;
+          };
         }
 
 -- an item that went and is put back at its place is set there

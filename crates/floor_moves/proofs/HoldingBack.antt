@@ -39,8 +39,9 @@ use Rattle.floor_moves.specs.declared.due.Place.{Place}
 use Rattle.floor_moves.specs.Due.{HasStallAt}
 use Rattle.floor_moves.specs.Moves.{Keeps, Notes, NothingNoted, Sight, entry_at, sight}
 use Rattle.floor_moves.specs.Holding.{DrawsHeld, IsDrawnFrom, SettlesHeld, UndoesHeld, IsHeldAt, IsActOf}
-use Rattle.floor_moves.proofs.Keeping.{keeps_on, keeps_stall, only_of_channel, only_on, rest_rooms}
-use Rattle.floor_moves.proofs.Remaining.{since_same}
+use Rattle.floor_moves.proofs.Keeping.{keeps_on, keeps_stall, rest_rooms}
+use Rattle.floor_rooms.proofs.Dating.{since_same}
+use Rattle.floor_rooms.proofs.Filing.{only_of_channel, only_then}
 use Rattle.floor_moves.proofs.PuttingBack.{room_here, some_same, stands_now}
 use Rattle.floor_moves.proofs.Joining.{Both, join, others_on, named_on}
 use Rattle.floor_moves.proofs.Stepping.{Noted, noted_done, daemon, steps_to, rose_none}
@@ -185,7 +186,7 @@ module _ (tells : Bool) (place : Place) (id : List ℕ) (b : Sight) (h1 : Hall) 
 
       pub settled_files : IsTrue tells → OnlyQueueFiles b.files f2
       settled_files told =
-          only_on b.files f1 f2 (drawn_files told)
+          only_then b.files f1 f2 (drawn_files told)
           (only_of_channel (topic_name d.at.room) (channel_name d.at.does.stall) d.at.does.after.channel.backlog.queue f1 f2 room_is.named stall_is.named
           (named_on d.at.does.stall.channel.backlog.queue d.at.does.after.channel.backlog.queue (queue_name (topic_name d.at.room) (channel_name d.at.does.stall)) d.at.does.does.disk.queue stall_is.queue) (both.does.does.second.disk.others told))
 
@@ -199,7 +200,7 @@ module _ (tells : Bool) (place : Place) (id : List ℕ) (b : Sight) (h1 : Hall) 
       held_carries : IsTrue tells → ((s : State) → HoldsFor h2 f2 s → HoldsFor h3 f2 s) → (s : State) → HoldsFor b.hall b.files s → (t : State) × DoesMove s b.hall.moment (HeldBack (topic_name d.at.room) (channel_name d.at.does.stall) id) t × HoldsFor h3 f2 t
       held_carries told end s holds =
           let moment : h1.moment ≡ b.hall.moment = ap (λ (h : Hall). h.moment) d.rest in
-          let timeout : b.hall.moment + d.at.does.stall.channel.about.msg_timeout ≡ b.hall.moment + s.options.msg_timeout = ap (λ (x : About). b.hall.moment + x.msg_timeout) stall_is.about ∙ ap (λ (o : Options). b.hall.moment + o.msg_timeout) (sym holds.options) in
+          let timeout : b.hall.moment + d.at.does.stall.channel.about.msg_timeout ≡ b.hall.moment + s.options.msg_timeout = ap (λ (x : About). b.hall.moment + x.msg_timeout) stall_is.about ∙ ap (λ (o : Options). b.hall.moment + o.msg_timeout) (sym holds.stands.options) in
           let settles : SettlesHeld tells b.hall.moment f1 f2 n1 n2 d.at.does.after both.does.after = subst (λ n. SettlesHeld tells n f1 f2 n1 n2 d.at.does.after both.does.after) moment both.does.does.second in
           let r =
           at_stall b.hall h2 b.files f2 s (topic_name d.at.room) (channel_name d.at.does.stall) d.at.does.stall both.does.after (HoldsBack Moves id (b.hall.moment + s.options.msg_timeout)) d.sound holds (held_change told)

@@ -1,19 +1,12 @@
--- What moves leave of a hall, and of files.
-use Rattle.std.proofs.Common.{◌≡◌, ◌≤◌, ℕ, List, Option, Some, None, refl, sym, ap, subst, ◌∙◌, arith}
-use Rattle.std.specs.Prelude.{IfSome}
-use Rattle.nsq_base.specs.Name.{IsName}
-use Rattle.nsq_outside.specs.Files.{Files}
-use Rattle.queue_image.specs.FileNames.{IsQueueName}
-use Rattle.queue_image.specs.FileNames.IsQueueName.{of_topic, of_channel}
-use Rattle.disk_queue.specs.Seen.{Seen as Queue}
-use Rattle.backlog.specs.Lists.{DiskChanges}
-use Rattle.channel_core.specs.Seen.{queue_name}
+-- What moves leave of a hall.
+use Rattle.std.proofs.Common.{◌≡◌, ◌≤◌, ℕ, refl, sym, ap, subst, ◌∙◌, arith}
 use Rattle.floor_rooms.specs.declared.stall.Stall.{Stall}
 use Rattle.floor_rooms.specs.declared.hall.Hall.{Hall}
-use Rattle.floor_rooms.specs.Changes.{AtStall, KeepsRooms, KeepsStall, OnlyQueueFiles, marked}
+use Rattle.floor_rooms.specs.Changes.{AtStall, KeepsRooms, KeepsStall, marked}
 use Rattle.floor_rooms.proofs.Holding.{StaysElse}
 use Rattle.floor_moves.specs.Moves.{Keeps}
-use Rattle.floor_moves.proofs.Remaining.{rooms_at_stall, rooms_on, rooms_same, stall_marked}
+use Rattle.floor_rooms.proofs.Dating.{keeps_at_stall, keeps_marks_stall, keeps_then}
+use Rattle.floor_rooms.proofs.Dating.{keeps_same as rooms_same}
 
 -- other topics are listed
 pub keeps_from : (h h' : Hall) → h' ≡ record h { rooms = h'.rooms; pending = h'.pending } → KeepsRooms h.moment h.rooms.items h'.rooms.items → Keeps h h'
@@ -56,7 +49,7 @@ keeps_on h h1 h' a b = record {
   stuck = b.stuck ∙ a.stuck;
   unsaved_names = b.unsaved_names ∙ a.unsaved_names;
   clients = b.clients ∙ a.clients;
-  rooms = rooms_on h.moment h.rooms.items h1.rooms.items h'.rooms.items a.rooms (subst (λ n. KeepsRooms n h1.rooms.items h'.rooms.items) a.moment b.rooms);
+  rooms = keeps_then h.moment h.rooms.items h1.rooms.items h'.rooms.items a.rooms (subst (λ n. KeepsRooms n h1.rooms.items h'.rooms.items) a.moment b.rooms);
 }
 
 same_most : (a b : ℕ) → b ≡ a → a ≤ b
@@ -82,23 +75,6 @@ rest_rooms h h' e = record {
   clients = ap (λ (x : Hall). x.clients.items) e;
 }
 
--- what changes on a queue's disk is in files of queues
-only_of : (name : List ℕ) (queue : Option Queue) (old new : Files) → IsQueueName name → IfSome queue (λ q. q.name ≡ name) → DiskChanges queue old new → OnlyQueueFiles old new
-only_of name None old new named is change = λ file other. change file
-only_of name (Some q) old new named is change = λ file other. change file (other q.name (subst IsQueueName (sym is) named))
-
-pub only_of_topic : (name : List ℕ) (queue : Option Queue) (old new : Files) → IsName name → IfSome queue (λ q. q.name ≡ name) → DiskChanges queue old new → OnlyQueueFiles old new
-only_of_topic name queue old new named is change = only_of name queue old new (of_topic named) is change
-
-pub only_of_channel : (topic channel : List ℕ) (queue : Option Queue) (old new : Files) → IsName topic → IsName channel → IfSome queue (λ q. q.name ≡ queue_name topic channel) → DiskChanges queue old new → OnlyQueueFiles old new
-only_of_channel topic channel queue old new nt nc is change = only_of (queue_name topic channel) queue old new (of_channel topic channel nt nc refl) is change
-
-pub only_on : (f0 f1 f2 : Files) → OnlyQueueFiles f0 f1 → OnlyQueueFiles f1 f2 → OnlyQueueFiles f0 f2
-only_on f0 f1 f2 a b = λ file other. b file other ∙ a file other
-
-pub only_same : (old new : Files) → ((file : List ℕ) → new file ≡ old file) → OnlyQueueFiles old new
-only_same old new same = λ file other. same file
-
 -- another moment until which all is quiet
 pub keeps_quiet : (h h' : Hall) (quiet : ℕ) → h' ≡ record h { quiet_until = quiet } → Keeps h h'
 keeps_quiet h h' quiet e = record {
@@ -121,8 +97,8 @@ keeps_same h = record { options = refl; epoch = refl; began_at = refl; ids_used 
 -- one channel was marked
 pub keeps_stall_mark : (h h' : Hall) (unsaved i j : ℕ) → h' ≡ record h { rooms = h'.rooms; unsaved_from = unsaved } → AtStall i j (λ a b. b ≡ record a { since = marked a.since h.moment }) h.rooms.items h'.rooms.items → Keeps h h'
 keeps_stall_mark h h' unsaved i j e x =
-    keeps_marked h h' unsaved e (rooms_at_stall h.moment i j (λ (a b : Stall). b ≡ record a { since = marked a.since h.moment }) h.rooms.items h'.rooms.items x (stall_marked h.moment x.does.stall x.does.after x.does.does))
+    keeps_marked h h' unsaved e (keeps_marks_stall h.moment i j h.rooms.items h'.rooms.items x)
 
 -- or changed in a way that keeps what moves do
 pub keeps_stall : (h h' : Hall) (i j : ℕ) (Does : Stall → Stall → Type 0) → h' ≡ record h { rooms = h'.rooms } → (x : AtStall i j Does h.rooms.items h'.rooms.items) → KeepsStall h.moment x.does.stall x.does.after → Keeps h h'
-keeps_stall h h' i j Does e x keeps = keeps_marked h h' h.unsaved_from e (rooms_at_stall h.moment i j Does h.rooms.items h'.rooms.items x keeps)
+keeps_stall h h' i j Does e x keeps = keeps_marked h h' h.unsaved_from e (keeps_at_stall h.moment i j Does h.rooms.items h'.rooms.items x keeps)

@@ -43,8 +43,9 @@ use Rattle.floor_moves.specs.declared.moving.Due.{Due}
 use Rattle.floor_moves.specs.Due.{HasStall, HasStallAt}
 use Rattle.floor_moves.specs.Moves.{Keeps, Notes, entry_at, sight, IsMade, IsKeptOff}
 use Rattle.floor_moves.specs.Moving.{act_of, is_done, IsFirstDue, IsDueAt, MovesStall, PutsDue, PutFails}
-use Rattle.floor_moves.proofs.Keeping.{keeps_stall, rest_of, only_of_channel}
-use Rattle.floor_moves.proofs.Remaining.{since_same}
+use Rattle.floor_moves.proofs.Keeping.{keeps_stall, rest_of}
+use Rattle.floor_rooms.proofs.Dating.{since_same}
+use Rattle.floor_rooms.proofs.Filing.{only_of_channel}
 use Rattle.floor_moves.proofs.Stepping.{Noted, noted_done, noted_fault, daemon, steps_to, rose_none, rose_one}
 
 pub some_same : {X : Type 0} (x y : X) → Some x ≡ Some y → x ≡ y
@@ -258,7 +259,7 @@ due_put tells h0 h1 h2 h3 old new before after place due answer sound k01 k12 is
     let r : PutsDue h1.moment (act_with due.flies (topic_name at.room) (channel_name at.does.stall) due.id) h0 old h3 new (is_done answer) =
     puts tells it_tells h0 h1 h2 h3 old new before after h1.moment (topic_name at.room) (channel_name at.does.stall) at.does.stall at.does.after sound
     (change tells h1 h2 old new before after place answer sound at k12 it_tells)
-    (λ s holds. own_room h1.options (topic_name at.room) h1.quiet_until h1.unsaved_from at.does.stall s (stall_is tells h1 h2 old new before after place answer sound at) holds.options)
+    (λ s holds. own_room h1.options (topic_name at.room) h1.quiet_until h1.unsaved_from at.does.stall s (stall_is tells h1 h2 old new before after place answer sound at) holds.stands.options)
     start end due.id due.flies answer first.first at.does.does in
     subst (λ n. PutsDue n (act_of due) h0 old h3 new (is_done answer)) k01.moment
     (subst (λ x. PutsDue h1.moment x h0 old h3 new (is_done answer)) (sym act) r)

@@ -110,6 +110,7 @@ sound_quiet h quiet sound all = record {
   members = sound.members;
   channels = sound.channels;
   ready = sound.ready;
+  past = sound.past;
 }
   where
     stall_quiet : (o : Options) (topic : List ℕ) (q quiet u : ℕ) (s : Stall) → IsStallSound o topic q u s → IsQuietUntil quiet s.channel → IsStallSound o topic quiet u s

@@ -32,7 +32,7 @@ noted_fault tells old mid new kept entry h told = if_some kept entry (λ e. jour
 
 -- the daemon is running where the hall is
 pub daemon : (h : Hall) (files : Files) (s : State) → h.stopped ≡ false → HoldsFor h files s → IsDaemons s 0
-daemon h files s running holds = record { daemon = refl; running = holds.stopped ∙ running }
+daemon h files s running holds = record { daemon = refl; running = holds.stands.stopped ∙ running }
 
 -- a state that the hall stands for, with what an act makes of it, steps there at the hall's moment
 pub steps_to : (h h' : Hall) (old new : Files) (s t : State) (act : Act) (end : End) → IsSound h → Keeps h h' → HoldsFor h old s → IsAllowedAct s h.moment 0 act end → DoesAct s h.moment 0 act end t → HoldsFor h' new t
@@ -40,7 +40,7 @@ pub steps_to : (h h' : Hall) (old new : Files) (s t : State) (act : Act) (end : 
 steps_to h h' old new s t act end sound keeps holds allowed does after =
     let same = keeps.moment in (
       at_moment t h.moment,
-      record { allowed = allowed; later = holds.moment; bounded = sound.moment; between = t; does = does; is = refl },
+      record { allowed = allowed; later = holds.stands.moment; bounded = sound.moment; between = t; does = does; is = refl },
       holds_at h' new t h.moment (omega (arith, same)) after,
     )
 

@@ -1,5 +1,5 @@
 -- Topics that rest are listed no more: the hall is as sound, and stands for the same.
-use Rattle.std.proofs.Common.{◌≡◌, ◌≢◌, ◌<◌, ℕ, suc, zero, set, true, false, if◌then◌else◌, List, ◌∷◌, length, get_or, Some, refl, sym, ap, subst, ◌∙◌, arith}
+use Rattle.std.proofs.Common.{◌≡◌, ◌≢◌, ◌<◌, ◌≤◌, ℕ, suc, zero, set, true, false, if◌then◌else◌, List, ◌∷◌, length, get_or, Some, refl, sym, ap, subst, ◌∙◌, arith}
 use Rattle.std.specs.Prelude.{IfSome}
 use Rattle.std.specs.List.{Contains}
 use Rattle.std.proofs.lemmas.Bool.{false≢true}
@@ -15,12 +15,13 @@ use Rattle.floor_rooms.specs.Standing.{HoldsFor}
 use Rattle.floor_rooms.specs.Changes.{AtRoom}
 use Rattle.floor_rooms.proofs.Placing.{found_at, put_at}
 use Rattle.broker_history.proofs.Lists.{find_put, same_bytes}
-use Rattle.floor_rooms.proofs.Sounding.{KeepsRest, at_all, room_lowered, sound_at_room}
+use Rattle.floor_rooms.proofs.Sounding.{KeepsRest, at_all, room_lowered, room_past, sound_at_room}
 use Rattle.floor_rooms.proofs.Holding.{holds_at_room, holds_same, room_alike}
 use Rattle.floor_moves.specs.Pending.{IsRelisted, IsUnlisted, Unlists}
 use Rattle.floor_moves.proofs.PuttingBack.{some_same}
 use Rattle.floor_moves.proofs.Keeping.{keeps_from}
-use Rattle.floor_moves.proofs.Remaining.{pairs_on, pairs_one, relisted_keep, relisted_on, relisted_same}
+use Rattle.floor_rooms.proofs.Dating.{pairs_one, pairs_then}
+use Rattle.floor_moves.proofs.Remaining.{relisted_keep, relisted_on, relisted_same}
 use Rattle.floor_moves.specs.Moves.{Keeps}
 
 abbrev pub Rested : Room → Room → Type 0
@@ -34,6 +35,7 @@ module _ (h h' : Hall) (i : ℕ) (sound : IsSound h) (rest : h' ≡ record h { r
     epoch = ap (λ (x : Hall). x.epoch) rest;
     ids_used = ap (λ (x : Hall). x.ids_used) rest;
     moment = omega (arith, moment, same);
+    later = omega (arith, same);
     clients = ap (λ (x : Hall). x.clients.items) rest;
   }
 
@@ -62,7 +64,8 @@ module _ (h h' : Hall) (i : ℕ) (sound : IsSound h) (rest : h' ≡ record h { r
       room_lowered h h' at.after keeps.lowers (subst (IsRoomSound h) (sym at.does.0) now)
 
   pub unlisted_sound : IsSound h'
-  unlisted_sound = sound_at_room h h' i Rested sound keeps at same_name same_stalls room_now
+  unlisted_sound =
+      sound_at_room h h' i Rested sound keeps at same_name same_stalls room_now (subst (λ o. IfSome o (λ m. m ≤ h'.moment)) (sym (ap (λ (r : Room). r.since) at.does.0)) (room_past h h' i Rested sound keeps.later at))
 
   pub unlisted_stands : (files : Files) (s : State) → HoldsFor h files s → HoldsFor h' files s
   unlisted_stands files s holds =
@@ -133,6 +136,7 @@ module _ (h h' : Hall) (name : List ℕ) (more : List (List ℕ)) (sound : IsSou
     members = sound.members;
     channels = sound.channels;
     ready = sound.ready;
+    past = sound.past;
   }
 
 -- where a hall's own list is another's
@@ -153,7 +157,7 @@ pub unlists_on : (h h1 h2 h3 : Hall) → Unlists h h1 → h2 ≡ record h1 { roo
     → Unlists h h3
 unlists_on h h1 h2 h3 a r2 rooms r3 sound stands = record {
   sound = sound;
-  rooms = pairs_on IsRelisted h.rooms.items h1.rooms.items h3.rooms.items relisted_on a.rooms (subst (λ (x : Hall). Pairwise IsRelisted h1.rooms.items x.rooms.items) (sym r3) rooms);
+  rooms = pairs_then IsRelisted relisted_on h.rooms.items h1.rooms.items h3.rooms.items a.rooms (subst (λ (x : Hall). Pairwise IsRelisted h1.rooms.items x.rooms.items) (sym r3) rooms);
   rest = r3 ∙ ap (λ (x : Hall). record x { pending = h3.pending }) r2 ∙ ap (λ (x : Hall). record x { rooms = h2.rooms; pending = h3.pending }) a.rest ∙ ap (λ rooms. record h { rooms = rooms; pending = h3.pending }) (sym (ap (λ (x : Hall). x.rooms) r3));
   stands = λ files s holds. stands files s (a.stands files s holds);
 }
@@ -178,7 +182,7 @@ unlists_more h h1 h2 a r2 rooms sound stands = unlists_on h h1 h2 h2 a r2 rooms 
 
 -- that topic alone
 pub rested_alone : (old new : List Room) (i : ℕ) → AtRoom i Rested old new → Pairwise IsRelisted old new
-rested_alone old new i x = subst (Pairwise IsRelisted old) (sym x.is) (pairs_one IsRelisted old i x.room x.after x.there (λ r. refl) (subst (IsRelisted x.room) (sym x.does.0) refl))
+rested_alone old new i x = subst (Pairwise IsRelisted old) (sym x.is) (pairs_one IsRelisted (λ r. refl) old i x.room x.after x.there (subst (IsRelisted x.room) (sym x.does.0) refl))
 
 -- what that leaves of a hall
 pub unlists_keep : (h h' : Hall) → Unlists h h' → Keeps h h'

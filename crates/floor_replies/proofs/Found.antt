@@ -30,7 +30,7 @@ use Rattle.floor_replies.specs.Replies.{copies_at, flies_in, stall_of, stall_on}
 -- the topic of a name is there in both, or in neither
 pub found_room : (h : Hall) (files : Files) (s : State) → HoldsFor h files s → (topic : List ℕ) → IfBoth (IsRoomOf files) (room_in h.rooms.items topic) (topic_of s topic)
 found_room h files s holds topic =
-    pairs_found (IsRoomOf files) (λ r. bytes_eq topic (topic_name r)) (λ (t : Topic). bytes_eq topic t.name) h.rooms.items s.topics (λ r t is. ap (bytes_eq topic) (sym (room_named files r t is))) holds.topics
+    pairs_found (IsRoomOf files) (λ r. bytes_eq topic (topic_name r)) (λ (t : Topic). bytes_eq topic t.name) h.rooms.items s.topics (λ r t is. ap (bytes_eq topic) (sym (room_named files r t is))) holds.stands.topics
 
 -- so is the channel of a topic
 pub found_stall : (files : Files) (r : Room) (t : Topic) → IsRoomOf files r t → (channel : List ℕ) → IfBoth (IsStallOf files) (stall_in r.stalls.items channel) (channel_of t channel)

@@ -98,7 +98,7 @@ module _ (h h' : Hall) (old new : Files) (s : State) (topic channel : List ℕ) 
   at_topic =
       both_some (IsRoomOf old) c.room (topic_of s topic)
       (subst (λ o. IfBoth (IsRoomOf old) o (topic_of s topic)) c.there
-      (pairs_found (IsRoomOf old) (λ r. bytes_eq topic (topic_name r)) (λ (t : Topic). bytes_eq topic t.name) h.rooms.items s.topics (λ a b r. ap (bytes_eq topic) (sym (room_named old a b r))) holds.topics))
+      (pairs_found (IsRoomOf old) (λ r. bytes_eq topic (topic_name r)) (λ (t : Topic). bytes_eq topic t.name) h.rooms.items s.topics (λ a b r. ap (bytes_eq topic) (sym (room_named old a b r))) holds.stands.topics))
 
   at_own : (k : Channel) × (channel_of at_topic.0 channel ≡ Some k) × IsStallOf old stall k
   at_own =
@@ -143,7 +143,7 @@ module _ (h h' : Hall) (old new : Files) (s : State) (topic channel : List ℕ) 
     rooms_now : Pairwise (IsRoomOf new) h'.rooms.items (put_by (λ (t : Topic). t.name) s.topics (with_channel at_topic.0 up.to))
     rooms_now =
         let Both : Room → Topic → Type 0 = λ a b. IsNamedRoom a × IsRoomOf old a b in
-        let all : Pairwise Both h.rooms.items s.topics = pairs_become (IsRoomOf old) Both IsNamedRoom h.rooms.items s.topics (λ a b n r. (n, r)) all_named holds.topics in
+        let all : Pairwise Both h.rooms.items s.topics = pairs_become (IsRoomOf old) Both IsNamedRoom h.rooms.items s.topics (λ a b n r. (n, r)) all_named holds.stands.topics in
         let same : at_topic.0.name ≡ topic_name c.after = room_named old c.room at_topic.0 at_topic.2 ∙ sym topic_is ∙ sym after_is in
         subst (λ xs. Pairwise (IsRoomOf new) xs (put_by (λ (t : Topic). t.name) s.topics (with_channel at_topic.0 up.to))) (sym c.rooms)
         (pairs_put topic_name (λ (t : Topic). t.name) Both (IsRoomOf new) c.after (with_channel at_topic.0 up.to) h.rooms.items s.topics (λ a b x. room_named old a b x.1) other_room same room_now all)
@@ -154,7 +154,7 @@ module _ (h h' : Hall) (old new : Files) (s : State) (topic channel : List ℕ) 
         (none_one c.after (room_in h.rooms.items name) (bytes_eq name (topic_name c.after)) (sym (find_put topic_name h.rooms.items c.after name) ∙ ap (λ xs. room_in xs name) (sym c.rooms) ∙ none)).1
 
     idle_now : (name : List ℕ) → IsDurableTopic name → room_in h'.rooms.items name ≡ None → IsIdle (new (meta_file name))
-    idle_now name named none = idle_stays old new (queue_name topic channel) name c.others (topic_is_no_channel name topic channel named.0) (holds.idle name named (none_before name none))
+    idle_now name named none = idle_stays old new (queue_name topic channel) name c.others (topic_is_no_channel name topic channel named.0) (holds.idle.topics name named (none_before name none))
 
     idle_channels_now : (t k : List ℕ) → IsName t → IsDurableChannel t k → stall_at h'.rooms.items t k ≡ None → IsIdle (new (meta_file (queue_name t k)))
     idle_channels_now t k nt nk none =
@@ -164,10 +164,10 @@ module _ (h h' : Hall) (old new : Files) (s : State) (topic channel : List ℕ) 
               let gone = none_one to (stall_in c.room.stalls.items k) (bytes_eq k (channel_name to)) (sym (find_put channel_name c.room.stalls.items to k) ∙ ap (λ xs. stall_in xs k) (sym c.stalls) ∙ here.1) in
               let other : k ≢ channel = λ e. false≢true (sym gone.0 ∙ ap (bytes_eq k) (c.named ∙ sym e) ∙ same_bytes k) in
               let before : stall_at h.rooms.items t k ≡ None = ap (λ n. stall_at h.rooms.items n k) same ∙ ap (option_and_then (λ (r : Room). stall_in r.stalls.items k)) c.there ∙ gone.1 in
-              idle_stays old new (queue_name topic channel) (queue_name t k) c.others (other_channel t k topic channel nt named_topic other) (holds.idle_channels t k nt nk before)
+              idle_stays old new (queue_name topic channel) (queue_name t k) c.others (other_channel t k topic channel nt named_topic other) (holds.idle.channels t k nt nk before)
           | inr there ↦
               let other : t ≢ topic = λ e. false≢true (sym there.0 ∙ ap (bytes_eq t) (after_is ∙ sym e) ∙ same_bytes t) in
-              idle_stays old new (queue_name topic channel) (queue_name t k) c.others (other_topic t k topic channel nt named_topic other) (holds.idle_channels t k nt nk there.1)
+              idle_stays old new (queue_name topic channel) (queue_name t k) c.others (other_topic t k topic channel nt named_topic other) (holds.idle.channels t k nt nk there.1)
         ]
 
     changed : AtChannel topic channel Row s (with_topic s (with_channel at_topic.0 up.to))
@@ -181,18 +181,22 @@ module _ (h h' : Hall) (old new : Files) (s : State) (topic channel : List ℕ) 
 
     holds_now : HoldsFor h' new (with_topic s (with_channel at_topic.0 up.to))
     holds_now =
-        let earlier = holds.moment in
+        let earlier = holds.stands.moment in
         let later = c.moment in
         record {
-          options = holds.options ∙ sym c.options;
-          epoch = holds.epoch ∙ sym c.epoch;
-          ids_used = holds.ids_used ∙ sym c.ids_used;
-          moment = omega (arith, earlier, later);
-          stopped = holds.stopped ∙ sym c.stopped;
-          clients = holds.clients ∙ sym c.clients;
-          topics = rooms_now;
-          idle = idle_now;
-          idle_channels = idle_channels_now;
+          stands = record {
+            options = holds.stands.options ∙ sym c.options;
+            epoch = holds.stands.epoch ∙ sym c.epoch;
+            ids_used = holds.stands.ids_used ∙ sym c.ids_used;
+            moment = omega (arith, earlier, later);
+            stopped = holds.stands.stopped ∙ sym c.stopped;
+            clients = holds.stands.clients ∙ sym c.clients;
+            topics = rooms_now;
+          };
+          idle = record {
+            topics = idle_now;
+            channels = idle_channels_now;
+          };
         }
 
 -- where each channel of a state that the stall was leads by the row to one that the changed stall is, so does the state that the hall stood for

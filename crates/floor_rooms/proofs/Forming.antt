@@ -1,10 +1,10 @@
 -- A hall, a topic and a channel as they are made.
-use Rattle.std.proofs.Common.{◌≡◌, ◌≤◌, ◌<◌, ◌^◌, ◌==◌, ℕ, Bool, true, false, not, ◌&&◌, ◌||◌, if◌then◌else◌, List, [], ◌∷◌, length, get_or, Option, Some, None, refl, sym, ap, subst, ◌∙◌, arith}
+use Rattle.std.proofs.Common.{◌≡◌, ◌≤◌, ◌<◌, ◌^◌, ℕ, Bool, true, false, not, ◌&&◌, ◌||◌, if◌then◌else◌, List, [], ◌∷◌, length, get_or, Option, Some, None, refl, sym, ap, subst, ◌∙◌, arith}
 use Rattle.std.specs.Prelude.{IfSome, IsSome, IsTrue, is_some, is_none, option_and_then, unwrap_or}
-use Rattle.std.specs.List.{All, AllPairs, Contains, find, slice_get}
+use Rattle.std.specs.List.{All, AllPairs, Contains, slice_get}
 use Rattle.std.specs.Str.{bytes_eq}
 use Rattle.std.proofs.lemmas.Bool.{false≢true}
-use Rattle.std.proofs.lemmas.List.Elements.{All-nil}
+use Rattle.std.proofs.lemmas.List.Elements.{All-nil, All-weaker}
 use Rattle.std.proofs.lemmas.Option.{get_or_from_slice_get, slice_get-get_or}
 use Rattle.nsq_base.specs.Name.{IsName, is_ephemeral}
 use Rattle.nsq_base.specs.Names.{IsAscendingBy, is_before, put_by}
@@ -20,7 +20,7 @@ use Rattle.history.specs.Found.{Pairwise}
 use Rattle.disk_queue.specs.Seen.{Seen as Queue, fresh_queue}
 use Rattle.backlog.specs.Seen.{QueueIsSaved}
 use Rattle.backlog.specs.Lists.{Stands}
-use Rattle.broker_history.specs.State.{Topic, State, is_empty, new_topic, topic_of, with_topic, topic_or_new}
+use Rattle.broker_history.specs.State.{Topic, State, is_empty, new_topic, topic_of, with_topic}
 use Rattle.broker_history.specs.Changes.{made_topic}
 use Rattle.broker_history.proofs.Lists.{exact_bytes, find_passes}
 use Rattle.topic_core.specs.Seen.{Seen as TopicSeen, fresh_topic, owed_of, queue_options}
@@ -32,14 +32,14 @@ use Rattle.floor_rooms.specs.declared.stall.Stall.{Stall}
 use Rattle.floor_rooms.specs.declared.room.Room.{Room}
 use Rattle.floor_rooms.specs.declared.hall.Hall.{Hall}
 use Rattle.floor_rooms.specs.Rooms.{channel_name, topic_name, room_in, stall_in, stall_at, stall_names, put_room}
-use Rattle.floor_rooms.specs.Sound.{AreMembers, AsksForNone, HasItsChannel, IsMarked, IsRoomSound, IsSound, IsStallSound, has_none_waiting, rests}
-use Rattle.floor_rooms.specs.Standing.{HoldsFor, IsRoomOf, IsStallOf, longest_delay}
+use Rattle.floor_rooms.specs.Sound.{AreMembers, AsksForNone, HasItsChannel, IsMarked, IsPast, IsRoomSound, IsSound, IsStallSound, has_none_waiting}
+use Rattle.floor_rooms.specs.Standing.{HoldsFor, StandsFor, IsRoomOf, IsStallOf, longest_delay}
 use Rattle.floor_rooms.specs.Made.{BeginsIdle, IsEmptyHall, IsFreshRoom, IsUnused, MakesRoom, empty_state, is_new, was_there}
 use Rattle.floor_rooms.specs.Places.{IsThere}
 use Rattle.floor_rooms.proofs.Placing.{found_standing, inserted_at, none_belonging, put_itself, standing_at, there_standing}
 use Rattle.floor_rooms.proofs.Staying.{room_named}
-use Rattle.floor_rooms.proofs.Sounding.{KeepsRest, PutsRoom, sound_put_room}
-use Rattle.floor_rooms.proofs.Holding.{StaysElse, holds_put_room}
+use Rattle.floor_rooms.proofs.Sounding.{sound_put_room}
+use Rattle.floor_rooms.proofs.Holding.{holds_put_room}
 use Rattle.floor_rooms.proofs.Marked.{IsElse, else_keeps, else_stays}
 
 -- in a list of none no two are out of order
@@ -61,10 +61,11 @@ empty_sound o e m h in_range low early is =
       members = subst (All (λ (r : Room). All (AreMembers h.clients.items (topic_name r)) r.stalls.items)) (sym is.rooms) (All-nil (λ (r : Room). All (AreMembers h.clients.items (topic_name r)) r.stalls.items));
       channels = subst (All (HasItsChannel h)) (sym is.clients) (All-nil (HasItsChannel h));
       ready = subst (All AsksForNone) (sym is.clients) (All-nil AsksForNone);
+      past = subst (All (IsPast h.moment)) (sym is.rooms) (All-nil (IsPast h.moment));
     }
 
-pub empty_stands : (o : Options) (e m : ℕ) (h : Hall) (files : Files) → IsEmptyHall o e m h → IsUnused files → HoldsFor h files (empty_state o e m)
-empty_stands o e m h files is unused =
+pub empty_opens : (o : Options) (e m : ℕ) (h : Hall) (files : Files) → IsEmptyHall o e m h → StandsFor h files (empty_state o e m)
+empty_opens o e m h files is =
     let moment = is.moment in
     record {
       options = sym is.options;
@@ -74,9 +75,13 @@ empty_stands o e m h files is unused =
       stopped = sym is.stopped;
       clients = sym is.clients;
       topics = subst (λ rooms. Pairwise (IsRoomOf files) rooms []) (sym is.rooms) tt;
-      idle = λ name named none. unused.topics name named;
-      idle_channels = λ topic channel t c none. unused.channels topic channel t c;
     }
+
+pub empty_stands : (o : Options) (e m : ℕ) (h : Hall) (files : Files) → IsEmptyHall o e m h → IsUnused files → HoldsFor h files (empty_state o e m)
+empty_stands o e m h files is unused = record {
+  stands = empty_opens o e m h files is;
+  idle = record { topics = λ name named none. unused.topics name named; channels = λ topic channel t c none. unused.channels topic channel t c };
+}
 
 -- a queue as it is made has its name, and is saved
 pub fresh_some : (b : Bool) (name : List ℕ) (o : QueueOptions) → is_some (if not b then Some (fresh_queue name o) else None) ≡ not b
@@ -114,6 +119,16 @@ fresh_room_sound h topic r f =
           ap (λ (q : TopicSeen). is_none q.head && (q.paused || (is_empty r.stalls.items || has_none_waiting r))) f.queue ∙ ap (λ (xs : List Stall). is_empty xs || has_none_waiting r) f.stalls;
     }
 
+-- a topic with no mark, nor any of its channels
+pub no_mark : (at : ℕ) (since : Option ℕ) → since ≡ None → IfSome since (λ m. m ≤ at)
+no_mark at since e = subst (λ o. IfSome o (λ m. m ≤ at)) (sym e) tt
+
+pub fresh_past : (at : ℕ) (r : Room) → r.since ≡ None → All (λ (s : Stall). s.since ≡ None) r.stalls.items → IsPast at r
+fresh_past at r since stalls = record {
+  room = no_mark at r.since since;
+  stalls = All-weaker (λ (s : Stall). s.since ≡ None) (λ (s : Stall). IfSome s.since (λ m. m ≤ at)) (λ s e. no_mark at s.since e) r.stalls.items stalls;
+}
+
 -- what is found of both
 pub both_some : {X Y : Type 0} (R : X → Y → Type 0) (x : X) (o : Option Y) → IfBoth R (Some x) o → (y : Y) × (o ≡ Some y) × R x y
 both_some R x None h = absurd h
@@ -126,7 +141,7 @@ both_none R (Some y) h = absurd h
 -- the topics of a name in the hall and in a state belong together
 topics_found : (h : Hall) (files : Files) (s : State) (topic : List ℕ) → HoldsFor h files s → IfBoth (IsRoomOf files) (room_in h.rooms.items topic) (topic_of s topic)
 topics_found h files s topic holds =
-    pairs_found (IsRoomOf files) (λ r. bytes_eq topic (topic_name r)) (λ (t : Topic). bytes_eq topic t.name) h.rooms.items s.topics (λ a b r. ap (bytes_eq topic) (sym (room_named files a b r))) holds.topics
+    pairs_found (IsRoomOf files) (λ r. bytes_eq topic (topic_name r)) (λ (t : Topic). bytes_eq topic t.name) h.rooms.items s.topics (λ a b r. ap (bytes_eq topic) (sym (room_named files a b r))) holds.stands.topics
 
 pub topic_there : (h : Hall) (files : Files) (s : State) (topic : List ℕ) (room : Room) → HoldsFor h files s → room_in h.rooms.items topic ≡ Some room → (t : Topic) × (topic_of s topic ≡ Some t) × IsRoomOf files room t
 topic_there h files s topic room holds there = both_some (IsRoomOf files) room (topic_of s topic) (subst (λ o. IfBoth (IsRoomOf files) o (topic_of s topic)) there (topics_found h files s topic holds))
@@ -180,6 +195,7 @@ module _ (h h' : Hall) (topic : List ℕ) (r : Room) (rest : IsElse h h') (none 
         keeps = else_keeps h h' sound rest quiet unsaved pending;
         rooms = rooms;
         room = fresh_room_sound h' topic r (subst (λ o. IsFreshRoom topic o r) (sym options) fresh);
+        past = fresh_past h'.moment r fresh.since (subst (All (λ (s : Stall). s.since ≡ None)) (sym fresh.stalls) (All-nil (λ (s : Stall). s.since ≡ None)));
         members = subst (All (AreMembers h.clients.items (topic_name r))) (sym fresh.stalls) (All-nil (AreMembers h.clients.items (topic_name r)));
         channels = λ channel has. absurd (false≢true (sym (ap is_some (none_there channel)) ∙ has));
       })
@@ -188,7 +204,7 @@ module _ (h h' : Hall) (topic : List ℕ) (r : Room) (rest : IsElse h h') (none 
   new_stands files s of holds = (
     with_topic s (new_topic topic),
     ap (λ o. with_topic s (unwrap_or o (new_topic topic))) (sym (no_topic h files s topic holds none)),
-    holds_put_room h h' files s r (new_topic topic) (else_stays h h' rest) rooms (of (λ durable. holds.idle topic (fresh.named, durable) none)) (λ channel gone. none_there channel) holds,
+    holds_put_room h h' files s r (new_topic topic) (else_stays h h' rest) rooms (of (λ durable. holds.idle.topics topic (fresh.named, durable) none)) (λ channel gone. none_there channel) holds,
   )
 
 -- what is inserted where it belongs stands there

@@ -1,15 +1,15 @@
 -- A channel that is made and put into a topic of a hall.
-use Rattle.std.proofs.Common.{◌≡◌, ◌⊎◌, inl, inr, ◌≤◌, ◌<◌, ◌^◌, ◌*◌, ◌==◌, ℕ, set, Bool, true, false, not, ◌&&◌, ◌||◌, if◌then◌else◌, nat_eq, List, [], ◌∷◌, ◌++◌, map, length, get_or, Option, Some, None, refl, sym, ap, subst, ◌∙◌, arith}
+use Rattle.std.proofs.Common.{◌≡◌, ◌≤◌, ◌<◌, ◌==◌, ℕ, set, Bool, true, false, not, ◌&&◌, ◌||◌, if◌then◌else◌, nat_eq, List, [], ◌∷◌, map, length, get_or, Option, Some, None, refl, sym, ap, subst, ◌∙◌, arith}
 use Rattle.std.specs.Prelude.{HoldsAt, IfSome, IsSome, IsTrue, is_some, is_none, option_and_then, unwrap_or}
 use Rattle.std.specs.Global.{Vec}
-use Rattle.std.specs.List.{All, AllPairs, Contains, find, insert, list_any, slice_get}
+use Rattle.std.specs.List.{All, AllPairs, Contains, insert, list_any, slice_get}
 use Rattle.std.specs.Str.{bytes_eq}
 use Rattle.std.proofs.lemmas.Bool.{false≢true}
 use Rattle.std.proofs.lemmas.List.{get_or-set_same, length-set, set-set}
-use Rattle.std.proofs.lemmas.List.Elements.{All-cons, All-nil, All-weaker, Contains-append_left, Contains-push}
+use Rattle.std.proofs.lemmas.List.Elements.{All-cons, All-nil, All-weaker}
 use Rattle.std.proofs.lemmas.Option.{get_or_from_slice_get, slice_get_within}
 use Rattle.nsq_base.specs.Name.{IsName, is_ephemeral}
-use Rattle.nsq_base.specs.Names.{IsAscendingBy, is_before, put_by}
+use Rattle.nsq_base.specs.Names.{IsAscendingBy, is_before}
 use Rattle.nsq_base.specs.Options.{IsInRange}
 use Rattle.nsq_base.specs.Places.{BelongsAt, StandsAt}
 use Rattle.nsq_base.specs.declared.options.Options.{Options}
@@ -18,20 +18,19 @@ use Rattle.nsq_outside.specs.Files.{Files}
 use Rattle.queue_files.specs.declared.options.QueueOptions.{QueueOptions}
 use Rattle.queue_image.specs.FileNames.{meta_file}
 use Rattle.queue_image.specs.Metas.{IsIdle}
-use Rattle.v2_frame.specs.declared.message.Message.{Message}
 use Rattle.history.specs.Found.{Pairwise}
 use Rattle.disk_queue.specs.Seen.{fresh_queue}
 use Rattle.backlog.specs.Seen.{QueueIsSaved, ring_depth, disk_depth}
 use Rattle.backlog.specs.Lists.{OnDisk, Stands}
-use Rattle.broker_history.specs.State.{Client, Phase, Fresh, Subscribed, Closing, Lost, Route, Channel, Topic, State, has_channel, is_empty, is_ephemeral_channel, is_lost, is_on, new_channel, new_topic, channel_of, channel_or_new, topic_of, topic_or_new, with_channel, with_topic}
+use Rattle.broker_history.specs.State.{Client, Phase, Fresh, Subscribed, Closing, Lost, Route, Channel, Topic, State, has_channel, is_empty, is_ephemeral_channel, is_lost, is_on, new_channel, new_topic, channel_of, channel_or_new, with_channel, with_topic}
 use Rattle.broker_history.specs.Channels.{IsKept}
 use Rattle.broker_history.specs.Changes.{made_channel}
-use Rattle.broker_history.proofs.Lists.{exact_bytes, find_passes, find_put}
+use Rattle.broker_history.proofs.Lists.{exact_bytes, find_put}
 use Rattle.topic_core.specs.Kept.{IsNamed}
-use Rattle.topic_core.specs.Seen.{Seen as TopicSeen, fresh_topic, owed_of, queue_options as topic_options}
+use Rattle.topic_core.specs.Seen.{Seen as TopicSeen, owed_of, queue_options as topic_options}
 use Rattle.channel_copies.specs.Clients.{client_of}
 use Rattle.channel_core.specs.Answers.{all_due}
-use Rattle.channel_core.specs.Made.{FitsRun, IsFresh, about_of, fresh_of, queue_options}
+use Rattle.channel_core.specs.Made.{FitsRun, IsFresh, about_of, queue_options}
 use Rattle.channel_core.specs.Seen.{Seen as ChannelSeen, channel_with, queue_name, seen_channel}
 use Rattle.floor_clients.specs.Seen.{held_channel}
 use Rattle.floor_laws.proofs.Lifting.{new_kept}
@@ -40,17 +39,17 @@ use Rattle.floor_rooms.specs.declared.stall.Stall.{Stall}
 use Rattle.floor_rooms.specs.declared.room.Room.{Room}
 use Rattle.floor_rooms.specs.declared.hall.Hall.{Hall}
 use Rattle.floor_rooms.specs.Rooms.{channel_name, topic_name, stall_names, room_in, stall_in, stall_at, put_room, put_stall, client_in}
-use Rattle.floor_rooms.specs.Sound.{AreMembers, HasItsChannel, IsMarked, IsQuietUntil, IsRoomSound, IsSound, IsStallSound, has_none_waiting, member_of, rests}
+use Rattle.floor_rooms.specs.Sound.{AreMembers, HasItsChannel, IsMarked, IsPast, IsRoomSound, IsSound, IsStallSound, has_none_waiting, member_of}
 use Rattle.floor_rooms.specs.Standing.{HoldsFor, IsRoomOf, IsStallOf}
-use Rattle.floor_rooms.specs.Changes.{AtRoom, listed_with}
-use Rattle.floor_rooms.specs.Made.{AddsStall, BeginsIdle, ChannelBeginsIdle, IsFreshRoom, IsFreshStall, IsRoomWith, SameStalls}
+use Rattle.floor_rooms.specs.Changes.{AtRoom}
+use Rattle.floor_rooms.specs.Made.{AddsStall, BeginsIdle, ChannelBeginsIdle, IsFreshStall, IsRoomWith, SameStalls}
 use Rattle.floor_rooms.proofs.Placing.{at_place, found_at, found_standing, none_belonging, put_at, put_itself, standing_at}
-use Rattle.floor_rooms.proofs.Staying.{other_channels, room_named, stall_named}
+use Rattle.floor_rooms.proofs.Staying.{other_channels, stall_named}
 use Rattle.floor_rooms.proofs.Changing.{all_found}
-use Rattle.floor_rooms.proofs.Sounding.{KeepsRest, Lowers, at_all, room_lowered, sound_at_room, sound_put_room}
+use Rattle.floor_rooms.proofs.Sounding.{KeepsRest, all_past, at_all, room_lowered, room_past, sound_at_room, sound_put_room}
 use Rattle.floor_rooms.proofs.Holding.{holds_at_room, holds_put_room}
-use Rattle.floor_rooms.proofs.Marked.{IsElse, ListsRoom, else_keeps, else_stays}
-use Rattle.floor_rooms.proofs.Forming.{both_some, both_none, fresh_name, fresh_named, fresh_saved, fresh_some, fresh_stands, no_topic, none_of_none, some_at, topic_there}
+use Rattle.floor_rooms.proofs.Marked.{IsElse, ListsRoom, else_keeps, else_stays, now_listed, still_listed}
+use Rattle.floor_rooms.proofs.Forming.{both_some, both_none, fresh_name, fresh_named, fresh_past, fresh_saved, fresh_some, fresh_stands, no_mark, no_topic, none_of_none, some_at, topic_there}
 
 -- options in their ranges fit a run
 pub fits_run : (o : Options) → IsInRange o → FitsRun o
@@ -148,15 +147,6 @@ none_if x o false e = e
 not_in : (xs : List Stall) (s : Stall) (name : List ℕ) → stall_in (put_stall xs s) name ≡ None → stall_in xs name ≡ None
 not_in xs s name e = none_if s (stall_in xs name) (bytes_eq name (channel_name s)) (sym (find_put channel_name xs s name) ∙ e)
 
--- the name is listed once the topic is
-now_listed : (b : Bool) (pending : List (List ℕ)) (name : List ℕ) → (b ≡ true → Contains pending name) → Contains (if b then pending else pending ++ name ∷ []) name
-now_listed true pending name h = h refl
-now_listed false pending name h = Contains-push pending name
-
-still_listed : (b : Bool) (pending : List (List ℕ)) (name other : List ℕ) → Contains pending other → Contains (if b then pending else pending ++ name ∷ []) other
-still_listed true pending name other h = h
-still_listed false pending name other h = Contains-append_left pending (name ∷ []) other h
-
 -- a channel that is put into a topic of a sound hall
 module _ (h h' : Hall) (i : ℕ) (s : Stall) (sound : IsSound h) (rest : IsElse h h') (quiet : h'.quiet_until ≡ h.quiet_until) (from : h'.unsaved_from ≡ h.unsaved_from) (at : AtRoom i (AddsStall s h.pending.items h'.pending.items) h.rooms.items h'.rooms.items) where
   grown_before : IsRoomSound h at.room
@@ -176,11 +166,13 @@ module _ (h h' : Hall) (i : ℕ) (s : Stall) (sound : IsSound h) (rest : IsElse 
   grown_rooms : h'.rooms.items ≡ put_room h.rooms.items at.after
   grown_rooms = at.is ∙ put_at topic_name h.rooms.items i at.room at.after sound.room_order at.there grown_name
 
-  pub grown_sound : IsStallSound h'.options (topic_name at.room) h'.quiet_until h'.unsaved_from s → AreMembers h.clients.items (topic_name at.room) s → IsSound h'
-  grown_sound stall mine =
+  pub grown_sound : IsStallSound h'.options (topic_name at.room) h'.quiet_until h'.unsaved_from s → IfSome s.since (λ m. m ≤ h'.moment) → AreMembers h.clients.items (topic_name at.room) s → IsSound h'
+  grown_sound stall past mine =
       let x : IsRoomSound h' at.room = room_lowered h h' at.room grown_keeps.lowers grown_before in
       let P : Stall → Type 0 = IsStallSound h'.options (topic_name at.room) h'.quiet_until h'.unsaved_from in
       let M : Stall → Type 0 = AreMembers h.clients.items (topic_name at.room) in
+      let IsOld : Stall → Type 0 = λ (y : Stall). IfSome y.since (λ m. m ≤ h'.moment) in
+      let grown_past : IsPast h'.moment at.room = at_all (IsPast h'.moment) h.rooms.items i at.room (all_past h h' grown_keeps.later sound) at.there in
       sound_put_room h h' at.after (record {
         sound = sound;
         keeps = grown_keeps;
@@ -198,6 +190,10 @@ module _ (h h' : Hall) (i : ℕ) (s : Stall) (sound : IsSound h) (rest : IsElse 
           marked = x.marked;
           listed = λ l. subst (λ (xs : List (List ℕ)). Contains xs (topic_name at.room)) (sym at.does.pending) (now_listed at.room.listed h.pending.items (topic_name at.room) grown_before.listed);
           rests = λ l. absurd (false≢true (sym l));
+        });
+        past = subst (IsPast h'.moment) (sym at.does.is) (record {
+          room = grown_past.room;
+          stalls = subst (All IsOld) (sym at.does.stalls) (All-put_by channel_name IsOld at.room.stalls.items s grown_past.stalls past);
         });
         members = subst (λ n. All (AreMembers h.clients.items n) at.after.stalls.items) (sym grown_name)
             (subst (All M) (sym at.does.stalls) (All-put_by channel_name M at.room.stalls.items s (at_all (λ (r : Room). All (AreMembers h.clients.items (topic_name r)) r.stalls.items) h.rooms.items i at.room sound.members at.there) mine));
@@ -250,6 +246,7 @@ module _ (h h' : Hall) (i : ℕ) (rest : IsElse h h') (at : AtRoom i SameStalls 
         listed = x.listed;
         rests = λ l. ap (λ (xs : List Stall). is_none at.room.queue.head && (at.room.queue.paused || (is_empty xs || has_none_waiting at.room))) at.does.stalls ∙ x.rests l;
       }))
+      (subst (λ o. IfSome o (λ m. m ≤ h'.moment)) (sym (ap (λ (r : Room). r.since) at.does.is)) (room_past h h' i SameStalls sound keeps.later at))
 
   pub reserved_stands : (files : Files) (s : State) → HoldsFor h files s → HoldsFor h' files s
   reserved_stands files s holds =
@@ -338,12 +335,13 @@ module _ (h h' : Hall) (i j : ℕ) (topic name : List ℕ) (s : Stall) (sound : 
       grown_sound h h' i s sound (else_from h h' rest) (ap (λ (x : Hall). x.quiet_until) rest) (ap (λ (x : Hall). x.unsaved_from) rest) at
       (subst (λ n. IsStallSound h'.options n h'.quiet_until h'.unsaved_from s) (sym room_called)
       (fresh_stall_sound h'.options topic name h'.quiet_until h'.unsaved_from s (subst (λ o. IsFreshStall topic name o s) (sym options) fresh)))
+      (no_mark h'.moment s.since fresh.since)
       (subst (λ n. AreMembers h.clients.items n s) (sym room_called) (fresh_members h topic name h.options s sound none_at fresh))
 
   pub added_stall_stands : (files : Files) (st : State) → (ChannelBeginsIdle files topic name → IsStallOf files s (new_channel name)) → HoldsFor h files st → (t : State) × (t ≡ made_channel st topic name) × HoldsFor h' files t
   added_stall_stands files st of holds =
       let named : IsName topic = subst IsName room_called (grown_before h h' i s sound (else_from h h' rest) (ap (λ (x : Hall). x.quiet_until) rest) (ap (λ (x : Hall). x.unsaved_from) rest) at).named in
-      let done = grown_stands h h' i s sound (else_from h h' rest) (ap (λ (x : Hall). x.quiet_until) rest) (ap (λ (x : Hall). x.unsaved_from) rest) at files st name stall_called none_in (of (λ durable. holds.idle_channels topic name named (fresh.named, durable) none_at)) holds in
+      let done = grown_stands h h' i s sound (else_from h h' rest) (ap (λ (x : Hall). x.quiet_until) rest) (ap (λ (x : Hall). x.unsaved_from) rest) at files st name stall_called none_in (of (λ durable. holds.idle.channels topic name named (fresh.named, durable) none_at)) holds in
       (done.0, done.1 ∙ ap (λ n. made_channel st n name) room_called, done.2)
 
 -- the channel is there already
@@ -429,6 +427,7 @@ module _ (h h' : Hall) (topic name : List ℕ) (r : Room) (sound : IsSound h) (r
         keeps = else_keeps h h' sound rest (omega (arith, quiet)) (omega (arith, from)) (λ n has. subst (λ (xs : List (List ℕ)). Contains xs n) (sym pending) has);
         rooms = rooms;
         room = with_room;
+        past = fresh_past h'.moment r f.since (subst (All (λ (s : Stall). s.since ≡ None)) (sym f.stalls) (All-cons (λ (s : Stall). s.since ≡ None) f.stall [] f.fresh.since (All-nil (λ (s : Stall). s.since ≡ None))));
         members = subst (All M) (sym f.stalls)
             (All-cons M f.stall [] (subst (λ n. AreMembers h.clients.items n f.stall) (sym with_called) (fresh_members h topic name h.options f.stall sound (ap (λ n. stall_at h.rooms.items n name) (sym with_called) ∙ with_none name) f.fresh)) (All-nil M));
         channels = λ channel has. absurd (false≢true (sym (ap is_some (with_none channel)) ∙ has));
@@ -437,8 +436,8 @@ module _ (h h' : Hall) (topic name : List ℕ) (r : Room) (sound : IsSound h) (r
   pub with_stands : (files : Files) (st : State) → IsName name → (BeginsIdle files topic → ChannelBeginsIdle files topic name → IsRoomOf files r (with_channel (new_topic topic) (new_channel name))) → HoldsFor h files st
       → (t : State) × (t ≡ made_channel st topic name) × HoldsFor h' files t
   with_stands files st named of holds =
-      let idle : BeginsIdle files topic = λ durable. holds.idle topic (f.named, durable) none in
-      let idle_channel : ChannelBeginsIdle files topic name = λ durable. holds.idle_channels topic name f.named (named, durable) (ap (λ n. stall_at h.rooms.items n name) (sym with_called) ∙ with_none name) in
+      let idle : BeginsIdle files topic = λ durable. holds.idle.topics topic (f.named, durable) none in
+      let idle_channel : ChannelBeginsIdle files topic name = λ durable. holds.idle.channels topic name f.named (named, durable) (ap (λ n. stall_at h.rooms.items n name) (sym with_called) ∙ with_none name) in
       let to : Topic = with_channel (new_topic topic) (new_channel name) in (
         with_topic st to,
         ap (λ o. with_topic st (with_channel (unwrap_or o (new_topic topic)) (channel_or_new (unwrap_or o (new_topic topic)) name))) (sym (no_topic h files st topic holds none)),

@@ -19,7 +19,7 @@ use Rattle.floor_rooms.specs.declared.stall.Stall.{Stall}
 use Rattle.floor_rooms.specs.declared.room.Room.{Room}
 use Rattle.floor_rooms.specs.declared.hall.Hall.{Hall}
 use Rattle.floor_rooms.specs.Rooms.{channel_name, topic_name, room_in, stall_in, stall_at, put_room}
-use Rattle.floor_rooms.specs.Standing.{IsStallOf, IsRoomOf, HoldsFor}
+use Rattle.floor_rooms.specs.Standing.{IsStallOf, IsRoomOf, HoldsFor, StandsFor}
 use Rattle.floor_rooms.specs.Changes.{AtRoom, AtStall, InRoom}
 use Rattle.floor_rooms.proofs.Staying.{room_named}
 
@@ -63,41 +63,49 @@ none_some x e = cc
 -- with the same topics it stands for the same states
 pub holds_same : (h h' : Hall) (files : Files) (s : State) → StaysElse h h' → h'.rooms.items ≡ h.rooms.items → HoldsFor h files s → HoldsFor h' files s
 holds_same h h' files s e same holds =
-    let earlier = holds.moment in
+    let earlier = holds.stands.moment in
     let later = e.moment in
     record {
-      options = holds.options ∙ sym e.options;
-      epoch = holds.epoch ∙ sym e.epoch;
-      ids_used = holds.ids_used ∙ sym e.ids_used;
-      moment = omega (arith, earlier, later);
-      stopped = holds.stopped ∙ sym e.stopped;
-      clients = holds.clients ∙ sym e.clients;
-      topics = subst (λ rooms. Pairwise (IsRoomOf files) rooms s.topics) (sym same) holds.topics;
-      idle = λ name named none. holds.idle name named (ap (λ rooms. room_in rooms name) (sym same) ∙ none);
-      idle_channels = λ topic channel t c none. holds.idle_channels topic channel t c (ap (λ rooms. stall_at rooms topic channel) (sym same) ∙ none);
+      stands = record {
+        options = holds.stands.options ∙ sym e.options;
+        epoch = holds.stands.epoch ∙ sym e.epoch;
+        ids_used = holds.stands.ids_used ∙ sym e.ids_used;
+        moment = omega (arith, earlier, later);
+        stopped = holds.stands.stopped ∙ sym e.stopped;
+        clients = holds.stands.clients ∙ sym e.clients;
+        topics = subst (λ rooms. Pairwise (IsRoomOf files) rooms s.topics) (sym same) holds.stands.topics;
+      };
+      idle = record {
+        topics = λ name named none. holds.idle.topics name named (ap (λ rooms. room_in rooms name) (sym same) ∙ none);
+        channels = λ topic channel t c none. holds.idle.channels topic channel t c (ap (λ rooms. stall_at rooms topic channel) (sym same) ∙ none);
+      };
     }
 
 -- so it does where one topic became another that stands for the same, and has no channel less
 pub holds_at_room : (h h' : Hall) (files : Files) (s : State) (i : ℕ) (Does : Room → Room → Type 0) → StaysElse h h' → (at : AtRoom i Does h.rooms.items h'.rooms.items) → topic_name at.after ≡ topic_name at.room
     → ((t : Topic) → IsRoomOf files at.room t → IsRoomOf files at.after t) → ((channel : List ℕ) → stall_in at.after.stalls.items channel ≡ None → stall_in at.room.stalls.items channel ≡ None) → HoldsFor h files s → HoldsFor h' files s
 holds_at_room h h' files s i Does e at name stands stalls holds =
-    let earlier = holds.moment in
+    let earlier = holds.stands.moment in
     let later = e.moment in
     record {
-      options = holds.options ∙ sym e.options;
-      epoch = holds.epoch ∙ sym e.epoch;
-      ids_used = holds.ids_used ∙ sym e.ids_used;
-      moment = omega (arith, earlier, later);
-      stopped = holds.stopped ∙ sym e.stopped;
-      clients = holds.clients ∙ sym e.clients;
-      topics = subst (λ rooms. Pairwise (IsRoomOf files) rooms s.topics) (sym at.is) (pairs_set (IsRoomOf files) h.rooms.items s.topics i at.room at.after at.there stands holds.topics);
-      idle = λ n named none.
-          holds.idle n named
-          (found_before (λ (o : Option Room). o ≡ None) (λ r. bytes_eq n (topic_name r)) h.rooms.items i at.room at.after at.there (ap (bytes_eq n) name) (none_some at.after) (ap (λ rooms. room_in rooms n) (sym at.is) ∙ none));
-      idle_channels = λ t c nt nc none.
-          holds.idle_channels t c nt nc
-          (found_before (λ (o : Option Room). option_and_then (λ (r : Room). stall_in r.stalls.items c) o ≡ None) (λ r. bytes_eq t (topic_name r)) h.rooms.items i at.room at.after at.there (ap (bytes_eq t) name) (stalls c)
-          (ap (λ rooms. stall_at rooms t c) (sym at.is) ∙ none));
+      stands = record {
+        options = holds.stands.options ∙ sym e.options;
+        epoch = holds.stands.epoch ∙ sym e.epoch;
+        ids_used = holds.stands.ids_used ∙ sym e.ids_used;
+        moment = omega (arith, earlier, later);
+        stopped = holds.stands.stopped ∙ sym e.stopped;
+        clients = holds.stands.clients ∙ sym e.clients;
+        topics = subst (λ rooms. Pairwise (IsRoomOf files) rooms s.topics) (sym at.is) (pairs_set (IsRoomOf files) h.rooms.items s.topics i at.room at.after at.there stands holds.stands.topics);
+      };
+      idle = record {
+        topics = λ n named none.
+            holds.idle.topics n named
+            (found_before (λ (o : Option Room). o ≡ None) (λ r. bytes_eq n (topic_name r)) h.rooms.items i at.room at.after at.there (ap (bytes_eq n) name) (none_some at.after) (ap (λ rooms. room_in rooms n) (sym at.is) ∙ none));
+        channels = λ t c nt nc none.
+            holds.idle.channels t c nt nc
+            (found_before (λ (o : Option Room). option_and_then (λ (r : Room). stall_in r.stalls.items c) o ≡ None) (λ r. bytes_eq t (topic_name r)) h.rooms.items i at.room at.after at.there (ap (bytes_eq t) name) (stalls c)
+            (ap (λ rooms. stall_at rooms t c) (sym at.is) ∙ none));
+      };
     }
 
 -- and where one channel of it became another that stands for the same
@@ -140,27 +148,36 @@ before_one : {X : Type 0} (Q : Option X → Type 0) (x : X) (o : Option X) (b : 
 before_one Q x o true f h = f refl h
 before_one Q x o false f h = h
 
--- a topic that stands for one of its name is put in, and no channel is lost by that: so it is in the state
+-- a topic that stands for one of its name is put in: so it is in the state
+pub stands_put_room : (h h' : Hall) (files : Files) (s : State) (r : Room) (t : Topic) → StaysElse h h' → h'.rooms.items ≡ put_room h.rooms.items r → IsRoomOf files r t → StandsFor h files s → StandsFor h' files (with_topic s t)
+stands_put_room h h' files s r t e rooms of stands =
+    let earlier = stands.moment in
+    let later = e.moment in
+    record {
+      options = stands.options ∙ sym e.options;
+      epoch = stands.epoch ∙ sym e.epoch;
+      ids_used = stands.ids_used ∙ sym e.ids_used;
+      moment = omega (arith, earlier, later);
+      stopped = stands.stopped ∙ sym e.stopped;
+      clients = stands.clients ∙ sym e.clients;
+      topics = subst (λ xs. Pairwise (IsRoomOf files) xs (put_by (λ (u : Topic). u.name) s.topics t)) (sym rooms)
+          (pairs_put topic_name (λ (u : Topic). u.name) (IsRoomOf files) (IsRoomOf files) r t h.rooms.items s.topics (λ a b x. room_named files a b x) (λ a b apart x. x) (room_named files r t of) of stands.topics);
+    }
+
+-- and where no channel is lost by that, the hall stands for the state with it
 pub holds_put_room : (h h' : Hall) (files : Files) (s : State) (r : Room) (t : Topic) → StaysElse h h' → h'.rooms.items ≡ put_room h.rooms.items r → IsRoomOf files r t
     → ((channel : List ℕ) → stall_in r.stalls.items channel ≡ None → stall_at h.rooms.items (topic_name r) channel ≡ None) → HoldsFor h files s → HoldsFor h' files (with_topic s t)
 holds_put_room h h' files s r t e rooms of stalls holds =
-    let earlier = holds.moment in
-    let later = e.moment in
     let found : (name : List ℕ) → room_in h'.rooms.items name ≡ (if bytes_eq name (topic_name r) then Some r else room_in h.rooms.items name) = λ name. ap (λ xs. room_in xs name) rooms ∙ find_put topic_name h.rooms.items r name in
     record {
-      options = holds.options ∙ sym e.options;
-      epoch = holds.epoch ∙ sym e.epoch;
-      ids_used = holds.ids_used ∙ sym e.ids_used;
-      moment = omega (arith, earlier, later);
-      stopped = holds.stopped ∙ sym e.stopped;
-      clients = holds.clients ∙ sym e.clients;
-      topics = subst (λ xs. Pairwise (IsRoomOf files) xs (put_by (λ (u : Topic). u.name) s.topics t)) (sym rooms)
-          (pairs_put topic_name (λ (u : Topic). u.name) (IsRoomOf files) (IsRoomOf files) r t h.rooms.items s.topics (λ a b x. room_named files a b x) (λ a b apart x. x) (room_named files r t of) of holds.topics);
-      idle = λ name named none.
-          holds.idle name named (before_one (λ (o : Option Room). o ≡ None) r (room_in h.rooms.items name) (bytes_eq name (topic_name r)) (λ same some. none_some r some) (sym (found name) ∙ none));
-      idle_channels = λ topic channel nt nc none.
-          let within : Room → Option Stall = λ x. stall_in x.stalls.items channel in
-          holds.idle_channels topic channel nt nc
-          (before_one (λ (o : Option Room). option_and_then within o ≡ None) r (room_in h.rooms.items topic) (bytes_eq topic (topic_name r))
-          (λ same gone. subst (λ n. stall_at h.rooms.items n channel ≡ None) (sym (exact_bytes topic (topic_name r) same)) (stalls channel gone)) (ap (option_and_then within) (sym (found topic)) ∙ none));
+      stands = stands_put_room h h' files s r t e rooms of holds.stands;
+      idle = record {
+        topics = λ name named none.
+            holds.idle.topics name named (before_one (λ (o : Option Room). o ≡ None) r (room_in h.rooms.items name) (bytes_eq name (topic_name r)) (λ same some. none_some r some) (sym (found name) ∙ none));
+        channels = λ topic channel nt nc none.
+            let within : Room → Option Stall = λ x. stall_in x.stalls.items channel in
+            holds.idle.channels topic channel nt nc
+            (before_one (λ (o : Option Room). option_and_then within o ≡ None) r (room_in h.rooms.items topic) (bytes_eq topic (topic_name r))
+            (λ same gone. subst (λ n. stall_at h.rooms.items n channel ≡ None) (sym (exact_bytes topic (topic_name r) same)) (stalls channel gone)) (ap (option_and_then within) (sym (found topic)) ∙ none));
+      };
     }

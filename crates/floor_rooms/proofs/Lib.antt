@@ -11,3 +11,7 @@ pub mod Orders
 pub mod Lifting
 pub mod Quieting
 pub mod Turning
+pub mod Dating
+pub mod Naming
+pub mod Filing
+pub mod Coming

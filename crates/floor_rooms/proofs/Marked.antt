@@ -1,11 +1,13 @@
 -- Marks and facts for speed leave a hall sound, and what it stands for.
-use Rattle.std.proofs.Common.{◌≡◌, ◌≤◌, ◌<◌, ◌^◌, ℕ, min, set, Bool, true, false, if◌then◌else◌, List, [], ◌∷◌, ◌++◌, length, get_or, Option, Some, None, refl, sym, ap, subst, ◌∙◌, arith}
-use Rattle.std.specs.Prelude.{HoldsAt}
+use Rattle.std.proofs.Common.{◌≡◌, ◌≤◌, ◌<◌, ℕ, min, set, Bool, true, false, if◌then◌else◌, List, [], ◌∷◌, ◌++◌, length, get_or, Option, Some, None, refl, sym, ap, subst, ◌∙◌, arith}
+use Rattle.std.specs.Prelude.{HoldsAt, IfSome}
 use Rattle.std.specs.List.{Contains}
+use Rattle.std.proofs.lemmas.Bool.{false≢true}
+use Rattle.std.proofs.lemmas.List.Elements.{Contains-append_left, Contains-push}
 use Rattle.std.proofs.lemmas.Option.{get_or_from_slice_get}
 use Rattle.nsq_outside.specs.Files.{Files}
 use Rattle.v2_frame.specs.declared.message.Message.{Message}
-use Rattle.broker_history.specs.State.{Channel, Topic, State}
+use Rattle.broker_history.specs.State.{State}
 use Rattle.channel_copies.specs.Clients.{client_of}
 use Rattle.channel_core.specs.Answers.{IsNextDue}
 use Rattle.channel_core.specs.Seen.{Seen as ChannelSeen, channel_with}
@@ -13,11 +15,11 @@ use Rattle.floor_rooms.specs.declared.stall.Stall.{Stall}
 use Rattle.floor_rooms.specs.declared.room.Room.{Room}
 use Rattle.floor_rooms.specs.declared.hall.Hall.{Hall}
 use Rattle.floor_rooms.specs.Rooms.{channel_name, topic_name, stall_in}
-use Rattle.floor_rooms.specs.Sound.{IsMarked, IsQuietUntil, IsRoomSound, IsSound, IsStallSound}
-use Rattle.floor_rooms.specs.Standing.{IsRoomOf, IsStallOf, HoldsFor}
+use Rattle.floor_rooms.specs.Sound.{IsMarked, IsPast, IsQuietUntil, IsRoomSound, IsSound, IsStallSound}
+use Rattle.floor_rooms.specs.Standing.{HoldsFor}
 use Rattle.floor_rooms.specs.Changes.{AtRoom, AtStall, InRoom, listed_with, marked}
 use Rattle.floor_rooms.proofs.Placing.{at_place}
-use Rattle.floor_rooms.proofs.Sounding.{Lowers, at_all, KeepsRest, marks, members_before, members_stay, room_before, room_lowered, sound_at_room, sound_at_stall, stall_before}
+use Rattle.floor_rooms.proofs.Sounding.{Lowers, at_all, KeepsRest, marks, members_before, members_stay, past_marked, past_one, room_lowered, room_past, sound_at_room, sound_at_stall, stall_before}
 use Rattle.floor_rooms.proofs.Holding.{StaysElse, holds_at_room, holds_at_stall, room_alike, stall_alike}
 
 -- nothing but topics, the list of those that may have something to do, and facts for speed and for saving differs
@@ -45,6 +47,7 @@ else_keeps h h' sound is quiet unsaved pending =
       epoch = ap (λ (x : Hall). x.epoch) is;
       ids_used = ap (λ (x : Hall). x.ids_used) is;
       moment = omega (arith, moment, early);
+      later = omega (arith, moment);
       clients = ap (λ (x : Hall). x.clients.items) is;
     }
 
@@ -83,6 +86,10 @@ MarksRoom at a b = b ≡ record a { since = marked a.since at }
 abbrev pub MarksStall : (at : ℕ) → Stall → Stall → Type 0
 MarksStall at a b = b ≡ record a { since = marked a.since at }
 
+-- a mark that is made now lies no later than the moment
+past_then : (at at' : ℕ) (since since' : Option ℕ) → at ≤ at' → since' ≡ marked since at → IfSome since (λ m. m ≤ at) → IfSome since' (λ m. m ≤ at')
+past_then at at' since since' later e h = past_one at at' since' later (subst (λ o. IfSome o (λ m. m ≤ at)) (sym e) (past_marked at since h))
+
 marks_keep : (h h' : Hall) → IsSound h → IsElse h h' → h'.quiet_until ≡ h.quiet_until → h'.pending.items ≡ h.pending.items → h'.unsaved_from ≡ min h.unsaved_from h.moment → KeepsRest h h'
 marks_keep h h' sound is quiet pending unsaved =
     else_keeps h h' sound is (omega (arith, quiet)) (omega (arith, unsaved)) (λ name has. subst (λ (names : List (List ℕ)). Contains names name) (sym pending) has)
@@ -94,6 +101,7 @@ marked_room_sound h h' i sound is quiet pending unsaved at =
     sound_at_room h h' i (MarksRoom h.moment) sound keeps at (ap topic_name at.does) (ap (λ (r : Room). r.stalls.items) at.does)
     (subst (IsRoomSound h') (sym at.does)
     (room_marked h h' at.room h.moment keeps.lowers unsaved (at_all (IsRoomSound h) h.rooms.items i at.room sound.rooms at.there)))
+    (past_then h.moment h'.moment at.room.since at.after.since keeps.later (ap (λ (r : Room). r.since) at.does) (at_all (IsPast h.moment) h.rooms.items i at.room sound.past at.there).room)
 
 pub marked_room_stands : (h h' : Hall) (files : Files) (s : State) (i : ℕ) → IsElse h h' → AtRoom i (MarksRoom h.moment) h.rooms.items h'.rooms.items → HoldsFor h files s → HoldsFor h' files s
 marked_room_stands h h' files s i is at holds =
@@ -121,6 +129,8 @@ marked_stall_sound h h' i j sound is quiet pending unsaved at =
     sound_at_stall h h' i j (MarksStall h.moment) sound keeps at (ap channel_name at.does.does)
     (subst (λ o. IsStallSound o (topic_name at.room) h'.quiet_until h'.unsaved_from at.does.after) (sym keeps.lowers.options)
     (subst (IsStallSound h.options (topic_name at.room) h'.quiet_until h'.unsaved_from) (sym at.does.does) now))
+    (past_then h.moment h'.moment s.since at.does.after.since keeps.later (ap (λ (y : Stall). y.since) at.does.does)
+    (at_all (λ (y : Stall). IfSome y.since (λ m. m ≤ h.moment)) at.room.stalls.items j s (at_all (IsPast h.moment) h.rooms.items i at.room sound.past at.there).stalls at.does.there))
     (members_stay h.clients.items (topic_name at.room) s at.does.after (ap channel_name at.does.does) (λ n. ap (λ (y : Stall). client_of y.channel.clients n) at.does.does) (ap (λ (y : Stall). y.members.items) at.does.does)
     (members_before h h' i j (MarksStall h.moment) sound keeps at))
 
@@ -159,3 +169,35 @@ listed_room_stands h h' files s i pending pending' is at holds =
     holds_at_room h h' files s i (ListsRoom pending pending') (else_stays h h' is) at (ap topic_name at.does.0)
     (λ t of. room_alike files at.room at.after t (ap (λ (r : Room). r.queue) at.does.0) (ap (λ (r : Room). r.stalls) at.does.0) of)
     (λ channel none. ap (λ (r : Room). stall_in r.stalls.items channel) (sym at.does.0) ∙ none) holds
+
+pub still_listed : (b : Bool) (pending : List (List ℕ)) (name other : List ℕ) → Contains pending other → Contains (if b then pending else pending ++ name ∷ []) other
+still_listed true pending name other h = h
+still_listed false pending name other h = Contains-append_left pending (name ∷ []) other h
+
+pub now_listed : (b : Bool) (pending : List (List ℕ)) (name : List ℕ) → (b ≡ true → Contains pending name) → Contains (if b then pending else pending ++ name ∷ []) name
+now_listed true pending name h = h refl
+now_listed false pending name h = Contains-push pending name
+
+-- it is among them then, and all that were are still
+pub listed_room_sound : (h h' : Hall) (i : ℕ) → IsSound h → IsElse h h' → h'.quiet_until ≡ h.quiet_until → h'.unsaved_from ≡ h.unsaved_from → AtRoom i (ListsRoom h.pending.items h'.pending.items) h.rooms.items h'.rooms.items → IsSound h'
+listed_room_sound h h' i sound is quiet from at =
+    let before : IsRoomSound h at.room = at_all (IsRoomSound h) h.rooms.items i at.room sound.rooms at.there in
+    let keeps : KeepsRest h h' =
+    else_keeps h h' sound is (omega (arith, quiet)) (omega (arith, from))
+    (λ name has. subst (λ (xs : List (List ℕ)). Contains xs name) (sym at.does.1) (still_listed at.room.listed h.pending.items (topic_name at.room) name has)) in
+    let x : IsRoomSound h' at.room = room_lowered h h' at.room keeps.lowers before in
+    sound_at_room h h' i (ListsRoom h.pending.items h'.pending.items) sound keeps at (ap topic_name at.does.0) (ap (λ (r : Room). r.stalls.items) at.does.0)
+    (subst (IsRoomSound h') (sym at.does.0) (record {
+      named = x.named;
+      settled = x.settled;
+      backlog = x.backlog;
+      capacity = x.capacity;
+      names = x.names;
+      order = x.order;
+      stalls = x.stalls;
+      owed = x.owed;
+      marked = x.marked;
+      listed = λ l. subst (λ (xs : List (List ℕ)). Contains xs (topic_name at.room)) (sym at.does.1) (now_listed at.room.listed h.pending.items (topic_name at.room) before.listed);
+      rests = λ l. absurd (false≢true (sym l));
+    }))
+    (subst (λ o. IfSome o (λ m. m ≤ h'.moment)) (sym (ap (λ (r : Room). r.since) at.does.0)) (room_past h h' i (ListsRoom h.pending.items h'.pending.items) sound keeps.later at))

@@ -88,13 +88,13 @@ module _ {X : Type 0} (key : X → List ℕ) where
 
 -- a state's topics are in byte order where the hall stands for it
 pub topics_order : (h : Hall) (files : Files) (s : State) → IsSound h → HoldsFor h files s → IsAscendingBy (λ (t : Topic). t.name) s.topics
-topics_order h files s sound holds = pairs_order topic_name (λ (t : Topic). t.name) (IsRoomOf files) h.rooms.items s.topics (λ a b r. room_named files a b r) sound.room_order holds.topics
+topics_order h files s sound holds = pairs_order topic_name (λ (t : Topic). t.name) (IsRoomOf files) h.rooms.items s.topics (λ a b r. room_named files a b r) sound.room_order holds.stands.topics
 
 -- so are the channels of each
 pub channels_order : (h : Hall) (files : Files) (s : State) → IsSound h → HoldsFor h files s → All (λ (t : Topic). IsAscendingBy (λ (k : Channel). k.name) t.channels) s.topics
 channels_order h files s sound holds =
     pairs_all (IsRoomOf files) (IsRoomSound h) (λ (t : Topic). IsAscendingBy (λ (k : Channel). k.name) t.channels) h.rooms.items s.topics
-    (λ r t i o. pairs_order channel_name (λ (k : Channel). k.name) (IsStallOf files) r.stalls.items t.channels (λ a k x. stall_named files a k x) i.order o.channels) sound.rooms holds.topics
+    (λ r t i o. pairs_order channel_name (λ (k : Channel). k.name) (IsStallOf files) r.stalls.items t.channels (λ a k x. stall_named files a k x) i.order o.channels) sound.rooms holds.stands.topics
 
 -- a state in which a topic is put back as it was is the same
 pub same_topic : (h : Hall) (files : Files) (s t : State) (topic : List ℕ) → IsSound h → HoldsFor h files s → AtTopic topic (λ a b. b ≡ a) s t → t ≡ s
@@ -141,13 +141,17 @@ stall_kept_off h h' old new s topic channel stall to Row sound holds c off =
 -- the state at a later moment, no later than the hall's
 pub holds_at : (h : Hall) (files : Files) (s : State) (at : ℕ) → at ≤ h.moment → HoldsFor h files s → HoldsFor h files (at_moment s at)
 holds_at h files s at within holds = record {
-  options = holds.options;
-  epoch = holds.epoch;
-  ids_used = holds.ids_used;
-  moment = within;
-  stopped = holds.stopped;
-  clients = holds.clients;
-  topics = holds.topics;
-  idle = holds.idle;
-  idle_channels = holds.idle_channels;
+  stands = record {
+    options = holds.stands.options;
+    epoch = holds.stands.epoch;
+    ids_used = holds.stands.ids_used;
+    moment = within;
+    stopped = holds.stands.stopped;
+    clients = holds.stands.clients;
+    topics = holds.stands.topics;
+  };
+  idle = record {
+    topics = holds.idle.topics;
+    channels = holds.idle.channels;
+  };
 }

@@ -1,5 +1,5 @@
 -- What stands at a place of a list that is in byte order of its items' names.
-use Rattle.std.proofs.Common.{arith, ◌≡◌, ◌≤◌, ℕ, suc, set, ◌<◌, Bool, true, false, if◌then◌else◌, List, [], ◌∷◌, length, get_or, Option, Some, None, Result, Ok, Err, refl, sym, ap, subst, ◌∙◌, Ordering, Less, Equal, Greater}
+use Rattle.std.proofs.Common.{arith, ◌≡◌, ◌≤◌, ℕ, set, ◌<◌, Bool, true, false, if◌then◌else◌, List, [], ◌∷◌, length, get_or, Some, None, Ok, refl, sym, ap, subst, ◌∙◌, Ordering, Less, Equal, Greater}
 use Rattle.std.specs.List.{All, find, insert, slice_get}
 use Rattle.std.specs.Ordering.{is_eq}
 use Rattle.std.specs.Str.{bytes_eq}
@@ -10,10 +10,10 @@ use Rattle.std.proofs.lemmas.List.Edits.{get_or-insert_at, length-insert}
 use Rattle.std.proofs.lemmas.List.Elements.{All-head, All-tail}
 use Rattle.std.proofs.lemmas.Option.{get_or_from_slice_get, slice_get_within, slice_get-get_or}
 use Rattle.nsq_base.specs.Names.{byte_order, IsAscendingBy, put_by}
-use Rattle.nsq_base.specs.Places.{StandsAt, BelongsAt, IsPlaceOf}
+use Rattle.nsq_base.specs.Places.{StandsAt, BelongsAt}
 use Rattle.nsq_base.proofs.PutBy.{place_found, put_by-stands}
 use Rattle.broker_history.proofs.Lists.{find_put, same_bytes}
-use Rattle.floor_rooms.specs.Places.{IsThere, IsPlace}
+use Rattle.floor_rooms.specs.Places.{IsThere}
 
 -- a name ties with itself
 equal_from_tie : (o : Ordering) → is_eq o ≡ true → o ≡ Equal

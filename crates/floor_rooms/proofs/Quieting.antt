@@ -98,4 +98,4 @@ and_false false b e = refl
 
 pub none_due : (h : Hall) (files : Files) (s : State) (at : ℕ) → IsSound h → HoldsFor h files s → at < h.quiet_until → h.pending.items ≡ [] → is_any_due s at ≡ false
 none_due h files s at sound holds before none =
-    and_false (not s.stopped) (list_any (is_topic_due at) s.topics) (pairs_none (IsRoomOf files) (IsRoomSound h) (is_topic_due at) h.rooms.items s.topics (room_quiet h files at before none) sound.rooms holds.topics)
+    and_false (not s.stopped) (list_any (is_topic_due at) s.topics) (pairs_none (IsRoomOf files) (IsRoomSound h) (is_topic_due at) h.rooms.items s.topics (room_quiet h files at before none) sound.rooms holds.stands.topics)

@@ -46,7 +46,7 @@ module _ (h h' : Hall) (old new : Files) (s : State) (topic : List ℕ) (room to
   at_own =
       both_some (IsRoomOf old) room (topic_of s topic)
       (subst (λ o. IfBoth (IsRoomOf old) o (topic_of s topic)) c.there
-      (pairs_found (IsRoomOf old) (λ r. bytes_eq topic (topic_name r)) (λ (t : Topic). bytes_eq topic t.name) h.rooms.items s.topics (λ a b r. ap (bytes_eq topic) (sym (room_named old a b r))) holds.topics))
+      (pairs_found (IsRoomOf old) (λ r. bytes_eq topic (topic_name r)) (λ (t : Topic). bytes_eq topic t.name) h.rooms.items s.topics (λ a b r. ap (bytes_eq topic) (sym (room_named old a b r))) holds.stands.topics))
 
   -- no channel's queue is the topic's
   no_own : (t k : List ℕ) → IsName topic → queue_name t k ≢ topic
@@ -82,7 +82,7 @@ module _ (h h' : Hall) (old new : Files) (s : State) (topic : List ℕ) (room to
     rooms_now : Pairwise (IsRoomOf new) h'.rooms.items (put_by (λ (t : Topic). t.name) s.topics up.to)
     rooms_now =
         let Both : Room → Topic → Type 0 = λ a b. IsNamedRoom a × IsRoomOf old a b in
-        let all : Pairwise Both h.rooms.items s.topics = pairs_become (IsRoomOf old) Both IsNamedRoom h.rooms.items s.topics (λ a b n r. (n, r)) all_named holds.topics in
+        let all : Pairwise Both h.rooms.items s.topics = pairs_become (IsRoomOf old) Both IsNamedRoom h.rooms.items s.topics (λ a b n r. (n, r)) all_named holds.stands.topics in
         subst (λ xs. Pairwise (IsRoomOf new) xs (put_by (λ (t : Topic). t.name) s.topics up.to)) (sym c.rooms)
         (pairs_put topic_name (λ (t : Topic). t.name) Both (IsRoomOf new) to up.to h.rooms.items s.topics (λ a b x. room_named old a b x.1) other_room (room_named new to up.to room_now) room_now all)
 
@@ -94,7 +94,7 @@ module _ (h h' : Hall) (old new : Files) (s : State) (topic : List ℕ) (room to
     idle_now name named none =
         let gone = none_one to (room_in h.rooms.items name) (bytes_eq name (topic_name to)) (sym (found_now name) ∙ none) in
         let other : name ≢ topic = λ e. false≢true (sym gone.0 ∙ ap (bytes_eq name) (c.named ∙ sym e) ∙ same_bytes name) in
-        idle_stays old new topic name c.others other (holds.idle name named gone.1)
+        idle_stays old new topic name c.others other (holds.idle.topics name named gone.1)
 
     here_before : (name : List ℕ) → bytes_eq name (topic_name to) ≡ true → room_in h.rooms.items name ≡ Some room
     here_before name e = ap (λ n. room_in h.rooms.items n) (exact_bytes name (topic_name to) e ∙ c.named) ∙ c.there
@@ -102,25 +102,29 @@ module _ (h h' : Hall) (old new : Files) (s : State) (topic : List ℕ) (room to
     idle_channels_now : (t k : List ℕ) → IsName t → IsDurableChannel t k → stall_at h'.rooms.items t k ≡ None → IsIdle (new (meta_file (queue_name t k)))
     idle_channels_now t k nt nk none =
         let before = in_same k to room (room_in h.rooms.items t) (bytes_eq t (topic_name to)) c.stalls (here_before t) (ap (option_and_then (λ (r : Room). stall_in r.stalls.items k)) (sym (found_now t)) ∙ none) in
-        idle_stays old new topic (queue_name t k) c.others (no_own t k named_topic) (holds.idle_channels t k nt nk before)
+        idle_stays old new topic (queue_name t k) c.others (no_own t k named_topic) (holds.idle.channels t k nt nk before)
 
     changed : AtTopic topic Row s (with_topic s up.to)
     changed = record { old = at_own.0; new = up.to; there = at_own.1; row = up.row; is = refl }
 
     holds_now : HoldsFor h' new (with_topic s up.to)
     holds_now =
-        let earlier = holds.moment in
+        let earlier = holds.stands.moment in
         let later = c.moment in
         record {
-          options = holds.options ∙ sym c.options;
-          epoch = holds.epoch ∙ sym c.epoch;
-          ids_used = holds.ids_used ∙ sym c.ids_used;
-          moment = omega (arith, earlier, later);
-          stopped = holds.stopped ∙ sym c.stopped;
-          clients = holds.clients ∙ sym c.clients;
-          topics = rooms_now;
-          idle = idle_now;
-          idle_channels = idle_channels_now;
+          stands = record {
+            options = holds.stands.options ∙ sym c.options;
+            epoch = holds.stands.epoch ∙ sym c.epoch;
+            ids_used = holds.stands.ids_used ∙ sym c.ids_used;
+            moment = omega (arith, earlier, later);
+            stopped = holds.stands.stopped ∙ sym c.stopped;
+            clients = holds.stands.clients ∙ sym c.clients;
+            topics = rooms_now;
+          };
+          idle = record {
+            topics = idle_now;
+            channels = idle_channels_now;
+          };
         }
 
 -- where each topic of a state that the room was leads by the row to one whose queue the changed room has, so does the state that the hall stood for

@@ -1,7 +1,7 @@
 -- A hall stays sound as its facts for speed become weaker, and as one of its topics or of its channels changes.
-use Rattle.std.proofs.Common.{◌≡◌, ◌⊎◌, inl, inr, ◌≤◌, ◌<◌, ◌^◌, ◌==◌, ℕ, suc, zero, set, min, Bool, true, false, not, ◌&&◌, ◌||◌, nat_eq, if◌then◌else◌, List, [], ◌∷◌, map, get_or, Option, Some, None, refl, sym, ap, subst, ◌∙◌, arith}
+use Rattle.std.proofs.Common.{◌≡◌, ◌⊎◌, inl, inr, ◌≤◌, ◌<◌, ◌^◌, ℕ, suc, zero, set, min, Bool, true, false, not, ◌&&◌, ◌||◌, nat_eq, if◌then◌else◌, List, [], ◌∷◌, map, get_or, Option, Some, None, refl, sym, ap, subst, ◌∙◌, arith}
 use Rattle.std.specs.Prelude.{IfSome, IsSome, is_some, is_none, option_and_then, HoldsAt}
-use Rattle.std.specs.List.{All, AllPairs, Contains, find, list_any, slice_get}
+use Rattle.std.specs.List.{All, AllPairs, Contains, list_any, slice_get}
 use Rattle.std.specs.Str.{bytes_eq}
 use Rattle.std.proofs.Math.Seq.{map-set_same}
 use Rattle.std.proofs.lemmas.List.{get_or-set_same}
@@ -13,11 +13,10 @@ use Rattle.nsq_base.specs.Options.{IsInRange}
 use Rattle.nsq_base.specs.declared.options.Options.{Options}
 use Rattle.nsq_base.proofs.PutBy.{All-put_by, IsAscendingBy-put_by}
 use Rattle.disk_queue.specs.Seen.{Seen as Queue}
-use Rattle.backlog.specs.Seen.{SameQueue, QueueIsSaved}
+use Rattle.backlog.specs.Seen.{SameQueue}
 use Rattle.broker_history.specs.State.{Client, Route, is_empty, is_ephemeral_channel}
 use Rattle.broker_history.proofs.Lists.{exact_bytes, find_put}
 use Rattle.topic_core.specs.Seen.{owed_of}
-use Rattle.topic_core.specs.Kept.{IsNamed}
 use Rattle.channel_copies.specs.Clients.{client_of}
 use Rattle.channel_core.specs.declared.about.About.{About}
 use Rattle.channel_core.specs.Made.{about_of}
@@ -28,8 +27,8 @@ use Rattle.floor_rooms.specs.declared.stall.Stall.{Stall}
 use Rattle.floor_rooms.specs.declared.room.Room.{Room}
 use Rattle.floor_rooms.specs.declared.hall.Hall.{Hall}
 use Rattle.floor_rooms.specs.Rooms.{channel_name, topic_name, stall_names, room_in, stall_in, stall_at, put_room, put_stall, client_in}
-use Rattle.floor_rooms.specs.Sound.{AsksForNone, IsQuietUntil, IsMarked, IsStallSound, IsRoomSound, IsSound, AreMembers, HasItsChannel, member_of, rests, has_none_waiting}
-use Rattle.floor_rooms.specs.Changes.{AtRoom, AtStall, InRoom, TouchesRoom, TouchesStall, Touches, marked}
+use Rattle.floor_rooms.specs.Sound.{AsksForNone, IsQuietUntil, IsMarked, IsStallSound, IsRoomSound, IsSound, IsPast, AreMembers, HasItsChannel, member_of, has_none_waiting}
+use Rattle.floor_rooms.specs.Changes.{AtRoom, AtStall, TouchesRoom, TouchesStall, Touches, marked}
 use Rattle.floor_rooms.proofs.Placing.{found_at, put_at}
 
 -- a later hall whose bounds are no later, and whose list of topics has all that it had
@@ -45,6 +44,7 @@ pub record KeepsRest (h h' : Hall) : Type 0 where
   pub epoch : h'.epoch ≡ h.epoch
   pub ids_used : h'.ids_used ≡ h.ids_used
   pub moment : h'.moment ≤ 2 ^ 62
+  pub later : h.moment ≤ h'.moment
   pub clients : h'.clients.items ≡ h.clients.items
 
 -- bounds
@@ -89,6 +89,32 @@ room_lowered h h' r low x = record {
   marked = marked_lowered h.unsaved_from h'.unsaved_from r.since r.queue.backlog.queue low.unsaved x.marked;
   listed = λ l. low.pending (topic_name r) (x.listed l);
   rests = x.rests;
+}
+
+-- no mark lies in the future of a later moment either
+pub past_one : (at at' : ℕ) (since : Option ℕ) → at ≤ at' → IfSome since (λ m. m ≤ at) → IfSome since (λ m. m ≤ at')
+past_one at at' None later h = h
+past_one at at' (Some m) later h = omega (arith, later, h)
+
+pub past_later : (at at' : ℕ) (r : Room) → at ≤ at' → IsPast at r → IsPast at' r
+past_later at at' r later h = record {
+  room = past_one at at' r.since later h.room;
+  stalls = All-weaker (λ (s : Stall). IfSome s.since (λ m. m ≤ at)) (λ (s : Stall). IfSome s.since (λ m. m ≤ at')) (λ s x. past_one at at' s.since later x) r.stalls.items h.stalls;
+}
+
+pub all_past : (h h' : Hall) → h.moment ≤ h'.moment → IsSound h → All (IsPast h'.moment) h.rooms.items
+all_past h h' later sound = All-weaker (IsPast h.moment) (IsPast h'.moment) (λ r x. past_later h.moment h'.moment r later x) h.rooms.items sound.past
+
+-- nor does one that is made now
+pub past_marked : (at : ℕ) (since : Option ℕ) → IfSome since (λ m. m ≤ at) → IfSome (marked since at) (λ m. m ≤ at)
+past_marked at None h = omega arith
+past_marked at (Some m) h = h
+
+-- a topic that has the marks of another
+pub past_same : (at : ℕ) (r r' : Room) → r'.since ≡ r.since → r'.stalls.items ≡ r.stalls.items → IsPast at r → IsPast at r'
+past_same at r r' since stalls h = record {
+  room = subst (λ o. IfSome o (λ m. m ≤ at)) (sym since) h.room;
+  stalls = subst (All (λ (s : Stall). IfSome s.since (λ m. m ≤ at))) (sym stalls) h.stalls;
 }
 
 -- marks
@@ -143,6 +169,7 @@ pub record PutsRoom (h h' : Hall) (r : Room) : Type 0 where
   pub keeps : KeepsRest h h'
   pub rooms : h'.rooms.items ≡ put_room h.rooms.items r
   pub room : IsRoomSound h' r
+  pub past : IsPast h'.moment r
   pub members : All (AreMembers h.clients.items (topic_name r)) r.stalls.items
   pub channels : (channel : List ℕ) → IsSome (stall_at h.rooms.items (topic_name r) channel) → IsSome (stall_in r.stalls.items channel)
 
@@ -174,6 +201,7 @@ module _ (h h' : Hall) (r : Room) (p : PutsRoom h h' r) where
         (λ c has. if_some_weaker (λ (route : Route). IsSome (stall_at h.rooms.items route.topic route.channel)) (λ (route : Route). IsSome (stall_at h'.rooms.items route.topic route.channel)) (held_channel c.phase c.route)
         (λ route there. still_there route.topic route.channel there) has) h.clients.items p.sound.channels);
     ready = subst (All AsksForNone) (sym p.keeps.clients) p.sound.ready;
+    past = subst (All (IsPast h'.moment)) (sym p.rooms) (All-put_by topic_name (IsPast h'.moment) h.rooms.items r (all_past h h' p.keeps.later p.sound) p.past);
   }
 
 pub sound_put_room : (h h' : Hall) (r : Room) → PutsRoom h h' r → IsSound h'
@@ -205,8 +233,8 @@ room_touched h h' r r' low x t =
 
 -- one room of a sound hall became another sound one of its name, with the same channels
 pub sound_at_room : (h h' : Hall) (i : ℕ) (Does : Room → Room → Type 0) → IsSound h → KeepsRest h h' → (at : AtRoom i Does h.rooms.items h'.rooms.items) → topic_name at.after ≡ topic_name at.room → at.after.stalls.items ≡ at.room.stalls.items
-    → IsRoomSound h' at.after → IsSound h'
-sound_at_room h h' i Does sound keeps at name stalls room =
+    → IsRoomSound h' at.after → IfSome at.after.since (λ m. m ≤ h'.moment) → IsSound h'
+sound_at_room h h' i Does sound keeps at name stalls room past =
     let Mine : List Stall → Room → Type 0 = λ xs x. All (AreMembers h.clients.items (topic_name x)) xs in
     let found : room_in h.rooms.items (topic_name at.after) ≡ Some at.room = ap (room_in h.rooms.items) name ∙ found_at topic_name h.rooms.items i at.room sound.room_order at.there in
     sound_put_room h h' at.after (record {
@@ -214,6 +242,7 @@ sound_at_room h h' i Does sound keeps at name stalls room =
       keeps = keeps;
       rooms = at.is ∙ put_at topic_name h.rooms.items i at.room at.after sound.room_order at.there name;
       room = room;
+      past = record { room = past; stalls = subst (All (λ (s : Stall). IfSome s.since (λ m. m ≤ h'.moment))) (sym stalls) (at_all (IsPast h'.moment) h.rooms.items i at.room (all_past h h' keeps.later sound) at.there).stalls };
       members = subst (λ n. All (AreMembers h.clients.items n) at.after.stalls.items) (sym name)
           (subst (All (AreMembers h.clients.items (topic_name at.room))) (sym stalls)
           (at_all (λ (x : Room). All (AreMembers h.clients.items (topic_name x)) x.stalls.items) h.rooms.items i at.room sound.members at.there));
@@ -254,7 +283,7 @@ module _ (h h' : Hall) (i j : ℕ) (Does : Stall → Stall → Type 0) (sound : 
     same_empty : is_empty at.after.stalls.items ≡ is_empty at.room.stalls.items
     same_empty = ap is_empty at.does.stalls ∙ empty_set at.room.stalls.items j at.does.after
 
-    module _ (stall : IsStallSound h'.options (topic_name at.room) h'.quiet_until h'.unsaved_from at.does.after) (members : AreMembers h.clients.items (topic_name at.room) at.does.after) where
+    module _ (stall : IsStallSound h'.options (topic_name at.room) h'.quiet_until h'.unsaved_from at.does.after) (past : IfSome at.does.after.since (λ m. m ≤ h'.moment)) (members : AreMembers h.clients.items (topic_name at.room) at.does.after) where
       room_after : IsRoomSound h' at.after
       room_after =
           let r : Room = record (at.room) { stalls = at.after.stalls } in
@@ -274,12 +303,21 @@ module _ (h h' : Hall) (i j : ℕ) (Does : Stall → Stall → Type 0) (sound : 
             rests = λ l. ap (λ b. is_none at.room.queue.head && (at.room.queue.paused || (b || has_none_waiting at.room))) same_empty ∙ x.rests l;
           })
 
+      past_after : IsPast h'.moment at.after
+      past_after =
+          let x : IsPast h'.moment at.room = at_all (IsPast h'.moment) h.rooms.items i at.room (all_past h h' keeps.later sound) at.there in
+          record {
+            room = subst (λ o. IfSome o (λ m. m ≤ h'.moment)) (sym (ap (λ (r : Room). r.since) at.does.is)) x.room;
+            stalls = subst (All (λ (s : Stall). IfSome s.since (λ m. m ≤ h'.moment))) (sym at.does.stalls) (All-set (λ (s : Stall). IfSome s.since (λ m. m ≤ h'.moment)) at.room.stalls.items j at.does.after past x.stalls);
+          }
+
       pub sound_at_stall_of : IsSound h'
       sound_at_stall_of = sound_put_room h h' at.after (record {
         sound = sound;
         keeps = keeps;
         rooms = at.is ∙ put_at topic_name h.rooms.items i at.room at.after sound.room_order at.there name_after;
         room = room_after;
+        past = past_after;
         members = subst (λ n. All (AreMembers h.clients.items n) at.after.stalls.items) (sym name_after)
             (subst (All (AreMembers h.clients.items (topic_name at.room))) (sym at.does.stalls)
             (All-set (AreMembers h.clients.items (topic_name at.room)) at.room.stalls.items j at.does.after members
@@ -290,8 +328,8 @@ module _ (h h' : Hall) (i j : ℕ) (Does : Stall → Stall → Type 0) (sound : 
       })
 
 pub sound_at_stall : (h h' : Hall) (i j : ℕ) (Does : Stall → Stall → Type 0) → IsSound h → KeepsRest h h' → (at : AtStall i j Does h.rooms.items h'.rooms.items) → channel_name at.does.after ≡ channel_name at.does.stall
-    → IsStallSound h'.options (topic_name at.room) h'.quiet_until h'.unsaved_from at.does.after → AreMembers h.clients.items (topic_name at.room) at.does.after → IsSound h'
-sound_at_stall h h' i j Does sound keeps at named stall members = sound_at_stall_of h h' i j Does sound keeps at named stall members
+    → IsStallSound h'.options (topic_name at.room) h'.quiet_until h'.unsaved_from at.does.after → IfSome at.does.after.since (λ m. m ≤ h'.moment) → AreMembers h.clients.items (topic_name at.room) at.does.after → IsSound h'
+sound_at_stall h h' i j Does sound keeps at named stall past members = sound_at_stall_of h h' i j Does sound keeps at named stall past members
 
 -- a stall with the clients that it had
 pub members_stay : (clients : List Client) (topic : List ℕ) (s s' : Stall) → channel_name s' ≡ channel_name s → ((n : ℕ) → client_of s'.channel.clients n ≡ client_of s.channel.clients n) → s'.members.items ≡ s.members.items
@@ -317,6 +355,18 @@ stall_touched o topic q q' u u' s s' earlier x t calm =
       members = subst (AllPairs (λ a b. a < b)) (sym t.members) x.members;
     }
 
+-- the marks of the topic and of the channel that stood at a place
+pub room_past : (h h' : Hall) (i : ℕ) (Does : Room → Room → Type 0) → IsSound h → h.moment ≤ h'.moment → (at : AtRoom i Does h.rooms.items h'.rooms.items) → IfSome at.room.since (λ m. m ≤ h'.moment)
+room_past h h' i Does sound later at = (at_all (IsPast h'.moment) h.rooms.items i at.room (all_past h h' later sound) at.there).room
+
+pub stall_past : (h h' : Hall) (i j : ℕ) (Does : Stall → Stall → Type 0) → IsSound h → h.moment ≤ h'.moment → (at : AtStall i j Does h.rooms.items h'.rooms.items) → IfSome at.does.stall.since (λ m. m ≤ h'.moment)
+stall_past h h' i j Does sound later at =
+    at_all (λ (s : Stall). IfSome s.since (λ m. m ≤ h'.moment)) at.room.stalls.items j at.does.stall (at_all (IsPast h'.moment) h.rooms.items i at.room (all_past h h' later sound) at.there).stalls at.does.there
+
+-- a channel that was touched has its mark
+pub past_touched : (h h' : Hall) (i j : ℕ) → IsSound h → h.moment ≤ h'.moment → (at : AtStall i j TouchesStall h.rooms.items h'.rooms.items) → IfSome at.does.after.since (λ m. m ≤ h'.moment)
+past_touched h h' i j sound later at = subst (λ o. IfSome o (λ m. m ≤ h'.moment)) (sym at.does.does.since) (stall_past h h' i j TouchesStall sound later at)
+
 -- once the channel that was touched is quiet until the hall is, the hall is sound
 pub sound_touched : (before h h' : Hall) (i j : ℕ) → Touches i j before h → h' ≡ record h { quiet_until = h'.quiet_until } → h'.quiet_until ≤ h.quiet_until
     → HoldsAt (λ (r : Room). HoldsAt (λ (s : Stall). IsQuietUntil h'.quiet_until s.channel) r.stalls.items j) h'.rooms.items i → IsSound h'
@@ -339,6 +389,7 @@ sound_touched before h h' i j t is lower quiet =
       epoch = ap (λ (x : Hall). x.epoch) is ∙ ap (λ (x : Hall). x.epoch) t.rest;
       ids_used = ap (λ (x : Hall). x.ids_used) is ∙ ap (λ (x : Hall). x.ids_used) t.rest;
       moment = omega (arith, moment, early);
+      later = omega (arith, moment);
       clients = ap (λ (x : Hall). x.clients.items) is ∙ ap (λ (x : Hall). x.clients.items) t.rest;
     } in
     let stall : Stall = at.does.stall in
@@ -352,5 +403,5 @@ sound_touched before h h' i j t is lower quiet =
     let stall_now : IsStallSound h'.options (topic_name at.room) h'.quiet_until h'.unsaved_from at.does.after =
     subst (λ o. IsStallSound o (topic_name at.room) h'.quiet_until h'.unsaved_from at.does.after) (sym options)
     (stall_touched before.options (topic_name at.room) before.quiet_until h'.quiet_until before.unsaved_from h'.unsaved_from stall at.does.after earlier (stall_before before h' i j TouchesStall t.sound keeps now) at.does.does calm) in
-    sound_at_stall before h' i j TouchesStall t.sound keeps now name stall_now
+    sound_at_stall before h' i j TouchesStall t.sound keeps now name stall_now (past_touched before h' i j t.sound keeps.later now)
     (members_stay before.clients.items (topic_name at.room) stall at.does.after name at.does.does.clients at.does.does.members (members_before before h' i j TouchesStall t.sound keeps now))

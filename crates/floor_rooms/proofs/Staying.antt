@@ -1,14 +1,13 @@
 -- What stays of a hall's rooms as one queue changes.
-use Rattle.std.proofs.Common.{◌≡◌, ◌≢◌, ℕ, Bool, true, false, List, [], ◌∷◌, Option, Some, None, refl, sym, ap, subst, ◌∙◌}
+use Rattle.std.proofs.Common.{◌≡◌, ◌≢◌, ℕ, List, Option, Some, None, refl, sym, ap, subst, ◌∙◌}
 use Rattle.std.specs.Prelude.{IfSome}
 use Rattle.std.specs.List.{All}
 use Rattle.nsq_base.specs.Name.{IsName}
 use Rattle.nsq_outside.specs.Files.{Files}
-use Rattle.queue_image.specs.FileNames.{meta_file, IsOwnFile}
+use Rattle.queue_image.specs.FileNames.{meta_file}
 use Rattle.queue_image.specs.FileNames.IsOwnFile.{metadata}
 use Rattle.queue_image.specs.Metas.{IsIdle}
 use Rattle.queue_image.proofs.Naming.{one_channel, no_channel}
-use Rattle.history.specs.Found.{Pairwise}
 use Rattle.disk_queue.specs.Seen.{Seen as Queue}
 use Rattle.backlog.specs.Lists.{DiskChanges}
 use Rattle.broker_history.specs.State.{Channel, Topic}

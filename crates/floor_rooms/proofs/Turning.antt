@@ -1,8 +1,5 @@
 -- What changes at a place of the hall is the change of the channel, or of the topic, that stands there.
-use Rattle.std.proofs.Common.{◌≡◌, ◌≤◌, ℕ, List, Some, ap, subst, ◌∙◌}
-use Rattle.std.specs.Prelude.{slice_get}
-use Rattle.std.specs.List.{All}
-use Rattle.std.proofs.lemmas.Option.{get_or_from_slice_get, slice_get_within}
+use Rattle.std.proofs.Common.{◌≡◌, ℕ, ap, ◌∙◌}
 use Rattle.nsq_outside.specs.Files.{Files}
 use Rattle.channel_core.specs.Seen.{queue_name}
 use Rattle.topic_core.specs.Seen.{Seen as Queue}

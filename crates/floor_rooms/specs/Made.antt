@@ -1,5 +1,5 @@
 -- A hall, a topic and a channel as they are made.
-use Rattle.std.specs.Prelude.{◌≡◌, ℕ, ◌||◌, Bool, true, false, not, List, [], ◌∷◌, Some, None}
+use Rattle.std.specs.Prelude.{◌≡◌, ℕ, ◌||◌, true, false, not, List, [], ◌∷◌, Some, None}
 use Rattle.nsq_base.specs.Name.{IsName, is_ephemeral}
 use Rattle.nsq_base.specs.declared.options.Options.{Options}
 use Rattle.nsq_outside.specs.Files.{Files}

@@ -1,5 +1,5 @@
 -- What is where in a hall.
-use Rattle.std.specs.Prelude.{◌≡◌, ℕ, ◌==◌, not, List, map, filter, find, Option, Some, None, option_and_then}
+use Rattle.std.specs.Prelude.{ℕ, ◌==◌, not, List, map, filter, find, Option, option_and_then}
 use Rattle.std.specs.Str.{bytes_eq}
 use Rattle.nsq_base.specs.Names.{TopicList, put_by}
 use Rattle.broker_history.specs.State.{Client}

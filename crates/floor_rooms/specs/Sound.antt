@@ -1,7 +1,7 @@
 -- What a hall keeps, whatever is told of files and of entries. The conditions of the calls of topics and channels follow from it.
-use Rattle.std.specs.Prelude.{◌≡◌, ◌⊎◌, ◌<◌, ◌≤◌, ℕ, ◌+◌, ◌^◌, ◌==◌, ◌&&◌, ◌||◌, Bool, true, false, not, nat_eq, if◌then◌else◌, List, [], ◌∷◌, All, AllPairs, Contains, Option, Some, None, IfSome, IsSome, is_some, is_none}
+use Rattle.std.specs.Prelude.{◌≡◌, ◌<◌, ◌≤◌, ℕ, ◌^◌, ◌==◌, ◌&&◌, ◌||◌, Bool, true, false, not, nat_eq, if◌then◌else◌, List, [], ◌∷◌, All, AllPairs, Contains, Option, Some, None, IfSome, IsSome, is_some, is_none}
 use Rattle.std.specs.List.{list_any}
-use Rattle.nsq_base.specs.Name.{IsName, is_ephemeral}
+use Rattle.nsq_base.specs.Name.{IsName}
 use Rattle.nsq_base.specs.Names.{IsAscendingBy}
 use Rattle.nsq_base.specs.Options.{IsInRange}
 use Rattle.nsq_base.specs.declared.options.Options.{Options}
@@ -83,6 +83,11 @@ HasItsChannel h c = IfSome (held_channel c.phase c.route) (λ route. IsSome (sta
 abbrev pub AsksForNone : Client → Type 0
 AsksForNone c = is_fresh c.phase ≡ true → c.ready ≡ 0
 
+-- no queue of a topic, nor of its channels, is marked as unsaved since a later moment
+pub record IsPast (at : ℕ) (r : Room) : Type 0 where
+  pub room : IfSome r.since (λ moment. moment ≤ at)
+  pub stalls : All (λ (s : Stall). IfSome s.since (λ moment. moment ≤ at)) r.stalls.items
+
 pub record IsSound (h : Hall) : Type 0 where
   pub options : IsInRange h.options
   pub epoch : h.epoch < 2 ^ 24
@@ -94,3 +99,4 @@ pub record IsSound (h : Hall) : Type 0 where
   pub members : All (λ r. All (AreMembers h.clients.items (topic_name r)) r.stalls.items) h.rooms.items
   pub channels : All (HasItsChannel h) h.clients.items
   pub ready : All AsksForNone h.clients.items
+  pub past : All (IsPast h.moment) h.rooms.items

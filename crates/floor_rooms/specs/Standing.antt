@@ -1,5 +1,5 @@
 -- Which states a hall stands for in a folder's files.
-use Rattle.std.specs.Prelude.{◌≡◌, ◌≤◌, ℕ, false, List, All, Option, None, IfSome}
+use Rattle.std.specs.Prelude.{◌≡◌, ◌≤◌, ℕ, false, List, All, None, IfSome}
 use Rattle.nsq_base.specs.Name.{IsName, is_ephemeral}
 use Rattle.nsq_outside.specs.Files.{Files}
 use Rattle.queue_image.specs.FileNames.{meta_file}
@@ -42,9 +42,9 @@ IsDurableTopic name = IsName name × (is_ephemeral name ≡ false)
 abbrev pub IsDurableChannel : (topic name : List ℕ) → Type 0
 IsDurableChannel topic name = IsName name × (is_ephemeral_channel topic name ≡ false)
 
--- the hall stands for the state: it has its options, epoch, ids used, Stop and clients, its topics pair by pair, and no earlier moment; and a durable
--- queue of any other name would begin with nothing
-pub record HoldsFor (h : Hall) (files : Files) (s : State) : Type 0 where
+-- the hall's value is the state's in these files: it has its options, epoch, ids used, Stop and clients, its topics pair by pair, and no earlier
+-- moment
+pub record StandsFor (h : Hall) (files : Files) (s : State) : Type 0 where
   pub options : s.options ≡ h.options
   pub epoch : s.epoch ≡ h.epoch
   pub ids_used : s.ids_used ≡ h.ids_used
@@ -52,8 +52,16 @@ pub record HoldsFor (h : Hall) (files : Files) (s : State) : Type 0 where
   pub stopped : s.stopped ≡ h.stopped
   pub clients : s.clients ≡ h.clients.items
   pub topics : Pairwise (IsRoomOf files) h.rooms.items s.topics
-  pub idle : (name : List ℕ) → IsDurableTopic name → room_in h.rooms.items name ≡ None → IsIdle (files (meta_file name))
-  pub idle_channels : (topic channel : List ℕ) → IsName topic → IsDurableChannel topic channel → stall_at h.rooms.items topic channel ≡ None → IsIdle (files (meta_file (queue_name topic channel)))
+
+-- a durable queue of a name that the hall doesn't have would begin with nothing
+pub record AreIdle (h : Hall) (files : Files) : Type 0 where
+  pub topics : (name : List ℕ) → IsDurableTopic name → room_in h.rooms.items name ≡ None → IsIdle (files (meta_file name))
+  pub channels : (topic channel : List ℕ) → IsName topic → IsDurableChannel topic channel → stall_at h.rooms.items topic channel ≡ None → IsIdle (files (meta_file (queue_name topic channel)))
+
+-- the hall stands for the state, whatever it goes on to make: so it does once each topic that a folder lists was opened
+pub record HoldsFor (h : Hall) (files : Files) (s : State) : Type 0 where
+  pub stands : StandsFor h files s
+  pub idle : AreIdle h files
 
 -- from each state that the hall stood for, the change leads to one that it stands for
 abbrev pub Carries : (old : Hall) → (before : Files) → (new : Hall) → (after : Files) → (Does : State → State → Type 0) → Type 0

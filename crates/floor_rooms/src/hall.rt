@@ -4,7 +4,7 @@ ghost use Rattle.nsq_outside.specs.Files.{Files};
 ghost use Rattle.broker_history.specs.State.{State};
 ghost use Rattle.floor_rooms.specs.Made.{IsEmptyHall, IsUnused, empty_state};
 ghost use Rattle.floor_rooms.specs.Sound.{IsSound};
-ghost use Rattle.floor_rooms.specs.Standing.{HoldsFor};
+ghost use Rattle.floor_rooms.specs.Standing.{HoldsFor, StandsFor};
 
 use crate::Room;
 use floor_clients::Client;
@@ -56,6 +56,7 @@ impl Hall {
         requires epoch { epoch < 2 ^ 24 }
         ensures is { IsEmptyHall options epoch (min reading (2 ^ 62)) result }
         ensures sound { IsSound result }
+        ensures opens { (files : Files) → StandsFor result files (empty_state options epoch (min reading (2 ^ 62))) }
         ensures stands { (files : Files) → IsUnused files → HoldsFor result files (empty_state options epoch (min reading (2 ^ 62))) }
     {
         let moment = reading.min(LAST_MOMENT);

@@ -5,6 +5,8 @@ ghost use Rattle.nsq_base.specs.Places.{BelongsAt};
 ghost use Rattle.nsq_outside.specs.Files.{Files};
 ghost use Rattle.broker_history.specs.State.{State, new_topic};
 ghost use Rattle.broker_history.specs.Changes.{made_topic};
+ghost use Rattle.floor_rooms.specs.Changes.{KeepsSince};
+ghost use Rattle.floor_rooms.specs.Kept.{NamesTold};
 ghost use Rattle.floor_rooms.specs.Made.{BeginsIdle, IsFreshRoom, IsUnmade, MakesRoom};
 ghost use Rattle.floor_rooms.specs.Places.{IsThere};
 ghost use Rattle.floor_rooms.specs.Rooms.{put_room, topic_name};
@@ -70,6 +72,8 @@ impl Hall {
         ensures pending { self.new.pending.items ≡ self.old.pending.items }
         ensures made { OnOk result (MakesRoom topic self.old self.new) }
         ensures refused { OnErr result (IsUnmade self.old self.new) }
+        ensures names { NamesTold self.old self.new }
+        ensures since { KeepsSince self.old.moment self.old.rooms.items self.new.rooms.items }
         ensures sound { IsSound self.new }
         ensures stands { (files : Files) → OnOk result (Carries self.old files self.new files (λ s t. t ≡ made_topic s topic)) }
         ensures stays { (files : Files) → OnErr result (Carries self.old files self.new files (λ s t. t ≡ s)) }

@@ -60,13 +60,14 @@ impl Hall {
         }
     }
 
-    /// The topic stands among those that may have something to take or to pay. Takes no memory. Requires that there is room for one more
-    /// of them, unless it stands there already.
+    /// The topic stands among those that may have something to take or to pay, once. Takes no memory. Requires that there is room for one more
+    /// of them, also where it stands there already.
     pub fn list_room(&mut self, i: usize)
         requires room { i < length self.old.rooms.items }
         requires space { deque_len self.old.pending < deque_capacity self.old.pending }
         ensures rest { self.new ≡ record self.old { rooms = self.new.rooms; pending = self.new.pending } }
         ensures room { AtRoom i (λ a b. (b ≡ record a { listed = true }) × (self.new.pending.items ≡ listed_with self.old.pending.items a.listed (topic_name a))) self.old.rooms.items self.new.rooms.items }
+        ensures sound { IsSound self.old → IsSound self.new }
         ensures stands { (files : Files) (s : State) → HoldsFor self.old files s → HoldsFor self.new files s }
     {
         let room = &mut self.rooms[i];

@@ -1,13 +1,14 @@
-ghost use Rattle.std.specs.Prelude.{◌≡◌, ◌<◌, ◌||◌, HoldsAt, IfOk, OnErr, OnOk, length, not, vec_capacity, vec_len};
+ghost use Rattle.std.specs.Prelude.{◌≡◌, ◌<◌, ◌||◌, HoldsAt, IfOk, IsSome, OnErr, OnOk, length, not, vec_capacity, vec_len};
 ghost use Rattle.std.specs.VecDeque.{deque_capacity, deque_len};
 ghost use Rattle.nsq_base.specs.Options.{IsInRange};
 ghost use Rattle.nsq_base.specs.Places.{BelongsAt, StandsAt};
 ghost use Rattle.nsq_outside.specs.Files.{Files};
 ghost use Rattle.broker_history.specs.State.{State, is_ephemeral_channel, new_channel, new_topic, with_channel};
 ghost use Rattle.broker_history.specs.Changes.{made_channel};
-ghost use Rattle.floor_rooms.specs.Changes.{AtRoom};
+ghost use Rattle.floor_rooms.specs.Changes.{AtRoom, KeepsSince};
+ghost use Rattle.floor_rooms.specs.Kept.{NamesTold};
 ghost use Rattle.floor_rooms.specs.Made.{AddsStall, BeginsIdle, ChannelBeginsIdle, IsFreshStall, IsRoomWith, SameStalls};
-ghost use Rattle.floor_rooms.specs.Rooms.{channel_name, topic_name};
+ghost use Rattle.floor_rooms.specs.Rooms.{channel_name, stall_at, topic_name};
 ghost use Rattle.floor_rooms.specs.Sound.{IsSound};
 ghost use Rattle.floor_rooms.specs.Standing.{Carries, HoldsFor, IsRoomOf, IsStallOf};
 
@@ -73,6 +74,9 @@ impl Hall {
     pub fn make_stall(&mut self, topic: Topic, channel: Chan) -> Result<(), Memory>
         requires { IsSound self.old }
         ensures rest { self.new ≡ record self.old { rooms = self.new.rooms; pending = self.new.pending; unsaved_names = self.new.unsaved_names } }
+        ensures there { OnOk result (IsSome (stall_at self.new.rooms.items topic channel)) }
+        ensures names { NamesTold self.old self.new }
+        ensures since { KeepsSince self.old.moment self.old.rooms.items self.new.rooms.items }
         ensures sound { IsSound self.new }
         ensures stands { (files : Files) → OnOk result (Carries self.old files self.new files (λ s t. t ≡ made_channel s topic channel)) }
         ensures stays { (files : Files) → OnErr result (Carries self.old files self.new files (λ s t. t ≡ s)) }
@@ -92,6 +96,9 @@ impl Hall {
         requires there { StandsAt topic_name self.old.rooms.items topic i }
         requires place { HoldsAt (λ r. BelongsAt channel_name r.stalls.items channel j) self.old.rooms.items i }
         ensures rest { self.new ≡ record self.old { rooms = self.new.rooms; pending = self.new.pending; unsaved_names = self.new.unsaved_names } }
+        ensures there { OnOk result (IsSome (stall_at self.new.rooms.items topic channel)) }
+        ensures names { NamesTold self.old self.new }
+        ensures since { KeepsSince self.old.moment self.old.rooms.items self.new.rooms.items }
         ensures sound { IsSound self.new }
         ensures stands { (files : Files) → OnOk result (Carries self.old files self.new files (λ s t. t ≡ made_channel s topic channel)) }
         ensures stays { (files : Files) → OnErr result (Carries self.old files self.new files (λ s t. t ≡ s)) }
@@ -107,6 +114,9 @@ impl Hall {
         requires sound { IsSound self.old }
         requires place { BelongsAt topic_name self.old.rooms.items topic i }
         ensures rest { self.new ≡ record self.old { rooms = self.new.rooms; pending = self.new.pending; unsaved_names = self.new.unsaved_names } }
+        ensures there { OnOk result (IsSome (stall_at self.new.rooms.items topic channel)) }
+        ensures names { NamesTold self.old self.new }
+        ensures since { KeepsSince self.old.moment self.old.rooms.items self.new.rooms.items }
         ensures sound { IsSound self.new }
         ensures stands { (files : Files) → OnOk result (Carries self.old files self.new files (λ s t. t ≡ made_channel s topic channel)) }
         ensures stays { (files : Files) → OnErr result (Carries self.old files self.new files (λ s t. t ≡ s)) }

@@ -147,7 +147,7 @@ stall_told h topic x counts clients about of told files s k holds is =
     let t = of.tells files is.disk is.on_disk in
     let alike : CountsAlike (seen_channel x.channel is.disk) k = counts_alike (seen_channel x.channel is.disk) k is.is_kept in
     let named : k.name ≡ channel_name x = stall_named files x k is in
-    let mem : s.options.mem_queue_size ≡ x.channel.about.mem_queue_size = ap (λ (o : Options). o.mem_queue_size) holds.options ∙ sym (ap (λ a. a.mem_queue_size) about) in
+    let mem : s.options.mem_queue_size ≡ x.channel.about.mem_queue_size = ap (λ (o : Options). o.mem_queue_size) holds.stands.options ∙ sym (ap (λ a. a.mem_queue_size) about) in
     let of_topic : x.channel.about.topic ≡ topic = ap (λ a. a.topic) about in
     let depth : counts.depth ≡ queued k.copies = t.depth ∙ alike.queued in
     let least = t.least in
@@ -159,7 +159,7 @@ stall_told h topic x counts clients about of told files s k holds is =
           (omega (arith, mem, depth, least)) (omega (arith, depth, most));
       channel_name = sym named;
       clients =
-          subst (λ cs. Pairwise (TellsClient k) (filter (has_channel topic k.name) cs) clients) (sym holds.clients)
+          subst (λ cs. Pairwise (TellsClient k) (filter (has_channel topic k.name) cs) clients) (sym holds.stands.clients)
           (subst (λ n. Pairwise (TellsClient k) (filter (has_channel topic n) h.clients.items) clients) (sym named)
           (pairs_same (IsToldOfClient x) (TellsClient k) (λ c y tells. tells files k is) (filter (has_channel topic (channel_name x)) h.clients.items) clients told));
       deferred_count = t.deferred_count ∙ alike.deferred;
@@ -193,7 +193,7 @@ pub room_told : (h : Hall) (channel : Option (List ℕ)) (r : Room) (ring disk :
     })
 room_told h channel r ring disk channels capacity of told files s t holds is =
     let named : t.name ≡ topic_name r = room_named files r t is in
-    let mem : s.options.mem_queue_size ≡ h.options.mem_queue_size = ap (λ (o : Options). o.mem_queue_size) holds.options in
+    let mem : s.options.mem_queue_size ≡ h.options.mem_queue_size = ap (λ (o : Options). o.mem_queue_size) holds.stands.options in
     let depth : ring + disk ≡ length t.waiting = of.row files t is.queue in
     let within = of.within in
     record {
@@ -217,5 +217,5 @@ all_told h topic channel told all files s holds = record {
   topics =
       pairs_joined (IsRoomOf files) (IsToldOfRoom h channel) (TellsTopic s channel) (λ r t y stands tells. tells files s t holds stands)
       (filter (λ r. is_wanted topic (topic_name r)) h.rooms.items) (filter (λ (t : Topic). is_wanted topic t.name) s.topics) told
-      (pairs_filter (IsRoomOf files) (λ r. is_wanted topic (topic_name r)) (λ (t : Topic). is_wanted topic t.name) h.rooms.items s.topics (λ r t of. ap (is_wanted topic) (sym (room_named files r t of))) holds.topics) all;
+      (pairs_filter (IsRoomOf files) (λ r. is_wanted topic (topic_name r)) (λ (t : Topic). is_wanted topic t.name) h.rooms.items s.topics (λ r t of. ap (is_wanted topic) (sym (room_named files r t of))) holds.stands.topics) all;
 }

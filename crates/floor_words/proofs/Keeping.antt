@@ -18,7 +18,7 @@ use Rattle.floor_rooms.specs.declared.hall.Hall.{Hall}
 use Rattle.floor_rooms.specs.Rooms.{channel_name, topic_name}
 use Rattle.floor_rooms.specs.Standing.{HoldsFor, IsRoomOf, IsStallOf}
 use Rattle.floor_rooms.proofs.Staying.{room_named, stall_named}
-use Rattle.floor_words.specs.Kept.{hall_kept, room_kept, stall_kept}
+use Rattle.floor_rooms.specs.Kept.{hall_kept, room_kept, stall_kept}
 
 -- one more of a list is kept, or passed over
 pub one_kept : {X Y : Type 0} (f : X → Y) (p : X → Bool) (xs : List X) (i : ℕ) (x : X) (kept : List Y) (y : Y) → kept ≡ map f (filter p (take i xs)) → y ≡ f x → x ≡ get_or xs i x → i < length xs → p x ≡ true → kept ++ y ∷ [] ≡ map f (filter p (take (i + 1) xs))
@@ -52,4 +52,4 @@ room_alike files r t is =
 pub kept_alike : (h : Hall) (files : Files) (s : State) → HoldsFor h files s → hall_kept h ≡ (kept_names s).topics
 kept_alike h files s holds =
     pairs_told (IsRoomOf files) room_kept kept_topic (durable topic_name h.rooms.items) (durable (λ (t : Topic). t.name) s.topics) (room_alike files)
-    (pairs_filter (IsRoomOf files) (λ r. not (is_ephemeral (topic_name r))) (λ (t : Topic). not (is_ephemeral t.name)) h.rooms.items s.topics (λ r t of. ap (λ n. not (is_ephemeral n)) (sym (room_named files r t of))) holds.topics)
+    (pairs_filter (IsRoomOf files) (λ r. not (is_ephemeral (topic_name r))) (λ (t : Topic). not (is_ephemeral t.name)) h.rooms.items s.topics (λ r t of. ap (λ n. not (is_ephemeral n)) (sym (room_named files r t of))) holds.stands.topics)

@@ -96,7 +96,7 @@ named_alike files r t is =
     ap (λ n. (n, stall_names r)) (sym (room_named files r t is)) ∙ ap (λ ns. (t.name, ns)) (pairs_told (IsStallOf files) channel_name (λ (k : Channel). k.name) r.stalls.items t.channels (λ x k of. sym (stall_named files x k of)) is.channels)
 
 pub names_alike : (h : Hall) (files : Files) (s : State) → HoldsFor h files s → hall_names h ≡ names_of s
-names_alike h files s holds = pairs_told (IsRoomOf files) entry_of (λ (t : Topic). (t.name, channel_names t)) h.rooms.items s.topics (named_alike files) holds.topics
+names_alike h files s holds = pairs_told (IsRoomOf files) entry_of (λ (t : Topic). (t.name, channel_names t)) h.rooms.items s.topics (named_alike files) holds.stands.topics
 
 -- a channel of a room is added behind those before it
 pub stall_added : (old new names : TopicList) (t t' n : List ℕ) (items xs : List Stall) (i : ℕ) (x : Stall) → new ≡ with_channel names t' n → t' ≡ t → n ≡ channel_name x → names ≡ old ++ (t, map channel_name (take i xs)) ∷ []

@@ -30,8 +30,8 @@ use Rattle.floor_words.proofs.Sending.{nothing_gets}
 of_client : (h : Hall) (n : ℕ) (c : Client) (files : Files) (s : State) (Is : Client → Type 0) → client_in h.clients.items n ≡ Some c → h.stopped ≡ false → HoldsFor h files s → Is c → OfClient s n Is
 of_client h n c files s Is found running holds is = record {
   client = c;
-  there = ap (λ cs. client_in cs n) holds.clients ∙ found;
-  running = holds.stopped ∙ running;
+  there = ap (λ cs. client_in cs n) holds.stands.clients ∙ found;
+  running = holds.stands.stopped ∙ running;
   is = is;
 }
 
@@ -55,7 +55,7 @@ any_found n [] e = absurd (false≢true e)
 any_found n (c ∷ cs) e = any_one n c cs (c.number == n) (any_found n cs) e
 
 gone : (h : Hall) (n : ℕ) → is_some (client_in h.clients.items n) ≡ true → (files : Files) (s : State) → HoldsFor h files s → is_there s n ≡ true
-gone h n there files s holds = ap (λ cs. list_any (λ (d : Client). d.number == n) cs) holds.clients ∙ any_found n h.clients.items there
+gone h n there files s holds = ap (λ cs. list_any (λ (d : Client). d.number == n) cs) holds.stands.clients ∙ any_found n h.clients.items there
 
 -- who isn't strange is there
 not_strange : (there : Bool) → not there ≡ false → there ≡ true

@@ -43,4 +43,4 @@ pub made_is : (h : Hall) (topic : List ℕ) (channel : Option (List ℕ)) (files
 made_is h topic channel files s holds = made_both files channel (room_in h.rooms.items topic) (topic_of s topic) (found_room h files s holds topic)
 
 pub published_is : (h : Hall) (count : ℕ) (files : Files) (s : State) → HoldsFor h files s → (if are_left h.ids_used count then Done else Ids) ≡ (if has_ids s count then Done else Ids)
-published_is h count files s holds = ap (λ used. if are_left used count then Done else Ids) (sym holds.ids_used)
+published_is h count files s holds = ap (λ used. if are_left used count then Done else Ids) (sym holds.stands.ids_used)

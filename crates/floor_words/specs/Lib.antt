@@ -1,4 +1,3 @@
 pub mod Asked
 pub mod Dues
-pub mod Kept
 pub mod Plans

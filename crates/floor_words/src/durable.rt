@@ -5,7 +5,7 @@ ghost use Rattle.broker_history.specs.State.{State};
 ghost use Rattle.broker_history.specs.Left.{kept_names};
 ghost use Rattle.floor_rooms.specs.Sound.{IsSound};
 ghost use Rattle.floor_rooms.specs.Standing.{HoldsFor};
-ghost use Rattle.floor_words.specs.Kept.{hall_kept, room_kept, stall_kept};
+ghost use Rattle.floor_rooms.specs.Kept.{hall_kept, room_kept, stall_kept};
 
 use floor_rooms::{Hall, Room, Stall};
 use nsq_base::{Chan, Memory, Topic};

@@ -4,7 +4,7 @@ use Rattle.nsq_base.specs.Name.{is_ephemeral}
 use Rattle.history.specs.Data.{durable}
 use Rattle.floor_rooms.specs.declared.room.Room.{Room}
 use Rattle.floor_rooms.specs.Rooms.{topic_name}
-use Rattle.floor_words.specs.Kept.{room_kept}
+use Rattle.floor_rooms.specs.Kept.{room_kept}
 use Rattle.floor_words.proofs.Keeping.{one_kept, none_kept, kept_alike}
 use Rattle.floor_words.proofs.durable.kept.Goals.{then-is_durable_topic+in_ok-kept_topic+in_ok-push, else-is_durable_topic}
 use Rattle.floor_words.proofs.durable.kept.Goals as goal

@@ -1,7 +1,7 @@
 use Rattle.std.proofs.Common.{◌≡◌, map, take}
 use Rattle.history.specs.Data.{durable}
 use Rattle.floor_rooms.specs.Rooms.{topic_name}
-use Rattle.floor_words.specs.Kept.{room_kept}
+use Rattle.floor_rooms.specs.Kept.{room_kept}
 use Rattle.floor_words.proofs.durable.kept.Given as goal
 
 abbrev pub invariant-rooms : goal.invariant-rooms

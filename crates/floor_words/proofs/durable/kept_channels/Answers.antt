@@ -4,7 +4,7 @@ use Rattle.nsq_base.specs.Name.{is_ephemeral}
 use Rattle.history.specs.Data.{durable}
 use Rattle.floor_rooms.specs.declared.stall.Stall.{Stall}
 use Rattle.floor_rooms.specs.Rooms.{channel_name}
-use Rattle.floor_words.specs.Kept.{stall_kept}
+use Rattle.floor_rooms.specs.Kept.{stall_kept}
 use Rattle.floor_words.proofs.Keeping.{one_kept, none_kept}
 use Rattle.floor_words.proofs.durable.kept_channels.Goals.{then-is_durable_channel+in_ok-push, else-is_durable_channel}
 use Rattle.floor_words.proofs.durable.kept_channels.Goals as goal

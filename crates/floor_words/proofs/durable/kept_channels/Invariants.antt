@@ -1,7 +1,7 @@
 use Rattle.std.proofs.Common.{◌≡◌, map, take}
 use Rattle.history.specs.Data.{durable}
 use Rattle.floor_rooms.specs.Rooms.{channel_name}
-use Rattle.floor_words.specs.Kept.{stall_kept}
+use Rattle.floor_rooms.specs.Kept.{stall_kept}
 use Rattle.floor_words.proofs.durable.kept_channels.Given as goal
 
 abbrev pub invariant-stalls : goal.invariant-stalls

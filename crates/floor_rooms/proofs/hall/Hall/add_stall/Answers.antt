@@ -1,7 +1,7 @@
 use Rattle.std.proofs.Common.{◌∙◌, ◌||◌, not, ap, get_or}
 use Rattle.broker_history.specs.State.{is_ephemeral_channel}
 use Rattle.floor_rooms.specs.declared.hall.Hall.{Hall}
-use Rattle.floor_rooms.specs.Rooms.{channel_name, topic_name}
+use Rattle.floor_rooms.specs.Rooms.{topic_name}
 use Rattle.floor_rooms.proofs.Growing.{grown_at, grown_name_at}
 use Rattle.floor_rooms.proofs.hall.Hall.add_stall.Goals as goal
 

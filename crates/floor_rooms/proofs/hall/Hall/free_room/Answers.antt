@@ -1,4 +1,3 @@
-use Rattle.std.proofs.Common.{refl}
 use Rattle.floor_rooms.proofs.Forming.{fresh_room_of}
 use Rattle.floor_rooms.proofs.hall.Hall.free_room.Goals as goal
 

@@ -2,9 +2,13 @@ use Rattle.std.proofs.Common.{List, ℕ, sym, ap, subst}
 use Rattle.std.specs.Prelude.{HoldsAt}
 use Rattle.nsq_base.specs.Places.{BelongsAt}
 use Rattle.channel_core.specs.Seen.{Seen as ChannelSeen}
+use Rattle.floor_rooms.specs.declared.hall.Hall.{Hall}
 use Rattle.floor_rooms.specs.declared.room.Room.{Room}
 use Rattle.floor_rooms.specs.Rooms.{channel_name}
 use Rattle.floor_rooms.proofs.Growing.{added_stall_sound, added_stall_stands, reserved_place, reserved_stands_at}
+use Rattle.floor_rooms.proofs.Dating.{keeps_reserved, since_kept}
+use Rattle.floor_rooms.proofs.Naming.{names_kept}
+use Rattle.floor_rooms.proofs.Coming.{grew_names, grew_since, grew_there}
 use Rattle.floor_rooms.proofs.hall.Hall.grow.Goals as goal
 
 pub add_stall-requires-clause-place : goal.add_stall-requires-clause-place
@@ -26,3 +30,43 @@ returns-clause-stands c = λ files s holds.
     (reserved_stands_at c.args.self.now.rooms.items c.reserve_stall.new.self.rooms.items c.args.i c.args.topic c.reserve_stall.ensures.room sound.room_order c.requires.there)
     (reserved_place c.args.self.now.rooms.items c.reserve_stall.new.self.rooms.items c.args.i c.args.j c.args.channel c.reserve_stall.ensures.room c.requires.place) c.in_ok-stall.ensures.stall
     files s (c.in_ok-stall.ensures.stands files) (c.reserve_stall.ensures.stands files s holds)
+
+pub returns-in_err-reserve_stall-clause-names : goal.returns-in_err-reserve_stall-clause-names
+returns-in_err-reserve_stall-clause-names c =
+    let h = c.args.self.now in
+    names_kept h.moment h c.reserve_stall.new.self (ap (λ (x : Hall). x.unsaved_names) c.reserve_stall.ensures.rest) (keeps_reserved h.moment c.args.i h.rooms.items c.reserve_stall.new.self.rooms.items c.reserve_stall.ensures.room)
+
+pub returns-in_err-reserve_stall-clause-since : goal.returns-in_err-reserve_stall-clause-since
+returns-in_err-reserve_stall-clause-since c =
+    let h = c.args.self.now in
+    since_kept h.moment h.rooms.items c.reserve_stall.new.self.rooms.items (keeps_reserved h.moment c.args.i h.rooms.items c.reserve_stall.new.self.rooms.items c.reserve_stall.ensures.room)
+
+pub returns-in_err-stall-clause-names : goal.returns-in_err-stall-clause-names
+returns-in_err-stall-clause-names c =
+    let h = c.args.self.now in
+    names_kept h.moment h c.reserve_stall.new.self (ap (λ (x : Hall). x.unsaved_names) c.reserve_stall.ensures.rest) (keeps_reserved h.moment c.args.i h.rooms.items c.reserve_stall.new.self.rooms.items c.reserve_stall.ensures.room)
+
+pub returns-in_err-stall-clause-since : goal.returns-in_err-stall-clause-since
+returns-in_err-stall-clause-since c =
+    let h = c.args.self.now in
+    since_kept h.moment h.rooms.items c.reserve_stall.new.self.rooms.items (keeps_reserved h.moment c.args.i h.rooms.items c.reserve_stall.new.self.rooms.items c.reserve_stall.ensures.room)
+
+pub returns-clause-names : goal.returns-clause-names
+returns-clause-names c =
+    grew_names c.args.self.now c.reserve_stall.new.self c.add_stall.new.self c.args.topic c.args.channel c.args.i c.args.j c.in_ok-stall.stall c.reserve_stall.ensures.rest c.reserve_stall.ensures.room c.add_stall.ensures.room c.add_stall.ensures.unsaved
+    (subst (λ (n : List ℕ). HoldsAt (λ (r : Room). BelongsAt channel_name r.stalls.items n c.args.j) c.reserve_stall.new.self.rooms.items c.args.i) (sym (ap (λ (v : ChannelSeen). v.about.name) c.in_ok-stall.ensures.stall.channel.is))
+    (reserved_place c.args.self.now.rooms.items c.reserve_stall.new.self.rooms.items c.args.i c.args.j c.args.channel c.reserve_stall.ensures.room c.requires.place))
+
+pub returns-clause-since : goal.returns-clause-since
+returns-clause-since c =
+    grew_since c.args.self.now c.reserve_stall.new.self c.add_stall.new.self c.args.topic c.args.channel c.args.i c.args.j c.in_ok-stall.stall c.reserve_stall.ensures.rest c.reserve_stall.ensures.room c.add_stall.ensures.room c.add_stall.ensures.unsaved
+    (subst (λ (n : List ℕ). HoldsAt (λ (r : Room). BelongsAt channel_name r.stalls.items n c.args.j) c.reserve_stall.new.self.rooms.items c.args.i) (sym (ap (λ (v : ChannelSeen). v.about.name) c.in_ok-stall.ensures.stall.channel.is))
+    (reserved_place c.args.self.now.rooms.items c.reserve_stall.new.self.rooms.items c.args.i c.args.j c.args.channel c.reserve_stall.ensures.room c.requires.place)) c.in_ok-stall.ensures.stall.since
+
+pub returns-clause-there : goal.returns-clause-there
+returns-clause-there c =
+    let sound = c.reserve_stall.ensures.sound c.requires.sound in
+    grew_there c.args.self.now c.reserve_stall.new.self c.add_stall.new.self c.args.topic c.args.channel c.args.i c.args.j c.in_ok-stall.stall c.reserve_stall.ensures.rest c.reserve_stall.ensures.room c.add_stall.ensures.room c.add_stall.ensures.unsaved
+    (subst (λ (n : List ℕ). HoldsAt (λ (r : Room). BelongsAt channel_name r.stalls.items n c.args.j) c.reserve_stall.new.self.rooms.items c.args.i) (sym (ap (λ (v : ChannelSeen). v.about.name) c.in_ok-stall.ensures.stall.channel.is))
+    (reserved_place c.args.self.now.rooms.items c.reserve_stall.new.self.rooms.items c.args.i c.args.j c.args.channel c.reserve_stall.ensures.room c.requires.place)) sound.room_order
+    (reserved_stands_at c.args.self.now.rooms.items c.reserve_stall.new.self.rooms.items c.args.i c.args.topic c.reserve_stall.ensures.room sound.room_order c.requires.there) (ap (λ (v : ChannelSeen). v.about.name) c.in_ok-stall.ensures.stall.channel.is)

@@ -1,5 +1,5 @@
-use Rattle.std.proofs.Common.{◌≡◌, refl}
-use Rattle.floor_rooms.proofs.Marked.{ListsRoom, at_room_read, listed_already, listed_now, listed_room_stands}
+use Rattle.std.proofs.Common.{refl}
+use Rattle.floor_rooms.proofs.Marked.{ListsRoom, at_room_read, listed_already, listed_now, listed_room_sound, listed_room_stands}
 use Rattle.floor_rooms.proofs.hall.Hall.list_room.Goals as goal
 
 pub returns-then-room-clause-room : goal.returns-then-room-clause-room
@@ -14,6 +14,12 @@ returns-clause-room c =
     let pending = c.args.self.now.pending.items in
     at_room_read c.args.i (ListsRoom pending c.push_back_reserved.new.self.items) c.args.self.now.rooms.items room _ c.requires.room c.index_mut-room.ensures.value
     (listed_now room pending c.push_back_reserved.new.self.items c.name-name.result c.if-room.false c.name-name.ensures c.push_back_reserved.ensures.items)
+
+pub returns-then-room-clause-sound : goal.returns-then-room-clause-sound
+returns-then-room-clause-sound c = λ sound. listed_room_sound c.args.self.now _ c.args.i sound refl refl refl (returns-then-room-clause-room c)
+
+pub returns-clause-sound : goal.returns-clause-sound
+returns-clause-sound c = λ sound. listed_room_sound c.args.self.now _ c.args.i sound refl refl refl (returns-clause-room c)
 
 pub returns-clause-stands : goal.returns-clause-stands
 returns-clause-stands c = λ files s holds. listed_room_stands c.args.self.now _ files s c.args.i c.args.self.now.pending.items c.push_back_reserved.new.self.items refl (returns-clause-room c) holds

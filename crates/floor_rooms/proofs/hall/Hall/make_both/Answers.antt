@@ -1,9 +1,15 @@
-use Rattle.std.proofs.Common.{List, ◌∙◌, ap}
+use Rattle.std.proofs.Common.{◌≡◌, List, [], None, ◌∙◌, ap, sym, subst}
+use Rattle.std.specs.List.{All}
+use Rattle.std.proofs.lemmas.List.Elements.{All-cons, All-nil}
+use Rattle.topic_core.specs.Seen.{Seen as TopicSeen}
+use Rattle.channel_core.specs.Seen.{Seen as ChannelSeen}
 use Rattle.floor_rooms.specs.declared.hall.Hall.{Hall}
+use Rattle.floor_rooms.specs.declared.stall.Stall.{Stall}
 use Rattle.floor_rooms.specs.declared.room.Room.{Room}
 use Rattle.floor_rooms.specs.Rooms.{room_in, topic_name}
 use Rattle.floor_rooms.proofs.Placing.{none_belonging}
 use Rattle.floor_rooms.proofs.Growing.{else_added, with_sound, with_stands}
+use Rattle.floor_rooms.proofs.Coming.{came_names, came_since, came_there}
 use Rattle.floor_rooms.proofs.hall.Hall.make_both.Goals as goal
 
 pub returns-clause-sound : goal.returns-clause-sound
@@ -20,3 +26,25 @@ returns-clause-stands c = λ files s holds.
     (ap (λ (x : Hall). x.unsaved_from) rest) (ap (λ (x : Hall). x.pending.items) rest)
     (ap (λ (xs : List Room). room_in xs c.args.topic) c.reserve_room.ensures.rooms ∙ none_belonging topic_name c.args.self.now.rooms.items c.args.topic c.args.i c.requires.place) c.in_ok-room.ensures.room c.add_room.ensures.rooms
     files s c.in_ok-room.ensures.room.fresh.named (c.in_ok-room.ensures.stands files) (c.reserve_room.ensures.stands files s holds)
+
+pub returns-clause-there : goal.returns-clause-there
+returns-clause-there c =
+    let reserved = c.reserve_room.ensures in
+    let room = c.in_ok-room.ensures.room in
+    came_there c.args.self.now c.reserve_room.new.self c.add_room.new.self c.args.topic c.args.i c.in_ok-room.room reserved.rest c.add_room.ensures.rest reserved.rooms c.add_room.ensures.rooms c.requires.place
+    (ap (λ (q : TopicSeen). q.name) room.queue) c.args.channel room.stall room.stalls (ap (λ (v : ChannelSeen). v.about.name) room.fresh.channel.is)
+
+pub returns-clause-names : goal.returns-clause-names
+returns-clause-names c =
+    let reserved = c.reserve_room.ensures in
+    let room = c.in_ok-room.ensures.room in
+    came_names c.args.self.now c.reserve_room.new.self c.add_room.new.self c.args.topic c.args.i c.in_ok-room.room reserved.rest c.add_room.ensures.rest reserved.rooms c.add_room.ensures.rooms c.requires.place
+    (ap (λ (q : TopicSeen). q.name) room.queue)
+
+pub returns-clause-since : goal.returns-clause-since
+returns-clause-since c =
+    let reserved = c.reserve_room.ensures in
+    let room = c.in_ok-room.ensures.room in
+    came_since c.args.self.now c.reserve_room.new.self c.add_room.new.self c.args.topic c.args.i c.in_ok-room.room reserved.rest c.add_room.ensures.rest reserved.rooms c.add_room.ensures.rooms c.requires.place
+    (ap (λ (q : TopicSeen). q.name) room.queue) room.since
+    (subst (All (λ (s : Stall). s.since ≡ None)) (sym room.stalls) (All-cons (λ (s : Stall). s.since ≡ None) room.stall [] room.fresh.since (All-nil (λ (s : Stall). s.since ≡ None))))

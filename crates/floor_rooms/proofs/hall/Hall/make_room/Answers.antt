@@ -1,7 +1,13 @@
-use Rattle.std.proofs.Common.{refl}
+use Rattle.std.proofs.Common.{◌≡◌, None, refl, ap, sym, subst}
+use Rattle.std.specs.List.{All}
+use Rattle.std.proofs.lemmas.List.Elements.{All-nil}
+use Rattle.topic_core.specs.Seen.{Seen as TopicSeen}
+use Rattle.floor_rooms.specs.declared.stall.Stall.{Stall}
 use Rattle.floor_rooms.specs.Rooms.{topic_name}
 use Rattle.floor_rooms.proofs.Placing.{there_standing}
 use Rattle.floor_rooms.proofs.Forming.{added_made, added_sound, added_stands, added_there, makes_there, there_stands}
+use Rattle.floor_rooms.proofs.Dating.{keeps_equal, since_kept}
+use Rattle.floor_rooms.proofs.Coming.{came_names, came_since}
 use Rattle.floor_rooms.proofs.hall.Hall.make_room.Goals as goal
 
 pub returns-in-Ok-clause-there : goal.returns-in-Ok-clause-there
@@ -33,3 +39,21 @@ returns-in_ok-reserve_room-in-Err-clause-stands c = λ files s holds.
     let reserved = c.reserve_room.ensures in
     added_stands c.args.self.now c.reserve_room.new.self c.add_room.new.self c.args.topic c.in-Err.i c.in_ok-room-in-Err.room _ reserved.rest c.add_room.ensures.rest reserved.rooms c.add_room.ensures.rooms reserved.pending c.in-Err.ensures c.requires c.in_ok-room-in-Err.ensures.room
     files s (c.in_ok-room-in-Err.ensures.stands files) holds
+
+pub returns-in_err-reserve_room-in-Err-clause-since : goal.returns-in_err-reserve_room-in-Err-clause-since
+returns-in_err-reserve_room-in-Err-clause-since c =
+    let h = c.args.self.now in
+    since_kept h.moment h.rooms.items c.reserve_room.new.self.rooms.items (keeps_equal h.moment h.rooms.items c.reserve_room.new.self.rooms.items c.reserve_room.ensures.rooms)
+
+pub returns-in_ok-reserve_room-in-Err-clause-names : goal.returns-in_ok-reserve_room-in-Err-clause-names
+returns-in_ok-reserve_room-in-Err-clause-names c =
+    let reserved = c.reserve_room.ensures in
+    came_names c.args.self.now c.reserve_room.new.self c.add_room.new.self c.args.topic c.in-Err.i c.in_ok-room-in-Err.room reserved.rest c.add_room.ensures.rest reserved.rooms c.add_room.ensures.rooms c.in-Err.ensures
+    (ap (λ (q : TopicSeen). q.name) c.in_ok-room-in-Err.ensures.room.queue)
+
+pub returns-in_ok-reserve_room-in-Err-clause-since : goal.returns-in_ok-reserve_room-in-Err-clause-since
+returns-in_ok-reserve_room-in-Err-clause-since c =
+    let reserved = c.reserve_room.ensures in
+    let fresh = c.in_ok-room-in-Err.ensures.room in
+    came_since c.args.self.now c.reserve_room.new.self c.add_room.new.self c.args.topic c.in-Err.i c.in_ok-room-in-Err.room reserved.rest c.add_room.ensures.rest reserved.rooms c.add_room.ensures.rooms c.in-Err.ensures
+    (ap (λ (q : TopicSeen). q.name) fresh.queue) fresh.since (subst (All (λ (s : Stall). s.since ≡ None)) (sym fresh.stalls) (All-nil (λ (s : Stall). s.since ≡ None)))

@@ -1,6 +1,11 @@
 use Rattle.floor_rooms.proofs.Growing.{both_there}
+use Rattle.floor_rooms.proofs.Coming.{both_found}
 use Rattle.floor_rooms.proofs.hall.Hall.make_stall.Goals as goal
 
 pub returns-in-Ok-place_of-clause-stands : goal.returns-in-Ok-place_of-clause-stands
 returns-in-Ok-place_of-clause-stands c = λ files s holds.
     both_there c.args.self.now c.args.topic c.args.channel c.in-Ok.i c.in-Ok-place_of.field-0 c.index.result.now c.in-Ok.ensures c.index.ensures c.in-Ok-place_of.ensures files s holds
+
+pub returns-in-Ok-place_of-clause-there : goal.returns-in-Ok-place_of-clause-there
+returns-in-Ok-place_of-clause-there c =
+    both_found c.args.self.now.rooms.items c.args.topic c.args.channel c.in-Ok.i c.in-Ok-place_of.field-0 c.index.result.now c.in-Ok.ensures c.index.ensures c.in-Ok-place_of.ensures

@@ -1,4 +1,4 @@
-use Rattle.std.proofs.Common.{◌≡◌, refl, ap}
+use Rattle.std.proofs.Common.{refl, ap}
 use Rattle.floor_rooms.proofs.Marked.{MarksRoom, at_room_read, marked_room_sound, marked_room_stands}
 use Rattle.floor_rooms.proofs.hall.Hall.mark_room.Goals as goal
 

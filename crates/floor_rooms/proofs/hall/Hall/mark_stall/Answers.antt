@@ -1,4 +1,4 @@
-use Rattle.std.proofs.Common.{◌≡◌, refl, ap}
+use Rattle.std.proofs.Common.{refl, ap}
 use Rattle.floor_rooms.specs.Changes.{InRoom}
 use Rattle.floor_rooms.proofs.Marked.{MarksStall, at_room_read, in_room_read, marked_stall_sound, marked_stall_stands, range_of}
 use Rattle.floor_rooms.proofs.hall.Hall.mark_stall.Goals as goal

@@ -1,4 +1,4 @@
-use Rattle.std.proofs.Common.{◌≡◌, ◌≤◌, refl, arith}
+use Rattle.std.proofs.Common.{refl, arith}
 use Rattle.floor_rooms.proofs.Marked.{quiet_at, quiet_none, quiet_some}
 use Rattle.floor_rooms.proofs.Sounding.{sound_touched}
 use Rattle.floor_rooms.proofs.hall.Hall.settle_stall.Goals as goal

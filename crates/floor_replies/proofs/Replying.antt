@@ -27,4 +27,4 @@ same_reply o used phase f g same Nop = refl
 pub told_reply : (h : Hall) (c : Client) (command : Command) (reply : Option Frame) → reply ≡ reply_in h c command → RepliesTo h c command reply
 told_reply h c command reply is lost files s holds =
     is ∙ same_reply h.options h.ids_used c.phase (flies_in h c) (has_in_flight s c) (flies_alike h c lost files s holds) command
-    ∙ ap (λ o. reply_by o h.ids_used c.phase (has_in_flight s c) command) (sym holds.options) ∙ ap (λ used. reply_by s.options used c.phase (has_in_flight s c) command) (sym holds.ids_used)
+    ∙ ap (λ o. reply_by o h.ids_used c.phase (has_in_flight s c) command) (sym holds.stands.options) ∙ ap (λ used. reply_by s.options used c.phase (has_in_flight s c) command) (sym holds.stands.ids_used)

@@ -1,5 +1,5 @@
--- A move that isn't named.
-use Rattle.std.specs.Prelude.{◌≡◌, ℕ, Bool, true, false, is_none, List, Some, slice_get}
+-- Moves of topics.
+use Rattle.std.specs.Prelude.{◌≡◌, ℕ, Bool, false, IsSome, List, Option, Some, None, slice_get}
 use Rattle.broker_history.specs.declared.entry.Act.{Act}
 use Rattle.floor_rooms.specs.declared.room.Room.{Room}
 use Rattle.floor_rooms.specs.Sound.{rests}
@@ -10,8 +10,17 @@ pub record MovesAny (tells_notes tells_files : Bool) (old new : Sight) (answer :
   pub move : Act
   pub moves : Moves tells_notes tells_files move old new answer
 
-pub record IsBusyWith (taken : Bool) (rooms : List Room) (i : ℕ) : Type 0 where
+-- this holds of the topic at a place
+pub record HasRoomAt (i : ℕ) (P : Room → Type 0) (rooms : List Room) : Type 0 where
   pub room : Room
   pub there : slice_get rooms i ≡ Some room
-  pub busy : rests room ≡ false
-  pub none : is_none room.queue.head ≡ taken
+  pub is : P room
+
+-- a message is to be taken next: none is taken, and there is something to do
+pub record TakesNext (r : Room) : Type 0 where
+  pub busy : rests r ≡ false
+  pub none : r.queue.head ≡ None
+
+-- a message was taken
+abbrev pub OwesNext : Room → Type 0
+OwesNext r = IsSome r.queue.head

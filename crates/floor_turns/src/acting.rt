@@ -45,7 +45,6 @@ pub fn carry_out<F: Folder, L: Ledger>(
     ensures same { OnErr result (SameClients hall.old hall.new) }
     ensures stays { StaysSet hall.old hall.new }
     ensures sound { IsSound hall.new }
-    ensures scratch { length scratch.new ≡ length scratch.old }
     ensures files { IsTrue F.tells_files → OnlyQueueFiles (F.files folder.old) (F.files folder.new) }
     ensures faults { F.folder_faults folder.old ≤ F.folder_faults folder.new }
 {

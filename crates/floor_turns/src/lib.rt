@@ -4,7 +4,9 @@
 #![tactic(auto)]
 
 mod acting;
+mod laws;
 mod paying;
 
 pub use acting::{Carried, carry_out};
+pub use laws::payments;
 pub use paying::{Paid, pay};

@@ -59,7 +59,6 @@ pub fn pay<F: Folder, J: Journal<Entry>, L: Ledger>(
     ensures pays { Pays J.tells_notes F.tells_files most (sight hall.old (J.notes journal.old) (F.files folder.old) (F.folder_faults folder.old)) (sight hall.new (J.notes journal.new) (F.files folder.new) (F.folder_faults folder.new)) result }
     ensures sound { IsSound hall.new }
     ensures calm { J.is_aside journal.new ≡ false }
-    ensures scratch { length scratch.new ≡ length scratch.old }
     ensures keeps { Keeps hall.old hall.new }
     ensures files { IsTrue F.tells_files → OnlyQueueFiles (F.files folder.old) (F.files folder.new) }
 {

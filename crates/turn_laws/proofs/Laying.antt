@@ -222,3 +222,8 @@ laid_of at number c answer k laid =
 pub turns_of : {number : ℕ} {h : History} → AreTurns number h → AllByRecursion (IsOf number) h
 turns_of none = tt
 turns_of {number} (turn {h = h} {k = k} at c answer a laid) = all_both (IsOf number) h k (turns_of a) (laid_of at number c answer k laid)
+
+-- two timed histories, the second from the reading where the first ends
+pub timed_join : {coming : ℕ → ℕ} {first mid last : ℕ} {h k : History} → IsTimed coming first h mid → IsTimed coming mid k last → IsTimed coming first (h ++ k) last
+timed_join {coming} {first} {mid} {h = h} a moments.starts = subst (λ x. IsTimed coming first x mid) (sym (append-nil h)) a
+timed_join {coming} {first} {h = h} a (moments.turn {h = k} {readings = r} moves acts b free short at) = subst (λ x. IsTimed coming first x (r + 1)) (append_assoc h k (moves ++ acts)) (moments.turn moves acts (timed_join a b) free short at)

@@ -1,0 +1,4 @@
+pub mod Scenes
+pub mod Leads
+pub mod Turns
+pub mod Following

@@ -1,0 +1,46 @@
+ghost use Rattle.std.specs.Prelude.{◌≡◌, ◌≢◌, ℕ, IsTrue};
+ghost use Rattle.broker_history.specs.Entries.{own};
+ghost use Rattle.desk.specs.Answers.{Adds, Grows, IsAnswerTo, IsShortAnswer, StopsSeen};
+ghost use Rattle.desk.specs.Calls.{CanCall, MayCall};
+ghost use Rattle.desk.specs.declared.turned.Turned.TheVariants.{Strange};
+ghost use Rattle.broker_floor.specs.Scenes.{scene};
+ghost use Rattle.broker_floor.specs.Turns.{IsTurn};
+
+use crate::Floor;
+use broker_history::Entry;
+use desk::{Call, Turned, Turner};
+use nsq_outside::{Clock, Folder, Journal};
+use std::alloc::Global;
+
+impl<F: Folder, C: Clock, J: Journal<Entry>> Floor<F, C, J> {
+    /// Takes a turn of this number: it reads the clock once, moves what is due, 64 moves at most unless a Stop is called for, and makes the act of the call,
+    /// which its answer tells. A call that doesn't fit its number is Strange, and one that a Stop keeps off is answered Stopping: neither moves anything. After
+    /// Memory the moves that were made stand, and no act was made.
+    pub fn turn(&mut self, alloc: Global, number: u64, call: Call) -> Turned
+        requires can { CanCall call }
+        requires may { IsTrue J.tells_notes → MayCall number (own number (J.notes self.old.journal)) call }
+        ensures turn { IsTurn J.tells_notes F.tells_files C.tells_readings number call result (scene self.old.hall (J.notes self.old.journal) (F.files self.old.folder) (F.folder_faults self.old.folder) (C.coming self.old.clock)) (scene self.new.hall (J.notes self.new.journal) (F.files self.new.folder) (F.folder_faults self.new.folder) (C.coming self.new.clock)) }
+        ensures told { IsTrue J.tells_notes → result ≢ Strange }
+        ensures short { IsShortAnswer result }
+    {}
+}
+
+impl<F: Folder, C: Clock, J: Journal<Entry>> Turner for Floor<F, C, J> {
+    ghost use Rattle.broker_floor.specs.Leads.{Leads};
+    ghost use Rattle.broker_floor.specs.Following.{leads_stay, leads_follow};
+    ghost use Rattle.broker_floor.specs.Scenes.{scene};
+
+    ghost tells = { J.tells_notes };
+
+    ghost notes = { λ f. J.notes f.journal };
+
+    ghost leads = { λ n a b. Leads J.tells_notes F.tells_files C.tells_readings n (scene a.hall (J.notes a.journal) (F.files a.folder) (F.folder_faults a.folder) (C.coming a.clock)) (scene b.hall (J.notes b.journal) (F.files b.folder) (F.folder_faults b.folder) (C.coming b.clock)) };
+
+    ghost stays = { λ n f. leads_stay _ _ _ _ _ };
+
+    ghost goes_on = { λ n a b c p q. leads_follow _ _ _ _ _ _ _ p q };
+
+    fn take_turn(&mut self, alloc: Global, conn: u64, call: Call) -> Turned {
+        self.turn(alloc, conn, call)
+    }
+}

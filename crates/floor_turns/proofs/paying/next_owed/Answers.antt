@@ -1,0 +1,21 @@
+use Rattle.std.proofs.Common.{ap}
+use Rattle.floor_rooms.specs.declared.hall.Hall.{Hall}
+use Rattle.floor_moves.proofs.Keeping.{keeps_on}
+use Rattle.floor_turns.proofs.Payments.{moved_on, none_next, place_within}
+use Rattle.floor_turns.proofs.paying.next_owed.Goals as goal
+
+pub returns-then-is_some-clause-moves : goal.returns-then-is_some-clause-moves
+returns-then-is_some-clause-moves g c =
+    moved_on g.J.Journal.tells_notes g.F.Folder.tells_files c.args.hall.now c.find_pending.new.hall (g.J.Journal.notes c.args.journal.now) (g.F.Folder.files c.args.folder.now) (g.F.Folder.folder_faults c.args.folder.now) _ c.find_pending.ensures.unlists.stands
+    c.copy_message.ensures.moves.move c.copy_message.result c.ended.result c.ended.ensures c.find_pending.ensures.keeps.moment c.copy_message.ensures.moves.moves
+
+pub returns-then-is_some-clause-keeps : goal.returns-then-is_some-clause-keeps
+returns-then-is_some-clause-keeps g c = keeps_on c.args.hall.now c.find_pending.new.hall c.copy_message.new.hall c.find_pending.ensures.keeps c.copy_message.ensures.keeps
+
+pub returns-clause-moves : goal.returns-clause-moves
+returns-clause-moves g c =
+    moved_on g.J.Journal.tells_notes g.F.Folder.tells_files c.args.hall.now c.find_pending.new.hall (g.J.Journal.notes c.args.journal.now) (g.F.Folder.files c.args.folder.now) (g.F.Folder.folder_faults c.args.folder.now) _ c.find_pending.ensures.unlists.stands
+    c.take_message.ensures.moves.move c.take_message.result c.ended-2.result c.ended-2.ensures c.find_pending.ensures.keeps.moment c.take_message.ensures.moves.moves
+
+pub returns-clause-keeps : goal.returns-clause-keeps
+returns-clause-keeps g c = keeps_on c.args.hall.now c.find_pending.new.hall c.take_message.new.hall c.find_pending.ensures.keeps c.take_message.ensures.keeps

@@ -1,0 +1,9 @@
+use Rattle.std.proofs.Common.{◌≡◌, false}
+use Rattle.floor_moves.specs.Moves.{sight}
+use Rattle.floor_turns.proofs.Payments.{PaysSoFar}
+use Rattle.floor_turns.proofs.paying.pay.Given as goal
+
+abbrev pub invariant-loop : goal.invariant-loop
+invariant-loop g l =
+    PaysSoFar g.J.Journal.tells_notes g.F.Folder.tells_files l.counter (sight l.fn.hall (g.J.Journal.notes l.fn.journal) (g.F.Folder.files l.fn.folder) (g.F.Folder.folder_faults l.fn.folder)) (sight l.hall (g.J.Journal.notes l.journal) (g.F.Folder.files l.folder) (g.F.Folder.folder_faults l.folder))
+    × (g.J.Journal.is_aside l.journal ≡ false)

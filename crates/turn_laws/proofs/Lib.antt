@@ -1,0 +1,4 @@
+pub mod Laying
+pub mod Allowing
+pub mod Beginning
+pub mod Faulting

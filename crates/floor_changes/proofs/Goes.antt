@@ -1,15 +1,15 @@
 -- A topic that has no channel goes from a hall, and from the states that the hall stands for.
-use Rattle.std.proofs.Common.{◌≡◌, ◌≢◌, ◌⊎◌, inl, inr, ◌≤◌, ◌<◌, ◌^◌, ℕ, suc, set, Bool, true, false, not, if◌then◌else◌, List, [], ◌∷◌, ◌++◌, length, take, drop, get_or, Option, Some, None, refl, sym, ap, subst, ◌∙◌, append_assoc, arith}
+use Rattle.std.proofs.Common.{◌≡◌, ◌⊎◌, inl, inr, ◌≤◌, ◌<◌, ◌^◌, ℕ, suc, set, Bool, true, false, not, if◌then◌else◌, List, [], ◌∷◌, ◌++◌, length, take, drop, get_or, Option, Some, None, refl, sym, ap, subst, ◌∙◌, append_assoc, arith}
 use Rattle.std.specs.Prelude.{HoldsAt, IfSome, IsSome, is_some, option_and_then}
-use Rattle.std.specs.List.{All, AllPairs, Contains, filter, find, insert, slice_get}
+use Rattle.std.specs.List.{All, filter, insert, slice_get}
 use Rattle.std.specs.Global.{Vec}
 use Rattle.std.specs.Str.{bytes_eq}
 use Rattle.std.proofs.Math.Seq.{drop-append_seam, take-append_seam}
 use Rattle.std.proofs.lemmas.Bool.{false≢true}
-use Rattle.std.proofs.lemmas.List.{drop-set-lt, get_or-set_same, length-set, length-take-le, set_split, take-append-drop, take-set}
-use Rattle.std.proofs.lemmas.List.Elements.{All-filter, All-nil, All-weaker, filter-append, filter_passes}
+use Rattle.std.proofs.lemmas.List.{drop-set-lt, get_or-set_same, length-set, length-take-le, set_split, take-set}
+use Rattle.std.proofs.lemmas.List.Elements.{All-filter, All-weaker, filter-append, filter_passes}
 use Rattle.std.proofs.lemmas.List.Kept.{AllPairs-filter}
-use Rattle.std.proofs.lemmas.Option.{get_or_from_slice_get, slice_get_within}
+use Rattle.std.proofs.lemmas.Option.{get_or_from_slice_get}
 use Rattle.nsq_base.specs.Name.{IsName, is_ephemeral}
 use Rattle.nsq_base.specs.Names.{IsAscendingBy, byte_order, is_before}
 use Rattle.nsq_base.specs.Options.{IsInRange}
@@ -29,7 +29,7 @@ use Rattle.topic_core.specs.Seen.{Seen as TopicSeen, owed_of}
 use Rattle.topic_core.specs.Rows.{IsTopicOf}
 use Rattle.topic_core.specs.Deleting.{DropSeen}
 use Rattle.topic_core.specs.declared.answers.DropTopic.TheVariants as topics
-use Rattle.broker_history.specs.State.{Client, Route, State, Topic}
+use Rattle.broker_history.specs.State.{Route, State, Topic}
 use Rattle.broker_history.specs.Changes.{without_topic}
 use Rattle.broker_history.proofs.Lists.{exact_bytes, find_gone, same_bytes}
 use Rattle.channel_core.specs.Seen.{queue_name}
@@ -81,7 +81,7 @@ if_some_weaker P Q None f h = h
 if_some_weaker P Q (Some x) f h = f x h
 
 -- none is found behind the going: it is the one that went, or it wasn't there before
-gone_one : {X : Type 0} (Q : Option X → Type 0) (o : Option X) (b : Bool) → Q (if b then None else o) → (b ≡ true) ⊎ ((b ≡ false) × Q o)
+pub gone_one : {X : Type 0} (Q : Option X → Type 0) (o : Option X) (b : Bool) → Q (if b then None else o) → (b ≡ true) ⊎ ((b ≡ false) × Q o)
 gone_one Q o true h = inl refl
 gone_one Q o false h = inr (refl, h)
 

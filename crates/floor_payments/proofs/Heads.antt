@@ -93,7 +93,7 @@ changes_on None (Some r) f0 f1 f2 q same change = absurd q
 changes_on (Some q) None f0 f1 f2 s same change = absurd s
 changes_on (Some q) (Some r) f0 f1 f2 s same change = λ file other. change file (λ own. other (subst (λ n. IsOwnFile n file) s.name own)) ∙ same file
 
-same_queue : (queue : Option DiskQueue) → SameQueue queue queue
+pub same_queue : (queue : Option DiskQueue) → SameQueue queue queue
 same_queue None = tt
 same_queue (Some q) = record { name = refl; options = refl }
 

@@ -1,5 +1,5 @@
 -- A channel is owed no copy any more.
-use Rattle.std.proofs.Common.{◌≡◌, inr, ◌≤◌, ℕ, Bool, true, false, not, ◌&&◌, ◌||◌, List, set, [], ◌∷◌, get_or, Option, Some, None, is_none, refl, sym, ap, subst, ◌∙◌}
+use Rattle.std.proofs.Common.{◌≡◌, inr, ◌≤◌, ℕ, true, false, not, ◌||◌, List, set, [], ◌∷◌, get_or, Option, Some, None, is_none, refl, sym, ap, subst, ◌∙◌}
 use Rattle.std.specs.Prelude.{IsSome, IfSome, slice_get}
 use Rattle.std.specs.List.{All}
 use Rattle.std.specs.Str.{bytes_eq}
@@ -18,10 +18,10 @@ use Rattle.topic_core.specs.Rows.{paid_in}
 use Rattle.floor_rooms.specs.declared.room.Room.{Room}
 use Rattle.floor_rooms.specs.declared.hall.Hall.{Hall}
 use Rattle.floor_rooms.specs.Rooms.{topic_name, stall_in, stall_names}
-use Rattle.floor_rooms.specs.Sound.{IsRoomSound, IsSound, has_none_waiting, rests}
+use Rattle.floor_rooms.specs.Sound.{IsRoomSound, IsSound, has_none_waiting}
 use Rattle.floor_rooms.specs.Standing.{IsRoomOf, HoldsFor, longest_delay}
 use Rattle.floor_rooms.specs.Changes.{AtRoom, TouchesRoom}
-use Rattle.floor_rooms.specs.RoomChanges.{RoomChange, LiftsRoom}
+use Rattle.floor_rooms.specs.RoomChanges.{LiftsRoom}
 use Rattle.floor_rooms.proofs.Dating.{keeps_at_room, keeps_room_alike, since_equal}
 use Rattle.floor_rooms.proofs.Placing.{at_place}
 use Rattle.floor_rooms.proofs.Rooming.{at_room}
@@ -31,7 +31,7 @@ use Rattle.floor_moves.specs.Moves.{Keeps}
 use Rattle.floor_moves.proofs.Keeping.{keeps_marked, rest_rooms}
 use Rattle.floor_moves.proofs.PuttingBack.{some_same}
 use Rattle.floor_payments.specs.Copying.{Owes, PaysRoom, PaysTopic}
-use Rattle.floor_payments.specs.Taking.{HasRoomAt, names_of}
+use Rattle.floor_payments.specs.Taking.{HasRoomAt}
 use Rattle.floor_payments.proofs.Around.{and_left, keeps_rest}
 use Rattle.floor_payments.proofs.Heads.{same_queue}
 

@@ -1,7 +1,6 @@
 -- A copy is offered to a channel: it gets it, in each state that the hall stood for, or stays as it was.
-use Rattle.std.proofs.Common.{◌≡◌, inl, ◌<◌, ◌≤◌, ℕ, Bool, List, set, get_or, length, Some, refl, sym, ap, subst, ◌∙◌}
-use Rattle.std.specs.Prelude.{IsTrue, IsSome, slice_get}
-use Rattle.std.proofs.lemmas.Option.{slice_get-get_or, slice_get_within}
+use Rattle.std.proofs.Common.{◌≡◌, inl, ℕ, Bool, List, refl, sym, ap, subst, ◌∙◌}
+use Rattle.std.specs.Prelude.{IsTrue, slice_get}
 use Rattle.nsq_outside.specs.Files.{Files}
 use Rattle.v2_frame.specs.declared.message.Message.{Message}
 use Rattle.backlog.specs.Lists.{OnDisk}
@@ -36,10 +35,10 @@ use Rattle.floor_moves.specs.Moves.{Keeps}
 use Rattle.floor_moves.specs.declared.due.Place.{Place}
 use Rattle.floor_moves.specs.declared.made.Made.{Made}
 use Rattle.floor_moves.specs.declared.made.Made.TheVariants as made
-use Rattle.floor_moves.proofs.Joining.{Both, join}
+use Rattle.floor_moves.proofs.Joining.{join}
 use Rattle.floor_moves.proofs.Keeping.{keeps_on, keeps_quiet, keeps_stall, keeps_stall_mark, rest_rooms}
 use Rattle.floor_moves.proofs.PuttingBack.{Marks, is_marked, some_same, stall_here, stands_now}
-use Rattle.floor_payments.specs.Copying.{CanGet, GiveFails, Gives, IsNamedAt, KeepsQueue, Offered, OffersStall, bounded, made_of}
+use Rattle.floor_payments.specs.Copying.{GiveFails, Gives, IsNamedAt, KeepsQueue, Offered, OffersStall, bounded, made_of}
 
 -- what one call answered
 offered_row : (now : ℕ) (m : Message) (old new : ChannelSeen) (disk : List Message) (files : Files) (answer : Offer) → Offers now m old disk new files answer → Offered now m old disk new files (made_of answer)

@@ -1,5 +1,5 @@
 -- What becomes of a topic and of its channel as the channel gets its copy of the message that was taken.
-use Rattle.std.specs.Prelude.{◌≡◌, ◌≤◌, ℕ, min, Bool, true, IsTrue, IsSome, IfSome, List, Option, Some, None, slice_get}
+use Rattle.std.specs.Prelude.{◌≡◌, ℕ, min, Bool, true, IsTrue, IsSome, List, Option, Some, None, slice_get}
 use Rattle.nsq_outside.specs.Causes.{Rose}
 use Rattle.nsq_outside.specs.Files.{Files}
 use Rattle.v2_frame.specs.declared.message.Message.{Message}

@@ -39,31 +39,28 @@ pub fn copy_message<F: Folder, J: Journal<Entry>, L: Ledger>(
     ensures files { IsTrue F.tells_files → OnlyQueueFiles (F.files folder.old) (F.files folder.new) }
     ensures fault { result ≡ Stuck → Rose (F.folder_faults folder.old) (F.folder_faults folder.new) }
 {
-    let room = &hall.rooms[i];
-    let owed = first_owed(room);
-    let Ok(message) = copy_head(room, hall.alloc) else {
+    let alloc = hall.alloc;
+    let at = hall.moment;
+    let owed = first_owed(&hall.rooms[i]);
+    let Ok(message) = copy_head(&hall.rooms[i], alloc) else {
         return Made::Memory;
     };
-    let Ok(message) = announce_copied(journal, hall.moment, owed, message) else {
+    let Ok(message) = announce_copied(journal, at, owed, message) else {
         return Made::Memory;
     };
-    let place = Place {
-        room: i,
-        stall: owed.stall,
-    };
+    let place = owed.place(i);
     match give(hall, place, folder, scratch, message, steps) {
-        Made::Done => {
-            pay(hall, i, owed.channel);
-            journal.note(End::Done);
-            Made::Done
-        }
+        Made::Done => {}
         Made::Stuck => {
             journal.note(End::Faulted(0));
-            Made::Stuck
+            return Made::Stuck;
         }
         Made::Memory => {
             journal.note(End::Skip);
-            Made::Memory
+            return Made::Memory;
         }
     }
+    pay(hall, i, owed.channel());
+    journal.note(End::Done);
+    Made::Done
 }

@@ -9,6 +9,7 @@ ghost use Rattle.floor_payments.specs.Copying.{copied_of, IsOwedFirst, OwesNext}
 
 use crate::lending::lend;
 use broker_history::{Act, Entry};
+use floor_moves::Place;
 use floor_rooms::Room;
 use nsq_base::{Chan, Memory, Topic};
 use nsq_outside::Journal;
@@ -24,6 +25,25 @@ pub struct Owed {
     pub channel: Chan,
     /// The channel's place in the topic.
     pub stall: usize,
+}
+
+impl Owed {
+    // Where the channel stands, whose topic stands at this place.
+    pub(crate) fn place(&self, room: usize) -> Place
+        ensures { result ≡ record { room = room; stall = self.now.stall } }
+    {
+        Place {
+            room,
+            stall: self.stall,
+        }
+    }
+
+    // The channel's name.
+    pub(crate) fn channel(&self) -> Chan
+        ensures { result ≡ self.now.channel }
+    {
+        self.channel
+    }
 }
 
 /// The first channel that is owed a copy of what the topic took.
@@ -70,11 +90,7 @@ pub(crate) fn announce_copied<J: Journal<Entry>>(
     ensures err { OnErr result (J.is_aside journal.new ≡ false) }
     ensures notes { IsTrue J.tells_notes → J.notes journal.new ≡ J.notes journal.old }
 {
-    let (act, ready) = lend(
-        journal,
-        at,
-        Act::Copied(owed.topic, owed.channel, message),
-    );
+    let (act, ready) = lend(journal, at, Act::Copied(owed.topic, owed.channel, message));
     let message = message_of(act);
     ready?;
     Ok(message)

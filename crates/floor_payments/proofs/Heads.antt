@@ -21,7 +21,7 @@ use Rattle.broker_history.specs.declared.entry.Entry.{Entry}
 use Rattle.broker_history.specs.State.{Taken, Topic}
 use Rattle.broker_history.specs.Entries.{History}
 use Rattle.topic_core.specs.Seen.{Seen as Queue}
-use Rattle.topic_core.specs.Answers.{HeadSeen, DrawsHead, LooksInto}
+use Rattle.topic_core.specs.Answers.{HeadSeen, LooksInto}
 use Rattle.topic_core.specs.Rows.{IsTopicOf, MayTake, Stays}
 use Rattle.topic_core.specs.Rows as rows
 use Rattle.topic_core.specs.declared.answers.Head.{Head}
@@ -33,7 +33,7 @@ use Rattle.floor_moves.specs.declared.made.Made.{Made}
 use Rattle.floor_moves.specs.declared.made.Made.TheVariants as made
 use Rattle.floor_moves.specs.Moves.{entry_at}
 use Rattle.floor_moves.proofs.Stepping.{noted_done}
-use Rattle.floor_payments.specs.Taking.{named, names_of, DrawsRoom, LeavesRoom, IsTaken, IsStuck, IsUntouched, TakesIn, Sticks}
+use Rattle.floor_payments.specs.Taking.{named, names_of, DrawsRoom, LeavesRoom, IsTaken, IsUntouched, TakesIn, Sticks}
 
 -- how many messages find room stays in each drawing
 none_capacity : (a b : Backlog) → FindsNone a b → b.capacity ≡ a.capacity
@@ -93,7 +93,7 @@ changes_on None (Some r) f0 f1 f2 q same change = absurd q
 changes_on (Some q) None f0 f1 f2 s same change = absurd s
 changes_on (Some q) (Some r) f0 f1 f2 s same change = λ file other. change file (λ own. other (subst (λ n. IsOwnFile n file) s.name own)) ∙ same file
 
-same_queue : (queue : Option DiskQueue) → SameQueue queue queue
+pub same_queue : (queue : Option DiskQueue) → SameQueue queue queue
 same_queue None = tt
 same_queue (Some q) = record { name = refl; options = refl }
 

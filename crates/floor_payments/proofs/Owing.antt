@@ -1,31 +1,29 @@
 -- A message of a topic is taken: that is the move, of each state that the hall stood for.
-use Rattle.std.proofs.Common.{◌≡◌, ◌≢◌, inl, inr, ◌≤◌, ◌<◌, ◌^◌, ◌⊎◌, ℕ, Bool, true, false, not, ◌&&◌, ◌||◌, List, set, [], ◌∷◌, ◌++◌, map, length, get_or, Option, Some, None, is_none, refl, sym, ap, subst, ◌∙◌, arith}
+use Rattle.std.proofs.Common.{◌≡◌, ◌≢◌, inl, inr, ◌≤◌, ℕ, Bool, true, false, not, ◌&&◌, ◌||◌, List, set, [], ◌∷◌, ◌++◌, map, get_or, Some, None, is_none, refl, sym, ap, subst, ◌∙◌, arith}
 use Rattle.std.specs.Prelude.{IsTrue, IsSome, IfSome, slice_get}
 use Rattle.std.specs.List.{All, Contains}
 use Rattle.std.proofs.lemmas.Bool.{false≢true, eq-eqb}
 use Rattle.std.proofs.lemmas.List.Elements.{All-head, All-tail, All-cons, All-nil, All-map}
 use Rattle.std.proofs.lemmas.Option.{slice_get-get_or, slice_get_within}
-use Rattle.nsq_base.specs.Names.{IsAscendingBy, TopicList}
-use Rattle.nsq_outside.specs.Causes.{Rose}
+use Rattle.nsq_base.specs.Names.{IsAscendingBy}
 use Rattle.nsq_outside.specs.Files.{Files}
 use Rattle.nsq_outside.specs.declared.journal.End.TheVariants.{Done, Faulted}
 use Rattle.v2_frame.specs.declared.message.Message.{Message}
 use Rattle.backlog.specs.declared.backlog.Lent.TheVariants.{Nothing}
 use Rattle.broker_history.specs.declared.entry.Act.TheVariants.{Took, Stuck}
-use Rattle.broker_history.specs.State.{Channel, Waiting, Taken, Topic, State, channel_names, is_empty, topic_of}
+use Rattle.broker_history.specs.State.{Channel, Waiting, Topic, State, channel_names, is_empty, topic_of}
 use Rattle.broker_history.specs.Topics.{Fits, Takes, takes}
 use Rattle.broker_history.specs.Entries.{History}
-use Rattle.broker_history.specs.Before.{is_moved_at, is_stuck_at}
 use Rattle.broker_history.specs.Changes.{AtTopic}
 use Rattle.broker_history.specs.Step.{DoesMove, IsTopicStuck}
-use Rattle.topic_core.specs.Seen.{Seen as Queue, owed_of}
-use Rattle.topic_core.specs.Rows.{IsTopicOf, MayTake, taken_where}
+use Rattle.topic_core.specs.Seen.{owed_of}
+use Rattle.topic_core.specs.Rows.{IsTopicOf, taken_where}
 use Rattle.floor_laws.proofs.Pairs.{pairs_told}
 use Rattle.floor_rooms.specs.declared.stall.Stall.{Stall}
 use Rattle.floor_rooms.specs.declared.room.Room.{Room}
 use Rattle.floor_rooms.specs.declared.hall.Hall.{Hall}
 use Rattle.floor_rooms.specs.Rooms.{channel_name, topic_name, stall_names, stall_in}
-use Rattle.floor_rooms.specs.Sound.{IsRoomSound, IsSound, rests, has_none_waiting}
+use Rattle.floor_rooms.specs.Sound.{IsRoomSound, IsSound, has_none_waiting}
 use Rattle.floor_rooms.specs.Standing.{IsStallOf, IsRoomOf, HoldsFor, longest_delay}
 use Rattle.floor_rooms.specs.Changes.{AtRoom, OnlyQueueFiles, TouchesRoom, marked}
 use Rattle.floor_rooms.specs.RoomChanges.{RoomChange, LiftsRoom}
@@ -40,7 +38,7 @@ use Rattle.floor_rooms.proofs.Staying.{others_stay, stall_named}
 use Rattle.floor_rooms.proofs.Turning.{room_change}
 use Rattle.floor_moves.specs.declared.made.Made.{Made}
 use Rattle.floor_moves.specs.declared.made.Made.TheVariants as made
-use Rattle.floor_moves.specs.Moves.{Keeps, Notes, NothingNoted, IsMade, IsKeptOff, entry_at, sight}
+use Rattle.floor_moves.specs.Moves.{Keeps, entry_at, sight}
 use Rattle.floor_moves.proofs.Keeping.{keeps_marked, keeps_on, rest_rooms}
 use Rattle.floor_moves.proofs.PuttingBack.{some_same, some_since, stands_now}
 use Rattle.floor_moves.proofs.Stepping.{daemon, rose_none, rose_one, steps_to}

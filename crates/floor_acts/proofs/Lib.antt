@@ -2,3 +2,4 @@ pub mod Putting
 pub mod Finding
 pub mod Flying
 pub mod Acting
+pub mod Returning

@@ -53,7 +53,7 @@ empty_set [] i x = refl
 empty_set (y ∷ xs) zero x = refl
 empty_set (y ∷ xs) (suc i) x = refl
 
-and_false : (a b : Bool) → b ≡ false → (a && b) ≡ false
+pub and_false : (a b : Bool) → b ≡ false → (a && b) ≡ false
 and_false true b e = e
 and_false false b e = refl
 
@@ -166,6 +166,7 @@ module _ (h h' : Hall) (i j : ℕ) (Does : Stall → Stall → Type 0) (p : Regr
           still_in channel
           (subst (λ o. IsSome (option_and_then (λ (r : Room). stall_in r.stalls.items channel) o)) (ap (room_in h.rooms.items) same ∙ found_at topic_name h.rooms.items i p.at.room p.sound.room_order p.at.there) there)
       one topic channel false e there = there
+
       still_there : (topic channel : List ℕ) → IsSome (stall_at h.rooms.items topic channel) → IsSome (stall_at h'.rooms.items topic channel)
       still_there topic channel there =
           subst (λ o. IsSome (option_and_then (λ (r : Room). stall_in r.stalls.items channel) o)) (sym (ap (λ rs. room_in rs topic) rooms_put ∙ find_put topic_name h.rooms.items p.at.after topic)) (one topic channel (bytes_eq topic (topic_name p.at.after)) refl there)

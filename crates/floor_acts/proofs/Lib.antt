@@ -3,3 +3,5 @@ pub mod Finding
 pub mod Flying
 pub mod Acting
 pub mod Returning
+pub mod Belonging
+pub mod Readying

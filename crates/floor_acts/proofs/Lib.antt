@@ -5,3 +5,5 @@ pub mod Acting
 pub mod Returning
 pub mod Belonging
 pub mod Readying
+pub mod Drawing
+pub mod Delivering

@@ -47,7 +47,7 @@ holds_behind i j Does r0 r1 P x p d =
     subst (λ (r : Room). HoldsAt P r.stalls.items j) (sym (get_or_from_slice_get r1 i x.after d (ap (λ xs. slice_get xs i) x.is ∙ stands_now r0 i x.room x.after x.there)))
     (λ e. subst P (sym (get_or_from_slice_get x.after.stalls.items j x.does.after e (ap (λ xs. slice_get xs j) x.does.stalls ∙ stands_now x.room.stalls.items j x.does.stall x.does.after x.does.there))) p)
 
-some_since : (since : Option ℕ) (at : ℕ) → IsSome (marked since at)
+pub some_since : (since : Option ℕ) (at : ℕ) → IsSome (marked since at)
 some_since None at = refl
 some_since (Some m) at = refl
 

@@ -63,11 +63,14 @@ module _ (h0 h1 : Hall) (k : ℕ) (x : Client) (spot : Spot) (p : Spoke h0 h1 k 
   own_member = member_here h0 x spot own.route p.sound own.held own.stands (found_at_place h0.clients.items k x p.sound.client_order p.within p.read)
 
   -- what the calls of the channel require
+  pub yours_found : (id : List ℕ) → FliesAt k id h0 → IsYours x.number id own.stands.stall.channel
+  yours_found id flies = yours_here h0 x spot own.route p.sound own.held own.stands id (read_holds (λ c. flies_in h0 c id ≡ true) h0.clients.items k x p.within p.read flies)
+
   pub yours_at : (id : List ℕ) (number : ℕ) → number ≡ x.number → FliesAt k id h0 → HoldsAt (λ (r : Room). HoldsAt (λ s. IsYours number id s.channel) r.stalls.items spot.stall) h1.rooms.items spot.room
   yours_at id number same flies =
       subst (λ rs. HoldsAt (λ (r : Room). HoldsAt (λ s. IsYours number id s.channel) r.stalls.items spot.stall) rs spot.room) (sym rooms_same)
       (spot_holds h0.rooms.items spot own.route (λ s. IsYours number id s.channel) own.stands
-      (subst (λ n. IsYours n id own.stands.stall.channel) (sym same) (yours_here h0 x spot own.route p.sound own.held own.stands id (read_holds (λ c. flies_in h0 c id ≡ true) h0.clients.items k x p.within p.read flies))))
+      (subst (λ n. IsYours n id own.stands.stall.channel) (sym same) (yours_found id flies)))
 
   pub member_at : (number : ℕ) → number ≡ x.number → HoldsAt (λ (r : Room). HoldsAt (λ s. IsSome (client_of s.channel.clients number)) r.stalls.items spot.stall) h1.rooms.items spot.room
   member_at number same =
@@ -86,7 +89,7 @@ module _ (h0 h1 : Hall) (k : ℕ) (x : Client) (spot : Spot) (p : Spoke h0 h1 k 
   spoken_there h3 same =
       sym (ap (λ cs. get_or cs k (spoke h0.moment x)) (spoken_in h3 same x) ∙ get_or-set_same h0.clients.items k (spoke h0.moment (get_or h0.clients.items k x)) (spoke h0.moment x) p.within ∙ ap (spoke h0.moment) (sym p.read))
 
-  first : (files : Files) → Carries h0 files h1 files (λ s t. t ≡ with_client s (spoke h0.moment x))
+  pub first : (files : Files) → Carries h0 files h1 files (λ s t. t ≡ with_client s (spoke h0.moment x))
   first files = read_holds (λ c. Carries h0 files h1 files (λ s t. t ≡ with_client s (spoke h0.moment c))) h0.clients.items k x p.within p.read (p.nop files)
 
   -- what the client's own counts become

@@ -66,7 +66,7 @@ held_route Subscribed r route e = (e, refl)
 held_route Closing r route e = (e, refl)
 held_route Lost r route e = absurd (let no : ⊥ = cc in no)
 
-on_its : (c : Client) (topic channel : List ℕ) (route : Route) → held_channel c.phase c.route ≡ Some route → topic ≡ route.topic → channel ≡ route.channel → has_channel topic channel c ≡ true
+pub on_its : (c : Client) (topic channel : List ℕ) (route : Route) → held_channel c.phase c.route ≡ Some route → topic ≡ route.topic → channel ≡ route.channel → has_channel topic channel c ≡ true
 on_its c topic channel route held t k =
     let on = held_route c.phase c.route route held in
     ap (λ b. not b && is_on c.route topic channel) on.1 ∙ ap (λ r. is_on r topic channel) on.0 ∙ ap (λ b. b && bytes_eq channel route.channel) (ap (λ n. bytes_eq n route.topic) t ∙ same_bytes route.topic) ∙ ap (λ n. bytes_eq n route.channel) k ∙ same_bytes route.channel

@@ -2,3 +2,8 @@ pub mod Putting
 pub mod Finding
 pub mod Flying
 pub mod Acting
+pub mod Returning
+pub mod Belonging
+pub mod Readying
+pub mod Drawing
+pub mod Delivering

@@ -68,15 +68,19 @@ holds_clients h clients files s holds = record {
   idle = record { topics = holds.idle.topics; channels = holds.idle.channels };
 }
 
-pub carries_client : (h h' : Hall) (k : ℕ) (c d : Client) → IsSound h → k < length h.clients.items → c ≡ get_or h.clients.items k c → d.number ≡ c.number → h' ≡ record h { clients = h'.clients } → h'.clients.items ≡ set h.clients.items k d → (files : Files)
+pub carries_ordered : (h h' : Hall) (k : ℕ) (c d : Client) → AreInOrder h.clients.items → k < length h.clients.items → c ≡ get_or h.clients.items k c → d.number ≡ c.number → h' ≡ record h { clients = h'.clients } → h'.clients.items ≡ set h.clients.items k d → (files : Files)
     → Carries h files h' files (λ s t. t ≡ with_client s d)
-carries_client h h' k c d sound l e same rest put files = λ s holds.
-    let whole : h'.clients.items ≡ put_client s.clients d = put ∙ put_at_place h.clients.items k c d sound.client_order l e same ∙ ap (λ xs. put_client xs d) (sym holds.stands.clients) in (
+carries_ordered h h' k c d up l e same rest put files = λ s holds.
+    let whole : h'.clients.items ≡ put_client s.clients d = put ∙ put_at_place h.clients.items k c d up l e same ∙ ap (λ xs. put_client xs d) (sym holds.stands.clients) in (
       with_client s d,
       refl,
       subst (λ (x : Hall). HoldsFor x files (with_client s d)) (sym rest)
           (subst (λ xs. HoldsFor (record h { clients = h'.clients }) files (record s { clients = xs })) whole (holds_clients h h'.clients files s holds)),
     )
+
+pub carries_client : (h h' : Hall) (k : ℕ) (c d : Client) → IsSound h → k < length h.clients.items → c ≡ get_or h.clients.items k c → d.number ≡ c.number → h' ≡ record h { clients = h'.clients } → h'.clients.items ≡ set h.clients.items k d → (files : Files)
+    → Carries h files h' files (λ s t. t ≡ with_client s d)
+carries_client h h' k c d sound l e same rest put files = carries_ordered h h' k c d sound.client_order l e same rest put files
 
 -- a hall with other clients is sound where those are in order, each has its channel, and each channel has those that it had
 pub sound_clients : (h h' : Hall) → IsSound h → h' ≡ record h { clients = h'.clients } → AreInOrder h'.clients.items
@@ -170,6 +174,22 @@ carries_twice h0 h1 h2 k f g y z files sound l changed first e is same rest put 
     let a = first d s holds in
     let b = carries_client h1 h2 k y (g y) sound there e (same y) rest (put ∙ ap (set h1.clients.items k) is) files a.0 a.2 in
     (b.0, b.1 ∙ ap (λ u. with_client u (g y)) a.1 ∙ ap (λ c. with_client (with_client s (f (get_or h0.clients.items k d))) (g c)) x, b.2)
+
+-- one change and then another, each as it is told
+pub changed_here : (f : Client → Client) (k : ℕ) (old mid : List Client) (d : Client) → k < length old → ChangesAt k f old mid → get_or mid k d ≡ f (get_or old k d)
+changed_here f k old mid d l h = ap (λ cs. get_or cs k d) (h d) ∙ get_or-set_same old k (f (get_or old k d)) d l
+
+pub changes_then : (f g : Client → Client) (k : ℕ) (old mid new : List Client) → k < length old → ChangesAt k f old mid → ChangesAt k g mid new → ChangesAt k (λ c. g (f c)) old new
+changes_then f g k old mid new l h i =
+    λ d. i d ∙ ap (λ c. set mid k (g c)) (changed_here f k old mid d l h) ∙ ap (λ cs. set cs k (g (f (get_or old k d)))) (h d) ∙ set-set old k (f (get_or old k d)) (g (f (get_or old k d)))
+
+pub carries_then : (h0 h1 h2 : Hall) (k : ℕ) (f g : Client → Client) (files : Files) → k < length h0.clients.items → ChangesAt k f h0.clients.items h1.clients.items → HoldsAt (λ c. Carries h0 files h1 files (λ s t. t ≡ with_client s (f c))) h0.clients.items k
+    → HoldsAt (λ c. Carries h1 files h2 files (λ s t. t ≡ with_client s (g c))) h1.clients.items k → HoldsAt (λ c. Carries h0 files h2 files (λ s t. t ≡ with_client (with_client s (f c)) (g (f c)))) h0.clients.items k
+carries_then h0 h1 h2 k f g files l changed first second =
+    λ d s holds.
+    let a = first d s holds in
+    let b = second d a.0 a.2 in
+    (b.0, b.1 ∙ ap (λ u. with_client u (g (get_or h1.clients.items k d))) a.1 ∙ ap (λ c. with_client (with_client s (f (get_or h0.clients.items k d))) (g c)) (changed_here f k h0.clients.items h1.clients.items d l changed), b.2)
 
 -- who speaks, closes or says something of itself is the same to its channel
 pub spoken : (at : ℕ) (c d : Client) → d ≡ spoke at c → SameMember c d

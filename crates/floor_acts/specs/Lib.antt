@@ -1,3 +1,4 @@
 pub mod Acts
 pub mod Spots
 pub mod Flights
+pub mod Sending

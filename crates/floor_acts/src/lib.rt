@@ -7,8 +7,10 @@
 mod clients;
 mod flights;
 mod ready;
+mod sending;
 mod spots;
 
 pub use clients::{beat, begin, close, identify, speak, stop};
 pub use flights::{finish, requeue, touch};
 pub use ready::set_ready;
+pub use sending::{draw, settle_sent};

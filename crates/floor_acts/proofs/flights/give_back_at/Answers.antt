@@ -1,0 +1,14 @@
+use Rattle.std.proofs.Common.{refl}
+use Rattle.floor_rooms.specs.Changes.{InRoom}
+use Rattle.floor_rooms.proofs.Marked.{at_room_read, in_room_read, range_of}
+use Rattle.floor_acts.specs.Flights.{GivesBackStall}
+use Rattle.floor_acts.proofs.flights.give_back_at.Goals as goal
+
+pub returns-clause-stall : goal.returns-clause-stall
+returns-clause-stall g c =
+    let room = c.index_mut.result.now in
+    let stall = c.index_mut-2.result.now in
+    let Gives = GivesBackStall g.F.Folder.tells_files c.args.number c.args.id c.args.hall.now.moment c.args.delay c.requeue.result (g.F.Folder.files c.args.folder.now) (g.F.Folder.files c.requeue.new.folder) (g.F.Folder.folder_faults c.args.folder.now) (g.F.Folder.folder_faults c.requeue.new.folder) in
+    at_room_read c.args.spot.room (InRoom c.args.spot.stall Gives) c.args.hall.now.rooms.items room _ c.requires.room c.index_mut.ensures.value
+    (in_room_read c.args.spot.stall Gives room _ stall _ (range_of c.args.spot.stall c.args.hall.now.rooms.items c.args.spot.room room c.index_mut.ensures.value c.requires.stall) c.index_mut-2.ensures.value refl refl
+    (record { row = c.requeue.ensures.row; rest = c.requeue.ensures.rest; disk = c.requeue.ensures.disk; cause = c.requeue.ensures.cause; same = refl }))

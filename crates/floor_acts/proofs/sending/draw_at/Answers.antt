@@ -1,0 +1,24 @@
+use Rattle.std.proofs.Common.{refl}
+use Rattle.floor_rooms.specs.Changes.{InRoom}
+use Rattle.floor_rooms.proofs.Marked.{at_room_read, in_room_read, range_of}
+use Rattle.floor_acts.specs.Sending.{DrawsStall}
+use Rattle.floor_acts.proofs.sending.draw_at.Goals as goal
+
+pub returns-clause-stall : goal.returns-clause-stall
+returns-clause-stall g c =
+    let room = c.index_mut.result.now in
+    let stall = c.index_mut-2.result.now in
+    let Drawn = DrawsStall g.F.Folder.tells_files c.args.number c.args.hall.now.moment c.next.result (g.F.Folder.files c.args.folder.now) (g.F.Folder.files c.next.new.folder) (g.F.Folder.folder_faults c.args.folder.now) (g.F.Folder.folder_faults c.next.new.folder) in
+    at_room_read c.args.i (InRoom c.args.j Drawn) c.args.hall.now.rooms.items room _ c.requires.room c.index_mut.ensures.value
+    (in_room_read c.args.j Drawn room _ stall _ (range_of c.args.j c.args.hall.now.rooms.items c.args.i room c.index_mut.ensures.value c.requires.stall) c.index_mut-2.ensures.value refl refl
+    (record {
+      cause = c.next.ensures.cause;
+      drawn = c.next.ensures.drawn;
+      gives = c.next.ensures.gives;
+      list = c.next.ensures.list;
+      rest = c.next.ensures.rest;
+      files = c.next.ensures.same;
+      disk = c.next.ensures.disk;
+      fault = c.next.ensures.fault;
+      same = refl;
+    }))

@@ -1,4 +1,4 @@
-use Rattle.std.proofs.Common.{◌≡◌, ◌+◌, ◌≤◌, ◌^◌, min, length, refl, arith}
+use Rattle.std.proofs.Common.{◌≡◌, ◌+◌, min, length, refl, arith}
 use Rattle.backlog.specs.declared.answers.PutAll.TheVariants.{Done as AllDone, Fault as AllFault}
 use Rattle.floor_topics.proofs.Frames.{ids_sound}
 use Rattle.floor_topics.proofs.Putting.{put_counted, put_fault, put_files, there_ids, there_named, there_names, there_since, there_sound}

@@ -1,5 +1,5 @@
 -- A channel that is paused, or that goes on.
-use Rattle.std.proofs.Common.{◌≡◌, inr, ◌≤◌, ◌<◌, ℕ, set, Bool, true, false, not, ◌||◌, List, map, get_or, Option, Some, None, refl, sym, ap, subst, ◌∙◌, arith}
+use Rattle.std.proofs.Common.{◌≡◌, inr, ◌≤◌, ℕ, set, Bool, true, false, not, ◌||◌, List, map, get_or, Option, Some, None, refl, sym, ap, subst, ◌∙◌, arith}
 use Rattle.std.specs.Prelude.{IfSome, option_and_then}
 use Rattle.std.specs.List.{Contains}
 use Rattle.std.specs.Str.{bytes_eq}
@@ -11,7 +11,6 @@ use Rattle.history.specs.Data.{durable}
 use Rattle.history.specs.Found.{Pairwise}
 use Rattle.broker_history.specs.State.{Channel, State, is_ephemeral_channel}
 use Rattle.broker_history.specs.Changes.{set_paused}
-use Rattle.channel_copies.specs.Clients.{client_of}
 use Rattle.channel_core.specs.Seen.{seen_channel}
 use Rattle.floor_laws.proofs.Lifting.{paused_kept}
 use Rattle.floor_laws.proofs.Pairs.{IfBoth, pairs_found}
@@ -27,10 +26,11 @@ use Rattle.floor_rooms.proofs.Changing.{at_stall}
 use Rattle.floor_rooms.proofs.Sounding.{KeepsRest, members_before, members_stay, sound_at_stall, stall_before, stall_past, stall_touched}
 use Rattle.floor_rooms.proofs.Marked.{IsElse, else_keeps, else_stays}
 use Rattle.floor_rooms.proofs.Turning.{stall_change}
-use Rattle.floor_rooms.proofs.Dating.{LeavesMarks, pairs_one, since_at_room, since_equal, since_same}
+use Rattle.floor_rooms.proofs.Dating.{pairs_one, since_at_room, since_equal, since_same}
 use Rattle.floor_rooms.proofs.Naming.{KeptAlike, kept_pairs, names_at_room}
 use Rattle.floor_topics.specs.Pausing.{PausesStall}
-use Rattle.floor_topics.proofs.Paused.{channel_paused, not_not, or_left, or_right, same_queue}
+use Rattle.floor_topics.proofs.Paused.{or_left, or_right, same_queue}
+use Rattle.floor_topics.proofs.States.{channel_is}
 
 -- one channel that changed leaves its topic's marks, where it keeps its own
 
@@ -131,7 +131,7 @@ module _ (h h' : Hall) (i j : ℕ) (on unsaved : Bool) (sound : IsSound h) (e : 
         named = refl;
       }) in (
         r.0,
-        channel_paused on s r.0 (topic_name at.room) (channel_name at.does.stall) r.1.old r.1.new r.1.row.from r.1.row.to r.1.there r.1.row.there r.1.row.row r.1.row.is r.1.is ∙ ap (λ (y : Room). set_paused on s (topic_name y) (Some (channel_name at.does.stall))) (sym (room_at d))
+        channel_is (λ (k : Channel). record k { paused = on }) s r.0 (topic_name at.room) (channel_name at.does.stall) r.1.old r.1.new r.1.row.from r.1.row.to r.1.there r.1.row.there r.1.row.row r.1.row.is r.1.is ∙ ap (λ (y : Room). set_paused on s (topic_name y) (Some (channel_name at.does.stall))) (sym (room_at d))
             ∙ ap (λ (y : Stall). set_paused on s (topic_name (get_or h.rooms.items i d)) (Some (channel_name y))) (sym (stall_at_place d x)),
         r.2,
       )

@@ -1,5 +1,5 @@
 -- A topic that is put into a hall with a mark, where room was made: names that are saved, and marks.
-use Rattle.std.proofs.Common.{◌≡◌, ◌||◌, not, ℕ, Bool, List, [], Option, Some, None, refl, sym, ap, subst, ◌∙◌}
+use Rattle.std.proofs.Common.{◌≡◌, ◌||◌, not, ℕ, Bool, List, [], Some, sym, ap, subst, ◌∙◌}
 use Rattle.nsq_base.specs.Name.{is_ephemeral}
 use Rattle.nsq_base.specs.Places.{BelongsAt}
 use Rattle.floor_rooms.specs.declared.room.Room.{Room}

@@ -1,5 +1,5 @@
 -- A topic that is made for messages comes into the hall with them, or doesn't come, as its queue's files change.
-use Rattle.std.proofs.Common.{◌≡◌, ◌≢◌, inl, ◌≤◌, ◌<◌, ◌+◌, ◌^◌, ◌==◌, min, ℕ, Bool, true, false, not, ◌&&◌, ◌||◌, if◌then◌else◌, List, [], ◌∷◌, length, Option, Some, None, refl, sym, ap, subst, ◌∙◌, arith}
+use Rattle.std.proofs.Common.{◌≡◌, ◌≢◌, inl, ◌≤◌, ◌+◌, min, ℕ, Bool, true, false, not, ◌&&◌, ◌||◌, if◌then◌else◌, List, [], ◌∷◌, length, Option, Some, None, refl, sym, ap, subst, ◌∙◌, arith}
 use Rattle.std.specs.Prelude.{IfSome, IsSome, IsTrue, is_none, is_some, option_and_then, unwrap_or}
 use Rattle.std.specs.List.{All, Contains}
 use Rattle.std.specs.Str.{bytes_eq}
@@ -7,7 +7,6 @@ use Rattle.std.proofs.lemmas.Bool.{false≢true}
 use Rattle.std.proofs.lemmas.List.Elements.{All-nil, All-weaker}
 use Rattle.nsq_base.specs.Name.{IsName, is_ephemeral}
 use Rattle.nsq_base.specs.Names.{put_by}
-use Rattle.nsq_base.specs.Places.{BelongsAt}
 use Rattle.nsq_base.specs.declared.options.Options.{Options}
 use Rattle.nsq_outside.specs.Files.{Files}
 use Rattle.queue_files.specs.declared.options.QueueOptions.{QueueOptions}
@@ -17,12 +16,12 @@ use Rattle.history.specs.Found.{Pairwise}
 use Rattle.v2_frame.specs.declared.message.Message.{Message}
 use Rattle.disk_queue.specs.Seen.{Seen as Queue, forgotten, fresh_queue}
 use Rattle.disk_queue.specs.Holding.{SaveStands}
-use Rattle.backlog.specs.Seen.{Unstages, QueueUnstages, disk_depth, ring_depth}
+use Rattle.backlog.specs.Seen.{QueueUnstages}
 use Rattle.backlog.specs.Lists.{DiskChanges, Stands}
 use Rattle.backlog.specs.declared.answers.PutAll.TheVariants.{Done as AllDone}
-use Rattle.broker_history.specs.State.{Channel, State, Topic, is_empty, new_topic, topic_of, topic_or_new, with_topic}
+use Rattle.broker_history.specs.State.{Channel, State, Topic, is_empty, new_topic, topic_or_new, with_topic}
 use Rattle.broker_history.proofs.Lists.{exact_bytes, find_put, same_bytes}
-use Rattle.topic_core.specs.Seen.{Seen as TopicSeen, fresh_topic, owed_of, queue_options}
+use Rattle.topic_core.specs.Seen.{Seen as TopicSeen, owed_of, queue_options}
 use Rattle.topic_core.specs.Rows.{put_messages}
 use Rattle.channel_core.specs.Seen.{queue_name}
 use Rattle.floor_laws.proofs.Pairs.{pairs_become, pairs_put}
@@ -30,12 +29,10 @@ use Rattle.floor_rooms.specs.declared.stall.Stall.{Stall}
 use Rattle.floor_rooms.specs.declared.room.Room.{Room}
 use Rattle.floor_rooms.specs.declared.hall.Hall.{Hall}
 use Rattle.floor_rooms.specs.Rooms.{channel_name, put_room, room_in, stall_at, stall_in, stall_names, topic_name}
-use Rattle.floor_rooms.specs.Sound.{AreMembers, IsPast, IsRoomSound, IsSound, has_none_waiting, rests}
-use Rattle.floor_rooms.specs.Standing.{HoldsFor, IsDurableChannel, IsDurableTopic, IsRoomOf, IsStallOf, longest_delay}
-use Rattle.floor_rooms.specs.Changes.{KeepsSince, OnlyQueueFiles, OthersStay, TouchesRoom}
-use Rattle.floor_rooms.specs.Kept.{NamesTold}
+use Rattle.floor_rooms.specs.Sound.{AreMembers, IsRoomSound, IsSound, has_none_waiting, rests}
+use Rattle.floor_rooms.specs.Standing.{HoldsFor, IsDurableTopic, IsRoomOf, IsStallOf, longest_delay}
+use Rattle.floor_rooms.specs.Changes.{OnlyQueueFiles, OthersStay, TouchesRoom}
 use Rattle.floor_rooms.specs.Made.{BeginsIdle, IsFreshRoom}
-use Rattle.floor_rooms.proofs.Placing.{none_belonging}
 use Rattle.floor_rooms.proofs.Staying.{IsElsewhere, idle_stays, others_stay, room_named, room_stays, topic_is_no_channel}
 use Rattle.floor_rooms.proofs.Changing.{IsNamedRoom, apart_names, named_room, none_one}
 use Rattle.floor_rooms.proofs.Sounding.{Lowers, room_touched, sound_put_room}
@@ -43,11 +40,9 @@ use Rattle.floor_rooms.proofs.Holding.{StaysElse}
 use Rattle.floor_rooms.proofs.Marked.{IsElse, else_keeps, else_stays}
 use Rattle.floor_rooms.proofs.Forming.{fresh_name, fresh_room_sound, no_topic}
 use Rattle.floor_rooms.proofs.Filing.{only_of_topic}
-use Rattle.floor_rooms.proofs.Naming.{names_put_room}
 use Rattle.floor_topics.specs.Publishing.{FillsRoom, Refuses, put_into}
 use Rattle.floor_topics.proofs.Bodies.{put_delays, put_keeps}
-use Rattle.floor_topics.proofs.Frames.{ids_hold, ids_sound}
-use Rattle.floor_topics.proofs.Marks.{since_comes}
+use Rattle.floor_topics.proofs.Frames.{ids_hold}
 use Rattle.floor_topics.proofs.Putting.{same_capacity}
 
 -- a queue that was made and took nothing would begin with nothing

@@ -1,9 +1,12 @@
 pub mod Bodies
 pub mod Frames
 pub mod Marks
+pub mod States
 pub mod Putting
 pub mod Joining
 pub mod Coming
 pub mod Publishes
 pub mod Paused
 pub mod Channels
+pub mod Emptied
+pub mod Copies

@@ -6,7 +6,7 @@ use Rattle.std.specs.Str.{bytes_eq}
 use Rattle.broker_history.proofs.Lists.{exact_bytes, find_put}
 use Rattle.floor_rooms.specs.declared.stall.Stall.{Stall}
 use Rattle.floor_rooms.specs.declared.room.Room.{Room}
-use Rattle.floor_rooms.specs.Rooms.{topic_name, put_room, room_in, stall_at, stall_in}
+use Rattle.floor_rooms.specs.Rooms.{topic_name, put_room, room_in, stall_in}
 use Rattle.floor_rooms.specs.Changes.{AtRoom, KeepsSince, SinceStays, marked, room_since, stall_since}
 use Rattle.floor_rooms.proofs.Dating.{since_same}
 use Rattle.floor_rooms.proofs.Marked.{ListsRoom, MarksRoom}
@@ -23,7 +23,7 @@ stands_now (z ∷ xs) (suc i) x y at = stands_now xs i x y at
 pub after_at : (i : ℕ) (Does : Room → Room → Type 0) (xs ys : List Room) (a : AtRoom i Does xs ys) (r : Room) → slice_get ys i ≡ Some r → r ≡ a.after
 after_at i Does xs ys a r at = some_same r a.after (sym at ∙ ap (λ rs. slice_get rs i) a.is ∙ stands_now xs i a.room a.after a.there)
 
-marked_some : (since : Option ℕ) (at : ℕ) → IsSome (marked since at)
+pub marked_some : (since : Option ℕ) (at : ℕ) → IsSome (marked since at)
 marked_some None at = refl
 marked_some (Some m) at = refl
 

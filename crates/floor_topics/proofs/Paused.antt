@@ -1,5 +1,5 @@
 -- A topic, or a channel, that is paused, or that goes on.
-use Rattle.std.proofs.Common.{◌≡◌, inr, ◌≤◌, ◌<◌, ℕ, Bool, true, false, not, ◌||◌, List, [], ◌∷◌, get_or, Option, Some, None, refl, sym, ap, subst, ◌∙◌, arith}
+use Rattle.std.proofs.Common.{◌≡◌, inr, ◌≤◌, ℕ, Bool, true, false, not, ◌||◌, List, get_or, Option, Some, None, refl, sym, ap, subst, ◌∙◌, arith}
 use Rattle.std.specs.Prelude.{HoldsAt, IfSome}
 use Rattle.std.specs.List.{Contains, slice_get}
 use Rattle.std.proofs.lemmas.Bool.{false≢true}
@@ -10,27 +10,24 @@ use Rattle.disk_queue.specs.Seen.{Seen as Queue}
 use Rattle.backlog.specs.Seen.{SameQueue}
 use Rattle.backlog.specs.Lists.{Stands}
 use Rattle.topic_core.specs.Rows.{IsTopicOf}
-use Rattle.broker_history.specs.State.{Channel, State, Topic, channel_of, is_ephemeral_channel, topic_of, with_channel, with_topic}
-use Rattle.broker_history.specs.Changes.{channel_changed, channel_changed_in, set_paused, topic_changed}
-use Rattle.channel_core.specs.Seen.{Seen as ChannelSeen, seen_channel}
-use Rattle.floor_laws.proofs.Lifting.{paused_kept}
-use Rattle.floor_rooms.specs.declared.stall.Stall.{Stall}
+use Rattle.broker_history.specs.State.{State, Topic}
+use Rattle.broker_history.specs.Changes.{set_paused}
 use Rattle.floor_rooms.specs.declared.room.Room.{Room}
 use Rattle.floor_rooms.specs.declared.hall.Hall.{Hall}
-use Rattle.floor_rooms.specs.Rooms.{channel_name, topic_name}
-use Rattle.floor_rooms.specs.Sound.{IsQuietUntil, IsRoomSound, IsSound, IsStallSound}
-use Rattle.floor_rooms.specs.Standing.{HoldsFor, IsStallOf}
-use Rattle.floor_rooms.specs.Changes.{AtRoom, AtStall, KeepsRooms, KeepsSince, TouchesRoom, TouchesStall}
+use Rattle.floor_rooms.specs.Rooms.{topic_name}
+use Rattle.floor_rooms.specs.Sound.{IsRoomSound, IsSound}
+use Rattle.floor_rooms.specs.Standing.{HoldsFor}
+use Rattle.floor_rooms.specs.Changes.{AtRoom, KeepsRooms, KeepsSince, TouchesRoom}
 use Rattle.floor_rooms.specs.Kept.{NamesTold}
 use Rattle.floor_rooms.proofs.Rooming.{at_room}
-use Rattle.floor_rooms.proofs.Changing.{at_stall}
-use Rattle.floor_rooms.proofs.Sounding.{KeepsRest, at_all, members_before, members_stay, room_past, room_touched, sound_at_room, sound_at_stall, stall_before, stall_past, stall_touched}
+use Rattle.floor_rooms.proofs.Sounding.{KeepsRest, at_all, room_past, room_touched, sound_at_room}
 use Rattle.floor_rooms.proofs.Marked.{IsElse, ListsRoom, else_keeps, else_stays}
-use Rattle.floor_rooms.proofs.Turning.{room_change, stall_change}
+use Rattle.floor_rooms.proofs.Turning.{room_change}
 use Rattle.floor_rooms.proofs.Dating.{LeavesMarks, keeps_equal, keeps_lists, keeps_room_same, keeps_then, leaves_kept, since_at_room, since_kept_then, since_same}
 use Rattle.floor_rooms.proofs.Naming.{names_at_room, names_kept, names_then}
-use Rattle.floor_topics.specs.Pausing.{PausesRoom, PausesStall}
+use Rattle.floor_topics.specs.Pausing.{PausesRoom}
 use Rattle.floor_topics.proofs.Marks.{after_at}
+use Rattle.floor_topics.proofs.States.{topic_is}
 
 -- a queue is of its own name
 pub same_queue : (q : Option Queue) → SameQueue q q
@@ -49,16 +46,6 @@ or_right false c e = e
 pub not_not : (b : Bool) → not b ≡ false → b ≡ false → ⊥
 not_not true e f = false≢true (sym f)
 not_not false e f = false≢true (sym e)
-
--- the state with the topic, or the channel, paused
-topic_paused : (on : Bool) (s t : State) (topic : List ℕ) (old new : Topic) → topic_of s topic ≡ Some old → new ≡ record old { paused = on } → t ≡ with_topic s new → t ≡ set_paused on s topic None
-topic_paused on s t topic old new there row is = is ∙ ap (with_topic s) row ∙ sym (ap (topic_changed (λ (u : Topic). record u { paused = on }) s) there)
-
-pub channel_paused : (on : Bool) (s t : State) (topic channel : List ℕ) (old new : Topic) (from to : Channel) → topic_of s topic ≡ Some old → channel_of old channel ≡ Some from → to ≡ record from { paused = on } → new ≡ with_channel old to → t ≡ with_topic s new
-    → t ≡ set_paused on s topic (Some channel)
-channel_paused on s t topic channel old new from to there has row within is =
-    let f : Channel → Channel = λ c. record c { paused = on } in
-    is ∙ ap (with_topic s) (within ∙ ap (with_channel old) row ∙ sym (ap (channel_changed_in f old) has)) ∙ sym (ap (topic_changed (channel_changed f channel) s) there)
 
 -- a topic
 module _ (h0 h1 h2 h3 : Hall) (i : ℕ) (on : Bool) (e1 : h1 ≡ record h0 { rooms = h1.rooms; pending = h1.pending }) (same : h1.rooms.items ≡ h0.rooms.items) (e2 : h2 ≡ record h1 { rooms = h2.rooms; pending = h2.pending }) (list : AtRoom i (ListsRoom h1.pending.items h2.pending.items) h1.rooms.items h2.rooms.items)
@@ -125,7 +112,7 @@ module _ (h0 h1 h2 h3 : Hall) (i : ℕ) (on : Bool) (e1 : h1 ≡ record h0 { roo
         taken = of.taken;
         channels = refl;
       }) in
-      (r.0, topic_paused on s r.0 (topic_name at.room) r.1.old r.1.new r.1.there r.1.row r.1.is ∙ ap (λ n. set_paused on s n None) (pause_name d), r.2)
+      (r.0, topic_is (λ (u : Topic). record u { paused = on }) s r.0 (topic_name at.room) r.1.old r.1.new r.1.there r.1.row r.1.is ∙ ap (λ n. set_paused on s n None) (pause_name d), r.2)
 
   pause_unsaved : HoldsAt (λ (r : Room). h3.unsaved_names ≡ (h2.unsaved_names || not (is_ephemeral (topic_name r)))) h2.rooms.items i → h3.unsaved_names ≡ (h2.unsaved_names || not (is_ephemeral (topic_name at.room)))
   pause_unsaved unsaved = unsaved at.room ∙ ap (λ (r : Room). h2.unsaved_names || not (is_ephemeral (topic_name r))) (get_or_from_slice_get h2.rooms.items i at.room at.room at.there)

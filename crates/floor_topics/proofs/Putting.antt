@@ -1,10 +1,9 @@
 -- Messages that are put into a topic of the hall.
-use Rattle.std.proofs.Common.{◌≡◌, inl, ◌≤◌, ◌+◌, ℕ, Bool, true, false, List, [], ◌∷◌, length, Option, Some, None, refl, sym, ap, subst, ◌∙◌, arith}
+use Rattle.std.proofs.Common.{◌≡◌, inl, ◌≤◌, ◌+◌, ℕ, Bool, true, List, [], ◌∷◌, length, get_or, Option, Some, refl, sym, ap, subst, ◌∙◌, arith}
 use Rattle.std.specs.Prelude.{IfSome, IsSome, IsTrue, unwrap_or}
 use Rattle.std.specs.List.{All, Contains, slice_get}
 use Rattle.std.proofs.lemmas.Bool.{false≢true}
 use Rattle.std.proofs.lemmas.Option.{get_or_from_slice_get}
-use Rattle.nsq_base.specs.Places.{StandsAt}
 use Rattle.nsq_base.specs.declared.options.Options.{Options}
 use Rattle.nsq_outside.specs.Files.{Files}
 use Rattle.v2_frame.specs.declared.message.Message.{Message}
@@ -138,13 +137,12 @@ put_counted tells h h' old new ms i sound rest at told short topic called count 
     )
 
 -- a topic that stands at a place is marked and listed, and then messages are put into it
-module _ (tells : Bool) (h0 h1 h2 h3 h4 : Hall) (old new : Files) (ms : List Message) (answer : PutAll) (i u : ℕ) (topic : List ℕ) (e1 : h1 ≡ record h0 { rooms = h1.rooms; pending = h1.pending }) (same : h1.rooms.items ≡ h0.rooms.items)
+module _ (tells : Bool) (h0 h1 h2 h3 h4 : Hall) (old new : Files) (ms : List Message) (answer : PutAll) (i u : ℕ) (e1 : h1 ≡ record h0 { rooms = h1.rooms; pending = h1.pending }) (same : h1.rooms.items ≡ h0.rooms.items)
     (e2 : h2 ≡ record h1 { rooms = h2.rooms; unsaved_from = u }) (mark : AtRoom i (MarksRoom h1.moment) h1.rooms.items h2.rooms.items) (e3 : h3 ≡ record h2 { rooms = h3.rooms; pending = h3.pending }) (list : AtRoom i (ListsRoom h2.pending.items h3.pending.items) h2.rooms.items h3.rooms.items)
-    (sound : IsSound h3) (e4 : h4 ≡ record h3 { rooms = h4.rooms }) (at : AtRoom i (FillsRoom tells ms answer old new) h3.rooms.items h4.rooms.items) (stands : StandsAt topic_name h0.rooms.items topic i) where
-  pub there_named : topic_name at.room ≡ topic
-  there_named =
-      is_named i h1.moment h2.pending.items h3.pending.items h1.rooms.items h2.rooms.items h3.rooms.items mark list at.room at.there ∙ ap topic_name (sym (get_or_from_slice_get h0.rooms.items i mark.room mark.room (ap (λ rs. slice_get rs i) (sym same) ∙ mark.there)))
-      ∙ stands.is_key mark.room
+    (sound : IsSound h3) (e4 : h4 ≡ record h3 { rooms = h4.rooms }) (at : AtRoom i (FillsRoom tells ms answer old new) h3.rooms.items h4.rooms.items) where
+  pub there_named : (d : Room) → topic_name at.room ≡ topic_name (get_or h0.rooms.items i d)
+  there_named d =
+      is_named i h1.moment h2.pending.items h3.pending.items h1.rooms.items h2.rooms.items h3.rooms.items mark list at.room at.there ∙ ap topic_name (sym (get_or_from_slice_get h0.rooms.items i mark.room d (ap (λ rs. slice_get rs i) (sym same) ∙ mark.there)))
 
   pub there_sound : IsSound h4
   there_sound =

@@ -1,5 +1,5 @@
-ghost use Rattle.std.specs.Prelude.{◌≡◌, ◌≤◌, ◌+◌, ◌^◌, ◌<◌, All, IfOk, IfSome, IsTrue, None, OnErr, length};
-ghost use Rattle.nsq_base.specs.Places.{BelongsAt, StandsAt};
+ghost use Rattle.std.specs.Prelude.{◌≡◌, ◌≤◌, ◌+◌, ◌^◌, ◌<◌, All, HoldsAt, IfOk, IfSome, IsTrue, None, OnErr, length};
+ghost use Rattle.nsq_base.specs.Places.{BelongsAt};
 ghost use Rattle.nsq_outside.specs.Files.{Files};
 ghost use Rattle.backlog.specs.Answers.{PutAllFails};
 ghost use Rattle.backlog.specs.Seen.{FitsLimit};
@@ -52,27 +52,26 @@ pub fn publish<F: Folder>(
 {
     let mut messages = messages_of(hall, delay, bodies)?;
     match hall.place_of(topic) {
-        Ok(i) => put_there(hall, i, topic, &mut messages, folder, scratch),
+        Ok(i) => put_there(hall, i, &mut messages, folder, scratch),
         Err(i) => put_new(hall, i, topic, &mut messages, folder, scratch),
     }
 }
 
-// Puts messages into the topic at this place, which is that of this name.
+// Puts messages into the topic at this place.
 fn put_there<F: Folder>(
     hall: &mut Hall,
     i: usize,
-    topic: Topic,
     messages: &mut Vec<Message>,
     folder: &mut F,
     scratch: &mut [u8],
 ) -> Result<Published, Memory>
     requires sound { IsSound hall.old }
-    requires there { StandsAt topic_name hall.old.rooms.items topic i }
+    requires room { i < length hall.old.rooms.items }
     requires ids { hall.old.ids_used + length messages.old.items ≤ 2 ^ 40 }
     requires short { All FitsLimit messages.old.items }
     requires delays { All (λ m. m.delay ≤ longest_delay) messages.old.items }
     requires scratch { 16777242 ≤ length scratch.old }
-    ensures told { IsTrue F.tells_files → IfOk result (λ p. Carries hall.old (F.files folder.old) hall.new (F.files folder.new) (PutsInto topic messages.old.items p)) }
+    ensures told { IsTrue F.tells_files → HoldsAt (λ r. IfOk result (λ p. Carries hall.old (F.files folder.old) hall.new (F.files folder.new) (PutsInto (topic_name r) messages.old.items p))) hall.old.rooms.items i }
     ensures stays { (files : Files) → OnErr result (Carries hall.old files hall.new files (λ s t. t ≡ s)) }
     ensures ids { IfOk result (λ p. hall.new.ids_used ≡ ids_after hall.old.ids_used (length messages.old.items) p) }
     ensures none { OnErr result ((hall.new.ids_used ≡ hall.old.ids_used) × (folder.new ≡ folder.old)) }
@@ -84,7 +83,6 @@ fn put_there<F: Folder>(
     ensures faults { F.folder_faults folder.old ≤ F.folder_faults folder.new }
     ensures cause { IfOk result (λ p. PublishFails (F.folder_faults folder.old) (F.folder_faults folder.new) p) }
 {
-    let _ = topic;
     let count = messages.len() as u64;
     hall.reserve_room()?;
     hall.mark_room(i);

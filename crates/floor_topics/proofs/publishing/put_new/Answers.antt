@@ -1,9 +1,8 @@
-use Rattle.std.proofs.Common.{◌≡◌, ◌+◌, ◌≤◌, ◌^◌, min, List, Some, length, refl, sym, ap, subst, ◌∙◌, arith}
+use Rattle.std.proofs.Common.{◌≡◌, ◌+◌, min, List, Some, length, refl, sym, ap, subst, ◌∙◌, arith}
 use Rattle.nsq_base.specs.Places.{BelongsAt}
 use Rattle.floor_rooms.specs.declared.hall.Hall.{Hall}
 use Rattle.floor_rooms.specs.declared.room.Room.{Room}
-use Rattle.floor_rooms.specs.Changes.{KeepsSince}
-use Rattle.floor_rooms.specs.Rooms.{put_room, topic_name}
+use Rattle.floor_rooms.specs.Rooms.{topic_name}
 use Rattle.floor_rooms.proofs.Dating.{keeps_equal, since_kept}
 use Rattle.floor_rooms.proofs.Placing.{none_belonging}
 use Rattle.floor_topics.proofs.Frames.{ids_sound}

@@ -1,0 +1,18 @@
+use Rattle.std.proofs.Common.{min}
+use Rattle.floor_topics.proofs.Emptied.{empty_files, topic_emptied, topic_names, topic_since, topic_sound}
+use Rattle.floor_topics.proofs.emptying.empty_topic.Goals as goal
+
+pub returns-clause-told : goal.returns-clause-told
+returns-clause-told g c = λ told d s holds. topic_emptied g.F.Folder.tells_files c.args.hall.now c.mark_room.new.self c.empty_room.new.hall (g.F.Folder.files c.args.folder.now) (g.F.Folder.files c.empty_room.new.folder) c.empty_room.result c.args.i (min c.args.hall.now.unsaved_from c.args.hall.now.moment) c.mark_room.ensures.rest c.mark_room.ensures.room c.mark_room.ensures.sound c.empty_room.ensures.rest c.empty_room.ensures.room told d s (c.mark_room.ensures.stands (g.F.Folder.files c.args.folder.now) s holds)
+
+pub returns-clause-sound : goal.returns-clause-sound
+returns-clause-sound g c = topic_sound g.F.Folder.tells_files c.args.hall.now c.mark_room.new.self c.empty_room.new.hall (g.F.Folder.files c.args.folder.now) (g.F.Folder.files c.empty_room.new.folder) c.empty_room.result c.args.i (min c.args.hall.now.unsaved_from c.args.hall.now.moment) c.mark_room.ensures.rest c.mark_room.ensures.room c.mark_room.ensures.sound c.empty_room.ensures.rest c.empty_room.ensures.room
+
+pub returns-clause-names : goal.returns-clause-names
+returns-clause-names g c = topic_names g.F.Folder.tells_files c.args.hall.now c.mark_room.new.self c.empty_room.new.hall (g.F.Folder.files c.args.folder.now) (g.F.Folder.files c.empty_room.new.folder) c.empty_room.result c.args.i (min c.args.hall.now.unsaved_from c.args.hall.now.moment) c.mark_room.ensures.rest c.mark_room.ensures.room c.mark_room.ensures.sound c.empty_room.ensures.rest c.empty_room.ensures.room
+
+pub returns-clause-since : goal.returns-clause-since
+returns-clause-since g c = topic_since g.F.Folder.tells_files c.args.hall.now c.mark_room.new.self c.empty_room.new.hall (g.F.Folder.files c.args.folder.now) (g.F.Folder.files c.empty_room.new.folder) c.empty_room.result c.args.i (min c.args.hall.now.unsaved_from c.args.hall.now.moment) c.mark_room.ensures.rest c.mark_room.ensures.room c.mark_room.ensures.sound c.empty_room.ensures.rest c.empty_room.ensures.room
+
+pub returns-clause-files : goal.returns-clause-files
+returns-clause-files g c = λ told. empty_files g.F.Folder.tells_files c.mark_room.new.self c.empty_room.new.hall (g.F.Folder.files c.args.folder.now) (g.F.Folder.files c.empty_room.new.folder) c.empty_room.result c.args.i c.mark_room.ensures.sound c.empty_room.ensures.rest c.empty_room.ensures.room told

@@ -1,2 +1,2 @@
-pub mod Payments
+pub mod Owing
 pub mod Clearing

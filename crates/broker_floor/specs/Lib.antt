@@ -1,4 +1,1 @@
-pub mod Scenes
-pub mod Leads
 pub mod Turns
-pub mod Following

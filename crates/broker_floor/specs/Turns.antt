@@ -21,8 +21,8 @@ use Rattle.floor_words.specs.Plans.{MayBegin, Serves, is_strange}
 use Rattle.turn_laws.specs.Laid.{IsLaid}
 use Rattle.turn_laws.specs.Laws.{RoseBy}
 use Rattle.floor_turns.specs.Acting.{ActsBy, FaultsRose}
-use Rattle.broker_floor.specs.Scenes.{Scene}
-use Rattle.broker_floor.specs.Leads.{LeavesHall, MarksStand}
+use Rattle.floor_turns.specs.Scenes.{Scene}
+use Rattle.floor_turns.specs.Leads.{LeavesHall, MarksStand}
 
 -- the clock was read once, and the moment is its reading where that is later, and no later than the greatest one
 pub record ReadsOnce (tells_readings : Bool) (old new : Scene) : Type 0 where

@@ -11,7 +11,7 @@ ghost use Rattle.floor_rooms.specs.Made.{IsEmptyHall, IsUnused, empty_state};
 ghost use Rattle.floor_rooms.specs.Rooms.{hall_names};
 ghost use Rattle.floor_rooms.specs.Sound.{IsSound};
 ghost use Rattle.floor_rooms.specs.Standing.{HoldsFor};
-ghost use Rattle.broker_floor.specs.Scenes.{IsTied};
+ghost use Rattle.floor_turns.specs.Scenes.{IsTied};
 
 use broker_history::Entry;
 use disk_queue::replace_file;

@@ -3,7 +3,7 @@ ghost use Rattle.broker_history.specs.Entries.{own};
 ghost use Rattle.desk.specs.Answers.{Adds, Grows, IsAnswerTo, IsShortAnswer, StopsSeen};
 ghost use Rattle.desk.specs.Calls.{CanCall, MayCall};
 ghost use Rattle.desk.specs.declared.turned.Turned.TheVariants.{Strange};
-ghost use Rattle.broker_floor.specs.Scenes.{scene};
+ghost use Rattle.floor_turns.specs.Scenes.{scene};
 ghost use Rattle.broker_floor.specs.Turns.{IsTurn};
 
 use crate::Floor;
@@ -26,9 +26,9 @@ impl<F: Folder, C: Clock, J: Journal<Entry>> Floor<F, C, J> {
 }
 
 impl<F: Folder, C: Clock, J: Journal<Entry>> Turner for Floor<F, C, J> {
-    ghost use Rattle.broker_floor.specs.Leads.{Leads};
-    ghost use Rattle.broker_floor.specs.Following.{leads_stay, leads_follow};
-    ghost use Rattle.broker_floor.specs.Scenes.{scene};
+    ghost use Rattle.floor_turns.specs.Leads.{Leads};
+    ghost use Rattle.floor_turns.proofs.Following.{leads_stay, leads_follow};
+    ghost use Rattle.floor_turns.specs.Scenes.{scene};
 
     ghost tells = { J.tells_notes };
 

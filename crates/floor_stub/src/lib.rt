@@ -33,7 +33,6 @@ pub fn take_message<F: Folder, J: Journal<Entry>>(
     ensures keeps { Keeps hall.old hall.new }
     ensures files { IsTrue F.tells_files → OnlyQueueFiles (F.files folder.old) (F.files folder.new) }
 {
-    let _ = (&hall, i, folder, scratch, journal);
     Made::Memory
 }
 
@@ -57,6 +56,5 @@ pub fn copy_message<F: Folder, J: Journal<Entry>, L: Ledger>(
     ensures keeps { Keeps hall.old hall.new }
     ensures files { IsTrue F.tells_files → OnlyQueueFiles (F.files folder.old) (F.files folder.new) }
 {
-    let _ = (&hall, i, folder, scratch, journal, steps);
     Made::Memory
 }

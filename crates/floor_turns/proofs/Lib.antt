@@ -1,2 +1,4 @@
-pub mod Payments
+pub mod Owing
 pub mod Clearing
+pub mod Carrying
+pub mod Following

@@ -26,7 +26,7 @@ use Rattle.floor_rooms.specs.Rooms.{client_in}
 use Rattle.floor_rooms.specs.Changes.{KeepsSince}
 use Rattle.floor_rooms.specs.Kept.{NamesTold}
 use Rattle.floor_rooms.specs.Standing.{Carries, HoldsFor}
-use Rattle.floor_words.specs.Plans.{IsAllowedPlan, IsCallsAct, IsShortAct, KnowsAct, MayBegin, Serves}
+use Rattle.floor_words.specs.Plans.{IsAllowedPlan, IsCallsAct, IsShortAct, KnowsAct, MayBegin, Serves, number_of}
 use Rattle.floor_words.specs.declared.plan.Plan.TheVariants as plan
 use Rattle.floor_moves.specs.Moves.{Sight, RoseBy}
 use Rattle.turn_laws.specs.Laid.{AreHeldBack, IsActFor}
@@ -40,6 +40,11 @@ pub record IsPlanned (h : Hall) (number : ℕ) (a : Act) (said : Option Identity
   pub stands : IsAllowedPlan h number of (plan.Act (record { act = a; said = said }))
   pub knows : KnowsAct h.options a said
   pub short : IsShortAct a
+
+-- so that call does
+pub record IsPlannedFor (h : Hall) (number : ℕ) (c : Call) (a : Act) : Type 0 where
+  pub is : IsCallsAct h number c a
+  pub stands : (files : Files) (s : State) → HoldsFor h files s → MayBegin s number c → IsAllowedAct s h.moment (number_of c number) a end.Done
 
 -- what a command with this reply is answered
 abbrev pub answer_to : Option Frame → Turned
@@ -112,9 +117,9 @@ ActsBy at number c answer (e ∷ []) = IsActFor at number c answer e
 ActsBy at number c answer (e ∷ f ∷ h) = ⊥
 
 -- so the clients and the Stop are as the act left them
-abbrev pub ClientsBy : History → (number : ℕ) → (old new : Hall) → Type 0
-ClientsBy [] number old new = SameClients old new
-ClientsBy (e ∷ h) number old new = LeavesClients e.0.act number old new
+abbrev pub ClientsBy : History → (old new : Hall) → Type 0
+ClientsBy [] old new = SameClients old new
+ClientsBy (e ∷ h) old new = LeavesClients e.0.act e.0.conn old new
 
 -- the act, where there is one, is a step from this state to that
 abbrev pub Steps : State → History → State → Type 0
@@ -153,5 +158,9 @@ pub record Acts (tells_notes tells_files : Bool) (number : ℕ) (c : Call) (answ
   pub rose : IsTrue tells_files → (s : State) → HoldsFor old.hall old.files s → RoseBy (faults_of acts) old.faults new.faults
   pub caused : FaultsRose old.faults new.faults acts
   pub faults : old.faults ≤ new.faults
-  pub clients : ClientsBy acts number old.hall new.hall
+  pub clients : ClientsBy acts old.hall new.hall
   pub stays : StaysSet old.hall new.hall
+
+-- whose entry an act is: a Ticked is the daemon's own
+abbrev pub conn_of : Act → (number : ℕ) → ℕ
+conn_of a number = if is_tick a then 0 else number

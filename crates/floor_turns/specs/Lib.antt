@@ -1,2 +1,5 @@
 pub mod Paying
 pub mod Acting
+pub mod Turning
+pub mod Scenes
+pub mod Leads

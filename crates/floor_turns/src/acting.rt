@@ -1,16 +1,19 @@
-ghost use Rattle.std.specs.Prelude.{◌≡◌, ◌≢◌, ◌≤◌, ◌||◌, ℕ, IsTrue, IfOk, OnErr, false, true, length};
+ghost use Rattle.std.specs.Prelude.{◌≡◌, ◌≤◌, IsTrue, IfOk, OnErr, OnOk, Some, false, true, length};
 ghost use Rattle.nsq_outside.specs.Causes.{Rose};
 ghost use Rattle.broker_history.specs.Entries.{is_faulted};
 ghost use Rattle.floor_rooms.specs.Changes.{OnlyQueueFiles};
 ghost use Rattle.floor_rooms.specs.Sound.{IsSound};
 ghost use Rattle.floor_rooms.specs.Standing.{Carries};
-ghost use Rattle.floor_turns.specs.Acting.{ActCarries, IsNoted, IsPlanned, LeavesClients, SameClients, StaysSet, answer_of};
+ghost use Rattle.floor_moves.specs.Moves.{sight};
+ghost use Rattle.desk.specs.declared.call.Call.{Call};
+ghost use Rattle.floor_turns.specs.Acting.{ActCarries, Acts, IsNoted, IsPlanned, IsPlannedFor, LeavesClients, SameClients, StaysSet, answer_of, conn_of};
 
+use broker_history::{Act, Entry};
 use desk::Turned;
 use floor_rooms::Hall;
 use floor_words::Planned;
 use nsq_base::{Memory, Steps};
-use nsq_outside::{End, Folder};
+use nsq_outside::{End, Folder, Journal};
 use std::sync::ledger::Ledger;
 
 /// How an act ended that was carried out, and what its call is answered.
@@ -50,4 +53,65 @@ pub fn carry_out<F: Folder, L: Ledger>(
 {
     let _ = (number, planned);
     Err(Memory)
+}
+
+/// Makes the act of a call of this number: it is kept aside, carried out, and noted with its end. After Memory nothing is noted, and all is as it was.
+/// Requires 16,777,242 bytes of `scratch`.
+pub fn make_act<F: Folder, J: Journal<Entry>, L: Ledger>(
+    hall: &mut Hall,
+    number: u64,
+    planned: Planned,
+    folder: &mut F,
+    scratch: &mut [u8],
+    journal: &mut J,
+    steps: &mut Steps<L>,
+) -> Turned
+    requires sound { IsSound hall.old }
+    requires plan { IsPlanned hall.old number planned.act planned.said }
+    requires calm { J.is_aside journal.old ≡ false }
+    requires scratch { 16777242 ≤ length scratch.old }
+    ensures acts { (c : Call) → IsPlannedFor hall.old number c planned.act → Acts J.tells_notes F.tells_files number c result (sight hall.old (J.notes journal.old) (F.files folder.old) (F.folder_faults folder.old)) (sight hall.new (J.notes journal.new) (F.files folder.new) (F.folder_faults folder.new)) }
+    ensures sound { IsSound hall.new }
+    ensures calm { J.is_aside journal.new ≡ false }
+    ensures files { IsTrue F.tells_files → OnlyQueueFiles (F.files folder.old) (F.files folder.new) }
+{
+    let Planned { act, said } = planned;
+    let conn = conn_of(&act, number);
+    let Ok(act) = announce_act(journal, conn, hall.moment, act) else {
+        return Turned::Memory;
+    };
+    match carry_out(hall, conn, Planned { act, said }, folder, scratch, steps) {
+        Ok(carried) => {
+            journal.note(carried.end);
+            carried.answer
+        }
+        Err(_) => {
+            journal.note(End::Skip);
+            Turned::Memory
+        }
+    }
+}
+
+// Whose entry the act is.
+fn conn_of(act: &Act, number: u64) -> u64
+    ensures { result ≡ conn_of act.now number }
+{
+    if matches!(act, Act::Ticked) {
+        return 0;
+    }
+    number
+}
+
+// Keeps the entry of an act aside, and gives the act back: `note` appends the entry then. Want of memory is the only error.
+fn announce_act<J: Journal<Entry>>(journal: &mut J, conn: u64, at: u64, act: Act) -> Result<Act, Memory>
+    requires { J.is_aside journal.old ≡ false }
+    ensures same { IfOk result (λ back. back ≡ act) }
+    ensures aside { OnOk result (J.is_aside journal.new ≡ true) }
+    ensures kept { OnOk result (IsTrue J.tells_notes → J.kept journal.new ≡ Some (record { conn = conn; at = at; act = act })) }
+    ensures err { OnErr result (J.is_aside journal.new ≡ false) }
+    ensures notes { IsTrue J.tells_notes → J.notes journal.new ≡ J.notes journal.old }
+{
+    let entry = Entry { conn, at, act };
+    journal.ready(&entry)?;
+    Ok(entry.act)
 }

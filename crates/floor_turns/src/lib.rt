@@ -4,9 +4,13 @@
 #![tactic(auto)]
 
 mod acting;
+mod drawing;
 mod laws;
 mod paying;
+mod turning;
 
-pub use acting::{Carried, carry_out};
-pub use laws::payments;
+pub use acting::{Carried, carry_out, make_act};
+pub use drawing::draw;
+pub use laws::{leads, payments};
 pub use paying::{Paid, pay};
+pub use turning::turn_at;

@@ -1,4 +1,4 @@
-ghost use Rattle.std.specs.Prelude.{◌≡◌, ◌<◌, ◌≤◌, IsTrue, false, length};
+ghost use Rattle.std.specs.Prelude.{◌≡◌, ◌<◌, ◌≤◌, IsTrue, false, is_some, length};
 ghost use Rattle.nsq_outside.specs.Files.{Files};
 ghost use Rattle.broker_history.specs.State.{State};
 ghost use Rattle.floor_rooms.specs.Changes.{OnlyQueueFiles};
@@ -10,7 +10,7 @@ ghost use Rattle.floor_turns.specs.Paying.{MovesNext, Pays, ended};
 
 use broker_history::Entry;
 use floor_moves::{Made, Place, find_due, find_pending, move_due};
-use floor_rooms::Hall;
+use floor_rooms::{Hall, Room};
 use floor_stub::{copy_message, take_message};
 use nsq_base::Steps;
 use nsq_outside::{Folder, Journal};
@@ -138,10 +138,17 @@ fn next_owed<F: Folder, J: Journal<Entry>, L: Ledger>(
     let Some(i) = find_pending(hall) else {
         return Moved::Nothing;
     };
-    if hall.rooms[i].queue.head().is_some() {
+    if has_taken(&hall.rooms[i]) {
         return ended(copy_message(hall, i, folder, scratch, journal, steps));
     }
     ended(take_message(hall, i, folder, scratch, journal))
+}
+
+// Whether the topic took a message.
+fn has_taken(room: &Room) -> bool
+    ensures { result ≡ is_some room.now.queue.head }
+{
+    room.queue.head().is_some()
 }
 
 // How a move ended that was due.

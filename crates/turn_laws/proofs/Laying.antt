@@ -58,34 +58,34 @@ or_true : (a b : Bool) → a ≡ true → (a || b) ≡ true
 or_true true b h = refl
 or_true false b h = absurd (false≢true h)
 
-moved_free : (at : ℕ) (e : Entry × End) → IsMoved at e → IsFree e
+pub moved_free : (at : ℕ) (e : Entry × End) → IsMoved at e → IsFree e
 moved_free at e m = due_free (is_due_move e.0.act) (is_held e.0.act) (is_stuck_topic e.0.act) (parts (is_due_move e.0.act) (e.0.at == at) m.moved).0
 
-sticks_free : (at : ℕ) (e : Entry × End) → is_stuck_at at e ≡ true → IsFree e
+pub sticks_free : (at : ℕ) (e : Entry × End) → is_stuck_at at e ≡ true → IsFree e
 sticks_free at e s = stuck_free (is_move e.0.act) (is_stuck_topic e.0.act) (is_faulted e.1) (parts (is_stuck e) (e.0.at == at) s).0
 
-holds_free : (at : ℕ) (e : Entry × End) → IsHeld at e → IsFree e
+pub holds_free : (at : ℕ) (e : Entry × End) → IsHeld at e → IsFree e
 holds_free at e h = held_free (is_due_move e.0.act) (is_held e.0.act) (is_stuck_topic e.0.act) h.held
 
-free_common : (e : Entry × End) → IsFree e → IsCommon e
+pub free_common : (e : Entry × End) → IsFree e → IsCommon e
 free_common e f = or_true (is_free_act e.0.act) (is_tick e.0.act) f
 
 -- and have the turn's moment
-moved_now : (at : ℕ) (e : Entry × End) → IsMoved at e → e.0.at ≡ at
+pub moved_now : (at : ℕ) (e : Entry × End) → IsMoved at e → e.0.at ≡ at
 moved_now at e m = eqb-true e.0.at at (parts (is_due_move e.0.act) (e.0.at == at) m.moved).1
 
-sticks_now : (at : ℕ) (e : Entry × End) → is_stuck_at at e ≡ true → e.0.at ≡ at
+pub sticks_now : (at : ℕ) (e : Entry × End) → is_stuck_at at e ≡ true → e.0.at ≡ at
 sticks_now at e s = eqb-true e.0.at at (parts (is_stuck e) (e.0.at == at) s).1
 
 -- an act that answers a call is no common entry, but for a tick's
-record IsTickAnswered (c : Call) (answer : Turned) (e : Entry × End) : Type 0 where
-  is : c ≡ call.Tick
-  quiet : answer ≡ turned.Quiet
-  tick : e.0.act ≡ Ticked
+pub record IsTickAnswered (c : Call) (answer : Turned) (e : Entry × End) : Type 0 where
+  pub is : c ≡ call.Tick
+  pub quiet : answer ≡ turned.Quiet
+  pub tick : e.0.act ≡ Ticked
 
-record IsApart (e : Entry × End) : Type 0 where
-  apart : is_common e.0.act ≡ false
-  other : is_tick e.0.act ≡ false
+pub record IsApart (e : Entry × End) : Type 0 where
+  pub apart : is_common e.0.act ≡ false
+  pub other : is_tick e.0.act ≡ false
 
 of_act : (e : Entry × End) (act : Act) → e.0.act ≡ act → is_common act ≡ false → is_tick act ≡ false → IsApart e
 of_act e act is apart other = record { apart = ap is_common is ∙ apart; other = ap is_tick is ∙ other }
@@ -113,7 +113,7 @@ apart_next e turned.Silent h = of_act e Silent h refl refl
 apart_next e turned.Deleted h = of_act e Dropped h refl refl
 apart_next e answer h = absurd h
 
-apart : (c : Call) (answer : Turned) (e : Entry × End) → Answers c e answer → IsTickAnswered c answer e ⊎ IsApart e
+pub apart : (c : Call) (answer : Turned) (e : Entry × End) → Answers c e answer → IsTickAnswered c answer e ⊎ IsApart e
 apart call.Begin turned.Begun e h = inr (of_act e Began h refl refl)
 apart call.Begin answer e h = absurd h
 apart (call.Command command) answer e h = inr (apart_command command e answer h)

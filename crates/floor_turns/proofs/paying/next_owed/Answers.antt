@@ -1,16 +1,16 @@
 use Rattle.std.proofs.Common.{ap}
 use Rattle.floor_rooms.specs.declared.hall.Hall.{Hall}
 use Rattle.floor_moves.proofs.Keeping.{keeps_on}
-use Rattle.floor_turns.proofs.Payments.{moved_on, none_next, place_within}
+use Rattle.floor_turns.proofs.Owing.{moved_on, owes_at, takes_at}
 use Rattle.floor_turns.proofs.paying.next_owed.Goals as goal
 
-pub returns-then-is_some-clause-moves : goal.returns-then-is_some-clause-moves
-returns-then-is_some-clause-moves g c =
+pub returns-then-has_taken-clause-moves : goal.returns-then-has_taken-clause-moves
+returns-then-has_taken-clause-moves g c =
     moved_on g.J.Journal.tells_notes g.F.Folder.tells_files c.args.hall.now c.find_pending.new.hall (g.J.Journal.notes c.args.journal.now) (g.F.Folder.files c.args.folder.now) (g.F.Folder.folder_faults c.args.folder.now) _ c.find_pending.ensures.unlists.stands
     c.copy_message.ensures.moves.move c.copy_message.result c.ended.result c.ended.ensures c.find_pending.ensures.keeps.moment c.copy_message.ensures.moves.moves
 
-pub returns-then-is_some-clause-keeps : goal.returns-then-is_some-clause-keeps
-returns-then-is_some-clause-keeps g c = keeps_on c.args.hall.now c.find_pending.new.hall c.copy_message.new.hall c.find_pending.ensures.keeps c.copy_message.ensures.keeps
+pub returns-then-has_taken-clause-keeps : goal.returns-then-has_taken-clause-keeps
+returns-then-has_taken-clause-keeps g c = keeps_on c.args.hall.now c.find_pending.new.hall c.copy_message.new.hall c.find_pending.ensures.keeps c.copy_message.ensures.keeps
 
 pub returns-clause-moves : goal.returns-clause-moves
 returns-clause-moves g c =
@@ -19,3 +19,9 @@ returns-clause-moves g c =
 
 pub returns-clause-keeps : goal.returns-clause-keeps
 returns-clause-keeps g c = keeps_on c.args.hall.now c.find_pending.new.hall c.take_message.new.hall c.find_pending.ensures.keeps c.take_message.ensures.keeps
+
+pub copy_message-requires-clause-owes : goal.copy_message-requires-clause-owes
+copy_message-requires-clause-owes g c = owes_at c.find_pending.new.hall.rooms.items c.in-Some.i c.index.result.now c.has_taken.result c.in-Some.ensures.found c.index.ensures c.has_taken.ensures c.if-has_taken.true
+
+pub take_message-requires-clause-takes : goal.take_message-requires-clause-takes
+take_message-requires-clause-takes g c = takes_at c.find_pending.new.hall.rooms.items c.in-Some.i c.index.result.now c.has_taken.result c.in-Some.ensures.found c.index.ensures c.has_taken.ensures c.if-has_taken.false

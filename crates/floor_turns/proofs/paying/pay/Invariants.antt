@@ -1,6 +1,6 @@
 use Rattle.std.proofs.Common.{◌≡◌, false}
 use Rattle.floor_moves.specs.Moves.{sight}
-use Rattle.floor_turns.proofs.Payments.{PaysSoFar}
+use Rattle.floor_turns.proofs.Owing.{PaysSoFar}
 use Rattle.floor_turns.proofs.paying.pay.Given as goal
 
 abbrev pub invariant-loop : goal.invariant-loop

@@ -1,6 +1,6 @@
 -- One move after another is paid.
-use Rattle.std.proofs.Common.{◌≡◌, ◌≢◌, ◌⊎◌, inl, inr, ◌<◌, ◌≤◌, ◌==◌, ◌&&◌, ◌||◌, ℕ, ◌+◌, zero, suc, List, Bool, true, false, [], ◌∷◌, ◌++◌, length, Option, Some, None, is_none, is_some, refl, sym, ap, subst, ◌∙◌, append_assoc, length-append, arith}
-use Rattle.std.specs.Prelude.{IsTrue, slice_get}
+use Rattle.std.proofs.Common.{◌≡◌, ◌≢◌, ◌⊎◌, inl, inr, ◌<◌, ◌≤◌, ◌==◌, ◌&&◌, ◌||◌, ℕ, ◌+◌, zero, suc, List, Bool, true, false, [], ◌∷◌, ◌++◌, length, get_or, Option, Some, None, is_none, is_some, refl, sym, ap, subst, ◌∙◌, append_assoc, length-append, arith}
+use Rattle.std.specs.Prelude.{IsSome, IsTrue, slice_get}
 use Rattle.std.specs.List.{AllByRecursion}
 use Rattle.std.proofs.lemmas.Bool.{false≢true}
 use Rattle.std.proofs.lemmas.List.{append-nil}
@@ -18,6 +18,9 @@ use Rattle.broker_history.specs.Moments.{IsFree}
 use Rattle.broker_history.specs.Before.{IsPaid, is_moved_at, is_stuck_at}
 use Rattle.floor_rooms.specs.declared.hall.Hall.{Hall}
 use Rattle.floor_rooms.specs.Standing.{HoldsFor}
+use Rattle.floor_rooms.specs.declared.room.Room.{Room}
+use Rattle.floor_moves.specs.Pending.{IsBusyAt}
+use Rattle.floor_stub.specs.Any.{HasRoomAt, OwesNext, TakesNext}
 use Rattle.floor_moves.specs.declared.made.Made.{Made}
 use Rattle.floor_moves.specs.declared.made.Made.TheVariants as made
 use Rattle.floor_moves.specs.Moves.{IsKeptOff, IsMade, Keeps, Moves, NothingNoted, Notes, RoseBy, Sight, sight}
@@ -70,10 +73,10 @@ module _ (tells_notes tells_files : Bool) (h h1 : Hall) (n : History) (f : Files
 -- nothing was listed any more, and nothing is due
 pub none_next : (tells_notes tells_files : Bool) (h h1 : Hall) (n : History) (f : Files) (k : ℕ) → ((files : Files) (s : State) → HoldsFor h files s → HoldsFor h1 files s) → h1 ≡ record h { rooms = h1.rooms; pending = h1.pending } → h.moment < h.quiet_until → h1.pending.items ≡ []
     → NothingNoted tells_notes tells_files (sight h n f k) (sight h1 n f k) × IsClear h1
-none_next tells_notes tells_files h h1 n f k stands rest quiet none =
+none_next tells_notes tells_files h h1 n f k stands rest quiet nothing =
     let moment : h1.moment ≡ h.moment = ap (λ (x : Hall). x.moment) rest in
     let until : h1.quiet_until ≡ h.quiet_until = ap (λ (x : Hall). x.quiet_until) rest in
-    (record { noted = λ told. refl; same = λ told s holds. stands f s holds; faults = omega arith }, record { quiet = omega (arith, quiet, moment, until); none = none })
+    (record { noted = λ told. refl; same = λ told s holds. stands f s holds; faults = omega arith }, record { quiet = omega (arith, quiet, moment, until); none = nothing })
 
 -- what stands at a place stands within the list
 pub place_within : {X : Type 0} (xs : List X) (i : ℕ) (x : X) → slice_get xs i ≡ Some x → i < length xs
@@ -231,4 +234,32 @@ pays_most tells_notes tells_files made most old now x same = record {
   };
   leaves = tt;
   stuck = tt;
+}
+
+read_is : (rooms : List Room) (i : ℕ) (r s : Room) → r ≡ get_or rooms i r → slice_get rooms i ≡ Some s → r ≡ s
+read_is [] i r s read there = absurd cc
+read_is (x ∷ rooms) zero r s read there = let same : x ≡ s = cc in read ∙ same
+read_is (x ∷ rooms) (suc i) r s read there = read_is rooms i r s read there
+
+-- of a topic that has something to do, by whether a message was taken: one is to be taken, or owed
+head_is : {X : Type 0} (o : Option X) → is_some o ≡ false → o ≡ None
+head_is None e = refl
+head_is (Some x) e = absurd (false≢true (sym e))
+
+some_head : {X : Type 0} (o : Option X) → is_some o ≡ true → IsSome o
+some_head None e = absurd (false≢true e)
+some_head (Some x) e = refl
+
+pub takes_at : (rooms : List Room) (i : ℕ) (r : Room) (b : Bool) → IsBusyAt rooms i → r ≡ get_or rooms i r → b ≡ is_some r.queue.head → b ≡ false → HasRoomAt i TakesNext rooms
+takes_at rooms i r b busy read is e = record {
+  room = busy.room;
+  there = busy.there;
+  is = record { busy = busy.busy; none = head_is busy.room.queue.head (ap (λ (x : Room). is_some x.queue.head) (sym (read_is rooms i r busy.room read busy.there)) ∙ sym is ∙ e) };
+}
+
+pub owes_at : (rooms : List Room) (i : ℕ) (r : Room) (b : Bool) → IsBusyAt rooms i → r ≡ get_or rooms i r → b ≡ is_some r.queue.head → b ≡ true → HasRoomAt i OwesNext rooms
+owes_at rooms i r b busy read is e = record {
+  room = busy.room;
+  there = busy.there;
+  is = some_head busy.room.queue.head (ap (λ (x : Room). is_some x.queue.head) (sym (read_is rooms i r busy.room read busy.there)) ∙ sym is ∙ e);
 }

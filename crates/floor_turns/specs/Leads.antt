@@ -11,7 +11,7 @@ use Rattle.floor_rooms.specs.Changes.{OnlyQueueFiles, room_since, stall_since}
 use Rattle.floor_rooms.specs.Kept.{NamesTold}
 use Rattle.turn_laws.specs.Laid.{AreTurns}
 use Rattle.turn_laws.specs.Laws.{RoseBy}
-use Rattle.broker_floor.specs.Scenes.{IsAt, Scene, Stands}
+use Rattle.floor_turns.specs.Scenes.{IsAt, Scene, Stands}
 use Rattle.std.specs.List.{List}
 
 -- from a state that the floor stood for, turns led to another one: the entries that they noted are legal, and no more of them ended with a disk fault than
@@ -64,3 +64,11 @@ pub record Leads (tells_notes tells_files tells_readings : Bool) (number : ℕ) 
   pub turns : IsTrue tells_notes → AddsTurns number old new
   pub legal : IsTrue tells_notes → IsTrue tells_files → (s : State) → Stands old s → LedTo old new s
   pub times : IsTrue tells_notes → IsTrue tells_readings → (coming : ℕ → ℕ) (readings : ℕ) → IsAt coming readings old → Times coming readings old new
+
+-- no turn leads where one is, and turns and then turns lead where all lead
+abbrev pub LeadsStay : Type 0
+LeadsStay = (tells_notes tells_files tells_readings : Bool) (number : ℕ) (a : Scene) → Leads tells_notes tells_files tells_readings number a a
+
+abbrev pub LeadsFollow : Type 0
+LeadsFollow = (tells_notes tells_files tells_readings : Bool) (number : ℕ) (a b c : Scene) → Leads tells_notes tells_files tells_readings number a b → Leads tells_notes tells_files tells_readings number b c
+    → Leads tells_notes tells_files tells_readings number a c

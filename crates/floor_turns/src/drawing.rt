@@ -1,0 +1,41 @@
+ghost use Rattle.std.specs.Prelude.{◌≡◌, ◌≤◌, IsTrue, false, length};
+ghost use Rattle.desk.specs.declared.call.Call.TheVariants as calls;
+ghost use Rattle.floor_rooms.specs.Changes.{OnlyQueueFiles};
+ghost use Rattle.floor_rooms.specs.Sound.{IsSound};
+ghost use Rattle.floor_words.specs.Plans.{DrawsAt};
+ghost use Rattle.floor_moves.specs.Moves.{sight};
+ghost use Rattle.floor_turns.specs.Acting.{Acts};
+
+use broker_history::Entry;
+use desk::Turned;
+use floor_moves::Place;
+use floor_rooms::Hall;
+use nsq_base::Steps;
+use nsq_outside::{Folder, Journal};
+use std::sync::ledger::Ledger;
+
+/// Sends the client of this number, which is quiet, the first message of the channel at this place that it may get. Copies whose id is in flight are held
+/// back before it. Where there is none, or it may get none, the answer is Idle; so it is where a disk fault keeps the message off, which is noted. After
+/// Memory what was held back stays so. Requires 16,777,242 bytes of `scratch`.
+pub fn draw<F: Folder, J: Journal<Entry>, L: Ledger>(
+    hall: &mut Hall,
+    number: u64,
+    place: Place,
+    folder: &mut F,
+    scratch: &mut [u8],
+    journal: &mut J,
+    steps: &mut Steps<L>,
+) -> Turned
+    requires sound { IsSound hall.old }
+    requires running { hall.old.stopped ≡ false }
+    requires draws { DrawsAt hall.old number place.room place.stall }
+    requires calm { J.is_aside journal.old ≡ false }
+    requires scratch { 16777242 ≤ length scratch.old }
+    ensures acts { Acts J.tells_notes F.tells_files number calls.Next result (sight hall.old (J.notes journal.old) (F.files folder.old) (F.folder_faults folder.old)) (sight hall.new (J.notes journal.new) (F.files folder.new) (F.folder_faults folder.new)) }
+    ensures sound { IsSound hall.new }
+    ensures calm { J.is_aside journal.new ≡ false }
+    ensures files { IsTrue F.tells_files → OnlyQueueFiles (F.files folder.old) (F.files folder.new) }
+{
+    let _ = (number, place);
+    Turned::Memory
+}

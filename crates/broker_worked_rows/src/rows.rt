@@ -82,15 +82,20 @@ fn wrong(alloc: Global, tables: &[&'static [Row]]) -> Result<Option<&'static str
 
 fn holds(alloc: Global, row: &Row) -> Result<bool, Memory> {
     let story = story_of(alloc, row)?;
-    let entries = tell(alloc, story_of(alloc, row)?, row.then)?;
     if !is_legal(alloc, row.start, &story, &[])? {
         return Ok(false);
     }
-    let is_legal = is_legal(alloc, row.start, &entries, row.leaves)?;
+    let entries = tell(alloc, story, row.then)?;
+    is_as_told(alloc, row, &entries)
+}
+
+// Whether the row's entries are what it says.
+fn is_as_told(alloc: Global, row: &Row, entries: &[(Entry, End)]) -> Result<bool, Memory> {
+    let is_legal = is_legal(alloc, row.start, entries, row.leaves)?;
     match row.is {
-        Is::Both => Ok(is_legal && are_talks(alloc, row.talks, &entries)?),
-        Is::NoHistory => Ok(!is_legal && are_talks(alloc, row.talks, &entries)?),
-        Is::NoTalk => Ok(is_legal && is_last_wrong(alloc, row.talks, &entries)?),
+        Is::Both => Ok(is_legal && are_talks(alloc, row.talks, entries)?),
+        Is::NoHistory => Ok(!is_legal && are_talks(alloc, row.talks, entries)?),
+        Is::NoTalk => Ok(is_legal && is_last_wrong(alloc, row.talks, entries)?),
     }
 }
 

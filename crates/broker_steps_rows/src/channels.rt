@@ -5,7 +5,7 @@ use crate::lines::Gets::{Error, Nothing};
 use crate::lines::Line::{self, At, Faulted, Moved};
 use crate::lines::What::*;
 use crate::lines::{Gets, OK, SECOND_RUN, Says};
-use crate::story::Leads::{Nowhere, On, To, Without};
+use crate::story::Leads::{Nowhere, On, To, ToEach, Without};
 use crate::story::{EMPTY, Row, SECOND, Start, wrong};
 use nsq_base::Memory;
 
@@ -36,6 +36,8 @@ const THREE_WAIT: [Line; 3] = [
     At(0, 1, Mpub("t", 0, 3, OK)),
     At(0, 1, Gone),
 ];
+
+const ONE_WAITS: [Line; 3] = [At(0, 1, Began), At(0, 1, Pub("t", 0, OK)), At(0, 1, Gone)];
 
 // A topic with three channels, the last of which has a message.
 const THREE_CHANNELS: [Line; 6] = [
@@ -170,7 +172,7 @@ static MORE_OWED: [Row; 5] = [
             At(0, 0, Copied("t", "c", 1, 0)),
             At(0, 0, Ticked),
         ],
-        leads: To("t", "b", [1, 0, 0]),
+        leads: ToEach("t", &[("a", [1, 0, 0]), ("b", [1, 0, 0]), ("c", [2, 0, 0])]),
     },
     Row {
         name: "a disk fault at a channel that is owed nothing",
@@ -212,13 +214,15 @@ static LAST_OWED: [Row; 5] = [
         leads: Nowhere,
     },
     Row {
-        name: "a message that finds no room in memory is sent from the disk",
+        name: "a message that finds no room in memory waits on disk, and is sent",
         start: NO_MEMORY,
-        story: &[&CLIENT_OF],
+        story: &[&ONE_WAITS],
         then: &[
-            At(0, 0, Asked(Publish("t", 0, 0), Says::Done)),
+            At(0, 2, Began),
+            At(0, 2, Sub("t", "c", OK)),
             At(0, 0, Took("t", 0, 0, &["c"])),
             At(0, 0, Copied("t", "c", 0, 0)),
+            At(0, 2, Rdy(1, Nothing)),
             At(0, 2, Sent(0, 1)),
         ],
         leads: To("t", "c", [0, 1, 0]),

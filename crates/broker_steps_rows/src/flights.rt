@@ -497,12 +497,12 @@ static LAST_RETURNS: [Row; 7] = [
     Row {
         name: "a closing client's second CLS is refused",
         start: EMPTY,
-        story: &THREE_READY,
+        story: &[&ONE_WAITS, &JOINS, &READY_FOR_ONE],
         then: &[
             At(0, 2, Cls(Gets::Response(b"CLOSE_WAIT"))),
             At(0, 2, Cls(Error(b"E_INVALID not in this state"))),
         ],
-        leads: On,
+        leads: To("t", "c", [1, 0, 0]),
     },
     Row {
         name: "a stop leaves what is queued, in flight and deferred",

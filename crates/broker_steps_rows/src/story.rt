@@ -42,6 +42,8 @@ pub enum Leads {
     Nowhere,
     /// It is legal, and leaves so many copies of this channel queued, in flight and deferred.
     To(&'static str, &'static str, [usize; 3]),
+    /// The same of each of these channels.
+    ToEach(&'static str, &'static [(&'static str, [usize; 3])]),
     /// It is legal, and leaves no such topic.
     Without(&'static str),
 }
@@ -106,6 +108,7 @@ fn leads_so(states: &[State], leads: Leads) -> Result<bool, Memory> {
         Leads::On => Ok(true),
         Leads::Nowhere => Ok(false),
         Leads::To(name, of, counts) => has_counts(state, name, of, counts),
+        Leads::ToEach(name, each) => have_counts(state, name, each),
         Leads::Without(name) => Ok(state.topic_of(&topic(name)?).is_none()),
     }
 }
@@ -115,6 +118,19 @@ fn is_nowhere(leads: Leads) -> bool {
         Leads::Nowhere => true,
         _ => false,
     }
+}
+
+fn have_counts(
+    state: &State,
+    name: &str,
+    each: &[(&'static str, [usize; 3])],
+) -> Result<bool, Memory> {
+    for (of, counts) in each {
+        if !has_counts(state, name, of, *counts)? {
+            return Ok(false);
+        }
+    }
+    Ok(true)
 }
 
 fn has_counts(state: &State, name: &str, of: &str, counts: [usize; 3]) -> Result<bool, Memory> {

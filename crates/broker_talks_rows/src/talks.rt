@@ -5,7 +5,7 @@
 
 use broker_history::{Act, Ended, Entry};
 use broker_talks::{is_talk, is_talk_in};
-use nsq_base::{Body, Chan, Memory, MsgId, Topic};
+use nsq_base::{Bodies, Body, Chan, Memory, MsgId, Topic};
 use nsq_outside::End;
 use std::alloc::Global;
 use v2_frame::{Command, Fault, FaultKind, Frame, FrameKind, Limits, Message};
@@ -60,6 +60,11 @@ enum Piece {
     Delay,
     /// A publish that is delayed by a millisecond more than the greatest delay.
     DelayTooLong,
+    /// The magic, and a publish of one message to `t`, and of one in a list.
+    Publish,
+    PublishList,
+    /// REQ of the first message without a delay.
+    ReqFirst,
 }
 
 /// What an entry of the connection says, with the reply that this command has here.
@@ -97,6 +102,10 @@ enum Told {
     DelayedFails,
     /// The publish met a disk fault.
     DelayedOnFault,
+    PublishedOnFault,
+    PublishedListOnFault,
+    /// So did the REQ of the first message.
+    ReqOnFault,
     BadMagic,
     /// The refusal of a bad word at this place.
     BadWord(u64),
@@ -125,6 +134,9 @@ enum Got {
     WrongState,
     BadDelay,
     DiskFault,
+    PublishDiskFault,
+    ListDiskFault,
+    ReqDiskFault,
     BadProtocol,
     BadCommand,
     NoMemory,
@@ -179,6 +191,9 @@ fn piece_bytes(piece: Piece) -> &'static [u8] {
         Piece::LowerAndReqLater => b"RDY 1\nREQ 0000010000000000 5000\n",
         Piece::Delay => b"  V2DPUB t 1000\n\0\0\0\x01d",
         Piece::DelayTooLong => b"DPUB t 3600001\n\0\0\0\x01d",
+        Piece::Publish => b"  V2PUB t\n\0\0\0\x01d",
+        Piece::PublishList => b"  V2MPUB t\n\0\0\0\x09\0\0\0\x01\0\0\0\x01d",
+        Piece::ReqFirst => b"REQ 0000010000000000 0\n",
     }
 }
 
@@ -204,6 +219,9 @@ fn got_bytes(got: Got) -> &'static [u8] {
         Got::WrongState => b"\0\0\0\x1f\0\0\0\x01E_INVALID not in this state",
         Got::BadDelay => b"\0\0\0\x17\0\0\0\x01E_INVALID bad delay",
         Got::DiskFault => b"\0\0\0\x1c\0\0\0\x01E_DPUB_FAILED disk fault",
+        Got::PublishDiskFault => b"\0\0\0\x1b\0\0\0\x01E_PUB_FAILED disk fault",
+        Got::ListDiskFault => b"\0\0\0\x1c\0\0\0\x01E_MPUB_FAILED disk fault",
+        Got::ReqDiskFault => b"\0\0\0\x1b\0\0\0\x01E_REQ_FAILED disk fault",
         Got::BadProtocol => b"\0\0\0\x12\0\0\0\x01E_BAD_PROTOCOL",
         Got::BadCommand => b"\0\0\0\x19\0\0\0\x01E_INVALID bad command",
         Got::NoMemory => b"\0\0\0\x1a\0\0\0\x01E_MEMORY out of memory",
@@ -281,6 +299,17 @@ fn delay(alloc: Global, names: &Names, delay: i64) -> Result<Command, Memory> {
     Ok(Command::Dpub(names.topic, delay, Body::copy(alloc, b"d")?))
 }
 
+/// A publish, and one in a list.
+fn publish(alloc: Global, names: &Names) -> Result<Command, Memory> {
+    Ok(Command::Pub(names.topic, Body::copy(alloc, b"d")?))
+}
+
+fn publish_list(alloc: Global, names: &Names) -> Result<Command, Memory> {
+    let mut bodies = Bodies::new(alloc);
+    bodies.push(Body::copy(alloc, b"d")?)?;
+    Ok(Command::Mpub(names.topic, bodies))
+}
+
 /// What an entry says, as its act.
 fn act_of(alloc: Global, names: &Names, told: Told) -> Result<Act, Memory> {
     let id = |number: u8| MsgId::make(1, u64::from(number));
@@ -335,6 +364,9 @@ fn other_act_of(alloc: Global, names: &Names, told: Told) -> Result<Act, Memory>
                 b"E_INVALID bad delay",
             )
         }
+        Told::PublishedOnFault => answered(alloc, publish(alloc, names)?, b"OK"),
+        Told::PublishedListOnFault => answered(alloc, publish_list(alloc, names)?, b"OK"),
+        Told::ReqOnFault => Ok(Act::Did(Command::Req(MsgId::make(1, 0), 0), None)),
         Told::BadMagic => refused(alloc, FaultKind::BadMagic, 0),
         Told::BadWord(at) => refused(alloc, FaultKind::BadWord, at),
         _ => Ok(Act::Idle),
@@ -345,6 +377,9 @@ fn other_act_of(alloc: Global, names: &Names, told: Told) -> Result<Act, Memory>
 fn end_of(told: Told) -> End {
     match told {
         Told::DelayedOnFault => End::Faulted(0),
+        Told::PublishedOnFault => End::Faulted(0),
+        Told::PublishedListOnFault => End::Faulted(0),
+        Told::ReqOnFault => End::Faulted(0),
         _ => End::Done,
     }
 }

@@ -2,9 +2,11 @@
 
 use super::{Got, Piece, Row, Told, holds};
 use broker_history::Ended;
+use nsq_base::Memory;
+use std::alloc::Global;
 use std::test::Fail;
 
-const ROWS: [Row; 19] = [
+static ROWS: [Row; 18] = [
     Row {
         name: "two of three messages are sent within RDY, and the third behind a FIN",
         sent: &[Piece::Subscribe(2), Piece::FinFirst],
@@ -285,16 +287,6 @@ const ROWS: [Row; 19] = [
         is_not: Some(Ended::EndOfInput),
     },
     Row {
-        name: "a publish that met a disk fault closes the connection",
-        sent: &[Piece::Delay],
-        told: &[Told::Began, Told::Idle, Told::DelayedOnFault, Told::Gone],
-        got: &[Got::DiskFault],
-        stopped: false,
-        wanted: 0,
-        is: Some(Ended::Closed),
-        is_not: Some(Ended::EndOfInput),
-    },
-    Row {
         name: "a message that a disk fault kept off is no Idle, and the round reads all the same",
         sent: &[Piece::Subscribe(1), Piece::Nop],
         told: &[
@@ -360,11 +352,103 @@ const ROWS: [Row; 19] = [
     },
 ];
 
+/// What a disk fault kept off, and its answer.
+static FAULTS: [Row; 5] = [
+    Row {
+        name: "a publish with a delay that met a disk fault closes the connection",
+        sent: &[Piece::Delay],
+        told: &[Told::Began, Told::Idle, Told::DelayedOnFault, Told::Gone],
+        got: &[Got::DiskFault],
+        stopped: false,
+        wanted: 0,
+        is: Some(Ended::Closed),
+        is_not: Some(Ended::EndOfInput),
+    },
+    Row {
+        name: "a publish that met a disk fault closes the connection",
+        sent: &[Piece::Publish],
+        told: &[Told::Began, Told::Idle, Told::PublishedOnFault, Told::Gone],
+        got: &[Got::PublishDiskFault],
+        stopped: false,
+        wanted: 0,
+        is: Some(Ended::Closed),
+        is_not: Some(Ended::EndOfInput),
+    },
+    Row {
+        name: "a publish of a list that met a disk fault closes the connection",
+        sent: &[Piece::PublishList],
+        told: &[
+            Told::Began,
+            Told::Idle,
+            Told::PublishedListOnFault,
+            Told::Gone,
+        ],
+        got: &[Got::ListDiskFault],
+        stopped: false,
+        wanted: 0,
+        is: Some(Ended::Closed),
+        is_not: Some(Ended::EndOfInput),
+    },
+    Row {
+        name: "the text of a publish in place of that of a list",
+        sent: &[Piece::PublishList],
+        told: &[
+            Told::Began,
+            Told::Idle,
+            Told::PublishedListOnFault,
+            Told::Gone,
+        ],
+        got: &[Got::PublishDiskFault],
+        stopped: false,
+        wanted: 0,
+        is: None,
+        is_not: Some(Ended::Closed),
+    },
+    Row {
+        name: "a REQ that met a disk fault leaves the connection open",
+        sent: &[Piece::Subscribe(1), Piece::ReqFirst],
+        told: &[
+            Told::Began,
+            Told::Idle,
+            Told::Sub,
+            Told::Rdy(1),
+            Told::Sent(0),
+            Told::Idle,
+            Told::ReqOnFault,
+            Told::Idle,
+            Told::Gone,
+        ],
+        got: &[Got::Ok, Got::First, Got::ReqDiskFault],
+        stopped: false,
+        wanted: 0,
+        is: Some(Ended::EndOfInput),
+        is_not: Some(Ended::Closed),
+    },
+];
+
+/// The name of the first row that doesn't hold, if there is one.
+fn wrong(alloc: Global, rows: &'static [Row]) -> Result<Option<&'static str>, Memory> {
+    for row in rows {
+        if !holds(alloc, row)? {
+            return Ok(Some(row.name));
+        }
+    }
+    Ok(None)
+}
+
+fn served() -> &'static [Row] {
+    &ROWS
+}
+
+fn faults() -> &'static [Row] {
+    &FAULTS
+}
+
 #[test]
 fn rows(rt: HostRuntime) -> Result<(), Fail> {
-    for row in &ROWS {
-        let holds = holds(rt.alloc(), row)?;
-        assert!(rt; holds, "{}", row.name);
+    for rows in [served(), faults()] {
+        let wrong = wrong(rt.alloc(), rows)?;
+        assert!(rt; wrong.is_none(), "{}", wrong.unwrap_or(""));
     }
     Ok(())
 }

@@ -1,0 +1,1 @@
+//! Random calls of a topic's queue.

@@ -171,19 +171,18 @@ impl Beside {
         flies: bool,
         end: End,
     ) -> Result<bool, Memory> {
-        let entry = commanded(
-            self.alloc,
-            &self.options,
-            who.client(),
-            at,
-            command,
-            flies,
-        )?;
+        let entry = commanded(self.alloc, &self.options, who.client(), at, command, flies)?;
         self.possible.goes(&entry, end)
     }
 
     /// Whether a fault may have kept a copy from being given back at once.
-    pub fn keeps(&mut self, who: Who, at: u64, command: Command, delay: u64) -> Result<bool, Memory> {
+    pub fn keeps(
+        &mut self,
+        who: Who,
+        at: u64,
+        command: Command,
+        delay: u64,
+    ) -> Result<bool, Memory> {
         let may = self.commands(who, at, command, true, End::Faulted(0))?;
         Ok(may && self.fails && delay == 0)
     }

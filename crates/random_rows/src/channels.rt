@@ -288,12 +288,7 @@ impl Pair {
         ensures { OnOk result (IsServed self.new.channel) }
     {
         let at = self.dice.moment();
-        let done = calls::delete(
-            self.alloc,
-            &mut self.channel,
-            &mut self.folder,
-            &self.setup,
-        )?;
+        let done = calls::delete(self.alloc, &mut self.channel, &mut self.folder, &self.setup)?;
         self.beside.deletes(at, done)
     }
 
@@ -347,12 +342,7 @@ impl Pair {
         ensures { OnOk result (IsServed self.new.channel) }
     {
         for _ in 0..100 {
-            if calls::delete(
-                self.alloc,
-                &mut self.channel,
-                &mut self.folder,
-                &self.setup,
-            )? {
+            if calls::delete(self.alloc, &mut self.channel, &mut self.folder, &self.setup)? {
                 let at = self.dice.moment();
                 self.beside.starts(at)?;
                 return Ok(true);
@@ -445,7 +435,7 @@ fn wrong_in<L: Ledger>(
     steps: &mut Steps<L>,
 ) -> Result<Option<&'static str>, Memory> {
     for run in table {
-        if !holds(alloc, scratch, run, Dice::new(seed, run.memory), steps)? {
+        if !holds(alloc, scratch, run, Dice::new(seed, run), steps)? {
             return Ok(Some(run.name));
         }
     }

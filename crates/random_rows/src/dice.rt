@@ -3,6 +3,7 @@
 ghost use Rattle.std.specs.Prelude.{◌≤◌, ◌<◌, ◌^◌};
 
 use crate::calls::Who;
+use crate::runs::Run;
 use nsq_base::{Memory, MsgId};
 use nsq_fakes::{Failing, FolderCall};
 use std::alloc::Global;
@@ -32,12 +33,14 @@ const FOLDER_CALLS: u64 = 700;
 const FAULTS: u64 = 24;
 
 impl Dice {
-    /// Random numbers of this seed, for the run at this place of its table.
-    pub fn new(seed: u64, run: u64) -> Dice {
+    /// Random numbers of this seed, other ones for each run.
+    pub fn new(seed: u64, run: &Run) -> Dice {
+        let kind = u64::from(run.ephemeral) * 2 + u64::from(run.fails);
         Dice {
             state: seed
                 .wrapping_mul(64)
-                .wrapping_add(run)
+                .wrapping_add(run.memory.wrapping_mul(4))
+                .wrapping_add(kind)
                 .wrapping_mul(0x9e37_79b9_7f4a_7c15),
             now: 0,
         }

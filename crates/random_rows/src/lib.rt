@@ -24,3 +24,5 @@ mod starting;
 mod told;
 #[cfg(test)]
 mod topics;
+#[cfg(test)]
+mod topics_beside;

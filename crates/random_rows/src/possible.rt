@@ -1,7 +1,7 @@
 //! The states of the whole broker that are possible.
 
-use broker_state::{ChannelState, MessageCopy, Place, State};
 use broker_history::Entry;
+use broker_state::{ChannelState, MessageCopy, Place, State};
 use broker_steps::step;
 use nsq_base::Memory;
 use nsq_outside::End;

@@ -7,13 +7,7 @@ use nsq_base::{Body, Chan, Memory, Options, Topic};
 use std::alloc::Global;
 
 /// A client of a channel with so much time for a message, which asked for none yet. It has no heartbeat.
-pub fn client(
-    alloc: Global,
-    number: u64,
-    timeout: u64,
-    topic: Topic,
-    channel: Chan,
-) -> Client {
+pub fn client(alloc: Global, number: u64, timeout: u64, topic: Topic, channel: Chan) -> Client {
     Client {
         number,
         phase: Phase::Subscribed,

@@ -24,7 +24,8 @@ pub fn is_channel(
     if !is_next_due(&plain.copies, channel.next_due()) {
         return Ok(false);
     }
-    if !are_looks(&plain.copies, channel) {
+    let flights = in_flight(alloc, &plain.copies)?;
+    if !are_looks(&flights, channel) {
         return Ok(false);
     }
     let stats = channel_told(alloc, state, topic, channel)?;
@@ -161,7 +162,18 @@ fn is_due_at(copies: &[MessageCopy], id: &MsgId, at: Option<u128>, flies: bool) 
     false
 }
 
-// Whether the channel tells of each id and client where its copy is.
+// Those of the copies that are in flight.
+fn in_flight(alloc: Global, copies: &[MessageCopy]) -> Result<Vec<MessageCopy>, Memory> {
+    let mut flights = Vec::new(alloc);
+    for copy in copies {
+        if copy.place.is_in_flight() {
+            flights.push(copy.copy(alloc)?)?;
+        }
+    }
+    Ok(flights)
+}
+
+// Whether the channel tells of each id and client where its copy is, of these copies in flight.
 fn are_looks(copies: &[MessageCopy], channel: &Channel) -> bool {
     for number in 0..NUMBERS {
         let id = MsgId::make(1, number);

@@ -56,16 +56,16 @@ impl Pair {
         ensures { OnOk result (IsServed self.new.channel) }
     {
         match self.dice.below(64) {
-            0..=17 => self.offer(scratch, steps),
-            18..=34 => self.give(scratch, steps),
-            35..=38 => self.ready(),
-            39..=42 => self.finish(steps),
-            43..=45 => self.touch(steps),
-            46..=51 => self.requeue(scratch, steps),
-            52..=58 => self.move_due(scratch, steps),
-            59..=60 => self.pause(),
-            61 => self.come_again(),
-            62 => Ok(self.sync()),
+            0..=16 => self.offer(scratch, steps),
+            17..=33 => self.give(scratch, steps),
+            34..=37 => self.ready(),
+            38..=41 => self.finish(steps),
+            42..=44 => self.touch(steps),
+            45..=50 => self.requeue(scratch, steps),
+            51..=57 => self.move_due(scratch, steps),
+            58..=59 => self.pause(),
+            60 => self.come_again(),
+            61 => Ok(self.sync()),
             _ => self.rare(scratch, steps),
         }
     }

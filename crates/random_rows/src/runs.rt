@@ -1,7 +1,7 @@
 //! The runs: each seed makes each of them.
 
 use crate::dice::Dice;
-use nsq_base::{Memory, Options};
+use nsq_base::{Body, Memory, Options};
 use nsq_fakes::MemFolder;
 use std::alloc::Global;
 
@@ -108,9 +108,13 @@ pub const HELD: u64 = 20_000_000_000;
 /// A copy in flight is due back no later than so long after its sending: 100 s.
 pub const MOST: u64 = 5 * HELD;
 
-/// The options of a run: short times, small files that are often saved.
+/// The options of a run: short times, small files that are often saved, and no texts, since each state has a copy of them.
 pub fn options_of(alloc: Global, run: &Run) -> Result<Options, Memory> {
     let mut options = Options::defaults(alloc)?;
+    options.tcp_address = Body::of(Vec::new(alloc));
+    options.http_address = Body::of(Vec::new(alloc));
+    options.broadcast_address = Body::of(Vec::new(alloc));
+    options.data_path = Body::of(Vec::new(alloc));
     options.mem_queue_size = run.memory;
     options.msg_timeout = HELD;
     options.max_msg_timeout = MOST;

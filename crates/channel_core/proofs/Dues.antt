@@ -13,6 +13,7 @@ use Rattle.channel_copies.proofs.Indexing.{same_ids}
 use Rattle.channel_copies.proofs.Soonest.{by_later, is_due, due_is, due_isn't, first_is, first_in, soonest_in, none_due}
 use Rattle.channel_core.specs.Seen.{Seen, channel_with}
 use Rattle.channel_core.specs.Answers.{IsNextDue, TellsDue, sooner_of}
+use Rattle.channel_core.specs.Costs.{CostsDeferred, CostsFlying, MoveCosts}
 use Rattle.channel_core.specs.Moves.{IsDueOf, due_first, due_in}
 use Rattle.channel_core.proofs.Copies.{flying_due_is, deferred_due_is, all_flying_due_is, all_due_is}
 
@@ -215,3 +216,10 @@ tells_next f w {v0} v is flight waiting waits =
     (subst (λ o. IsNextDue (channel_with v0 waits) (sooner_of o w)) (sym flight)
     (subst (λ o. IsNextDue (channel_with v0 waits) (sooner_of (option_map (λ (f : Flight). f.due) (soonest (λ (f : Flight). f.due) v0.flights)) o)) (sym waiting)
     (next_of v0 waits (soonest (λ (f : Flight). f.due) v0.flights) (soonest_waiting v0.deferred) refl refl)))
+
+-- the steps of a move, by where the copy is that is due
+pub costs_timed_out : {at : Option (List ℕ × Bool)} (v : Seen) (before now : ℕ) (id : List ℕ) → at ≡ Some (id, true) → CostsFlying 2 v before now → MoveCosts v before now at
+costs_timed_out v before now id is c = subst (MoveCosts v before now) (sym is) c
+
+pub costs_came_due : {at : Option (List ℕ × Bool)} (v : Seen) (before now : ℕ) (id : List ℕ) → at ≡ Some (id, false) → CostsDeferred 2 v before now → MoveCosts v before now at
+costs_came_due v before now id is c = subst (MoveCosts v before now) (sym is) c

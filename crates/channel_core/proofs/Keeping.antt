@@ -1,22 +1,14 @@
 -- What every channel keeps, through a call.
-use Rattle.std.proofs.Common.{◌≡◌, ◌≢◌, ℕ, ◌+◌, ◌≤◌, Bool, true, false, not, List, length, Option, Some, None, refl, sym, ap, ◌∙◌, subst, arith}
+use Rattle.std.proofs.Common.{◌≡◌, ◌≢◌, ℕ, ◌+◌, ◌*◌, ◌≤◌, Bool, true, false, not, List, length, Option, Some, None, refl, sym, ◌∙◌, subst, arith}
 use Rattle.std.specs.Prelude.{is_some, IsSome, IfSome}
 use Rattle.nsq_outside.specs.Files.{Files}
 use Rattle.v2_frame.specs.declared.message.Message.{Message}
 use Rattle.disk_queue.specs.Seen.{Seen as Queue}
-use Rattle.disk_queue.specs.declared.answers.Emptied.{Emptied}
-use Rattle.disk_queue.specs.declared.answers.Emptied.TheVariants as emptying
-use Rattle.backlog.specs.Seen.{Seen as Backlog, FitsLimit, SameQueue, PutSeen, DrawSeen, DrawsOne, FindsNone, of_ring, of_disk, no_queue, no_record, SettleSeen, FlushSeen, EmptySeen, undone}
-use Rattle.backlog.specs.declared.backlog.Lent.{Lent}
+use Rattle.backlog.specs.Seen.{Seen as Backlog, FitsLimit, SameQueue, undone}
 use Rattle.backlog.specs.declared.backlog.Lent.TheVariants as lending
 use Rattle.backlog.specs.declared.answers.PutOne.{PutOne}
-use Rattle.backlog.specs.declared.answers.PutOne.TheVariants.{Kept, Dropped, Spilled, Fault}
-use Rattle.backlog.specs.declared.answers.Drawn.{Drawn as FromBacklog}
-use Rattle.backlog.specs.declared.answers.Drawn.TheVariants as drawing
-use Rattle.backlog.specs.declared.answers.Flushed.{Flushed}
-use Rattle.backlog.specs.declared.answers.Flushed.TheVariants.{Done as FlushDone, Fault as FlushFault}
 use Rattle.broker_history.specs.State.{is_ephemeral_channel}
-use Rattle.channel_copies.specs.Flights.{Flying, CostsCalls, flights_of_id}
+use Rattle.channel_copies.specs.Flights.{Flying, flights_of_id}
 use Rattle.channel_copies.specs.Deferred.{Deferring}
 use Rattle.channel_copies.specs.Putting.{Around, KeepsDisk, Puts, around}
 use Rattle.channel_storing.proofs.Capacity.{put_capacity}
@@ -25,7 +17,8 @@ use Rattle.channel_core.specs.declared.drawn.Sending.{Sending}
 use Rattle.channel_core.specs.declared.drawn.Drawn.{Drawn}
 use Rattle.channel_core.specs.declared.drawn.Drawn.TheVariants.{Nothing, ToSend, ToHold}
 use Rattle.channel_core.specs.Kept.{CanSend, CanHold, CanSettle, IsBacklogOf, IsWhole}
-use Rattle.channel_core.specs.Seen.{Seen, items}
+use Rattle.channel_core.specs.Costs.{CostsDeferred, CostsFlying, CostsHeaps}
+use Rattle.channel_core.specs.Seen.{Seen}
 
 module _ {about : About} {b : Backlog} {flying : Flying} {deferring : Deferring} {d : Drawn} where
   -- where nothing is drawn the backlog has lent nothing
@@ -102,18 +95,29 @@ is_durable None false is not_e = absurd (let no : ⊥ = cc in no)
 pub durable_queue : (about : About) (b : Backlog) → IsBacklogOf about b → is_ephemeral_channel about.topic about.name ≡ false → IsSome b.queue
 durable_queue about b w durable = is_durable b.queue (is_ephemeral_channel about.topic about.name) w.durable durable
 
--- steps, where more items were there
-pub costs_more : (calls n m before now : ℕ) → n ≤ m → CostsCalls calls n before now → CostsCalls calls m before now
-costs_more calls n m before now less c d h = c d (omega (arith, h, less))
+-- steps, by what is seen whole
+pub costs_flying : (calls before now : ℕ) {v0 v : Seen} → v0 ≡ v → CostsFlying calls v0 before now → CostsFlying calls v before now
+costs_flying calls before now is c = subst (λ (u : Seen). CostsFlying calls u before now) is c
 
-pub costs_both : (n before mid now : ℕ) → CostsCalls 1 n before mid → CostsCalls 1 n mid now → CostsCalls 2 n before now
-costs_both n before mid now a b d h = omega (arith, a d h, b d h)
+pub costs_deferred : (calls before now : ℕ) {v0 v : Seen} → v0 ≡ v → CostsDeferred calls v0 before now → CostsDeferred calls v before now
+costs_deferred calls before now is c = subst (λ (u : Seen). CostsDeferred calls u before now) is c
 
-pub costs_flights : (calls before now : ℕ) {v0 v : Seen} → v0 ≡ v → CostsCalls calls (length v0.flights) before now → CostsCalls calls (items v) before now
-costs_flights calls before now {v0} {v} is c = costs_more calls (length v0.flights) (items v) before now (omega (arith, ap items is)) c
+-- of both heaps, one after the other
+one_more : (before mid now x y : ℕ) → mid ≤ before + x → now ≤ mid + y → now ≤ before + (x + y)
+one_more before mid now x y a b = omega (arith, a, b)
 
-pub costs_deferred : (calls before now : ℕ) {v0 v : Seen} → v0 ≡ v → CostsCalls calls (length v0.deferred) before now → CostsCalls calls (items v) before now
-costs_deferred calls before now {v0} {v} is c = costs_more calls (length v0.deferred) (items v) before now (omega (arith, ap items is)) c
+pub costs_both : (flying deferring before mid now : ℕ) {v0 v : Seen} → v0 ≡ v → CostsFlying flying v0 before mid → CostsDeferred deferring v0 mid now → CostsHeaps flying deferring v before now
+costs_both flying deferring before mid now {v0} {v} is a b = subst (λ (u : Seen). CostsHeaps flying deferring u before now) is (λ d e few less. one_more before mid now (flying * (2 * d + 2)) (deferring * (2 * e + 2)) (a d few) (b e less))
+
+-- of all copies, or of all in flight alone
+pub costs_all : (before mid now : ℕ) {v0 v : Seen} → v0 ≡ v → CostsFlying (length v0.flights) v0 before mid → CostsDeferred (length v0.deferred) v0 mid now → CostsHeaps (length v.flights) (length v.deferred) v before now
+costs_all before mid now {v0} {v} is a b = subst (λ (u : Seen). CostsHeaps (length u.flights) (length u.deferred) u before now) is (costs_both (length v0.flights) (length v0.deferred) before mid now {v0 = v0} {v = v0} refl a b)
+
+no_more : (before now x y : ℕ) → now ≤ before + x → now ≤ before + (x + y)
+no_more before now x y a = omega (arith, a)
+
+pub costs_first : (before now : ℕ) {v0 v : Seen} → v0 ≡ v → CostsFlying (length v0.flights) v0 before now → CostsHeaps (length v.flights) (length v.deferred) v before now
+costs_first before now {v0} {v} is a = subst (λ (u : Seen). CostsHeaps (length u.flights) (length u.deferred) u before now) is (λ d e few less. no_more before now (length v0.flights * (2 * d + 2)) (length v0.deferred * (2 * e + 2)) (a d few))
 
 -- what a call leaves alone of the backlog, by what is seen whole
 pub keeps_of : {tells : Bool} (files : Files) (faults : ℕ) (b : Around) {v0 v : Seen} → v0 ≡ v → KeepsDisk tells (around v0.backlog files faults) b → KeepsDisk tells (around v.backlog files faults) b

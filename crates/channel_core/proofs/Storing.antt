@@ -1,32 +1,34 @@
 -- What joins a channel, and what a flush leaves, as rows.
-use Rattle.std.proofs.Common.{◌≡◌, ◌≢◌, ◌⊎◌, inl, inr, ℕ, ◌+◌, Bool, true, false, ◌&&◌, ◌==◌, if◌then◌else◌, IsTrue, List, [], ◌∷◌, ◌++◌, map, filter, Option, Some, None, refl, sym, ap, ◌∙◌, subst, arith}
+use Rattle.std.proofs.Common.{◌≡◌, ◌≢◌, ◌⊎◌, inl, inr, ℕ, ◌+◌, ◌-◌, Bool, true, false, ◌&&◌, ◌==◌, if◌then◌else◌, IsTrue, List, [], ◌∷◌, ◌++◌, map, filter, length, Option, Some, None, refl, sym, ap, ◌∙◌, subst, arith}
 use Rattle.std.specs.List.{count_by}
 use Rattle.std.specs.Prelude.{IsSome, IfSome}
 use Rattle.std.proofs.lemmas.Bool.{ne_eqb}
+use Rattle.std.proofs.lemmas.List.{drop_all, take_all}
 use Rattle.nsq_outside.specs.Files.{Files}
 use Rattle.v2_frame.specs.Written.{message_bytes}
 use Rattle.v2_frame.specs.declared.message.Message.{Message}
 use Rattle.queue_image.specs.Finds.{IsFound, Records}
 use Rattle.disk_queue.specs.Seen.{Seen as Queue}
-use Rattle.backlog.specs.Seen.{longest_body}
-use Rattle.backlog.specs.Lists.{OnDisk, QueueFinds, FlushFinds, stored}
+use Rattle.backlog.specs.Seen.{Seen as Backlog, FlushSeen, longest_body}
+use Rattle.backlog.specs.Lists.{OnDisk, QueueFinds, FlushFinds, disk_flushed, stored}
 use Rattle.backlog.specs.declared.answers.PutOne.{PutOne}
 use Rattle.backlog.specs.declared.answers.PutOne.TheVariants.{Kept, Dropped as WasDropped, Spilled, Fault}
 use Rattle.backlog.specs.declared.answers.Flushed.{Flushed}
 use Rattle.backlog.specs.declared.answers.Flushed.TheVariants.{Done as FlushDone, Fault as FlushFault}
 use Rattle.broker_history.specs.State.{Copy, Place, Deferred, compared, counted, is_live}
 use Rattle.broker_history.specs.Channels.{JoinsLive, Gets, one, copy_at, put_off, back_in, joins_at, is_dropped}
-use Rattle.broker_history.specs.Left.{left_in_channel}
+use Rattle.broker_history.specs.Left.{SameMessages, left_in_channel}
 use Rattle.channel_copies.specs.declared.flight.Flight.{Flight}
 use Rattle.channel_copies.specs.Deferred.{Waiting}
 use Rattle.channel_copies.specs.Putting.{Around, Puts, IsTaken, around}
 use Rattle.channel_copies.proofs.Counts.{count-cons, count-append, count-map}
 use Rattle.channel_core.specs.Seen.{Seen, queue_name, queued_copy, flying_copy, deferred_copy, copies_of, channel_with, seen_channel, queued_in, room_of}
+use Rattle.channel_core.specs.declared.about.About.{About}
 use Rattle.channel_core.specs.Kept.{IsBacklogOf}
 use Rattle.channel_core.specs.Drawing.{Leads, IsAsBefore}
 use Rattle.channel_core.specs.declared.answers.Offer.{Offer}
 use Rattle.channel_core.specs.declared.answers.Offer.TheVariants.{Done, Fault as CameBack, Memory as WantsMemory}
-use Rattle.channel_core.specs.Storing.{Defers, Offers, Joined, FindsAll, FlushLeaves}
+use Rattle.channel_core.specs.Storing.{Defers, Offers, Joined, FlushEmpties, FlushLeaves, FlushStores}
 use Rattle.channel_storing.specs.Storing.{Stores, flying_messages, deferred_messages}
 use Rattle.channel_core.proofs.Copies.{copies-count}
 use Rattle.channel_core.proofs.Joining.{back_place, kept_place, dropped_place, spilled_place, put_in, put_none}
@@ -178,18 +180,22 @@ named_finds : (q : Option Queue) (name : List ℕ) (files : Files) (ms : List Me
 named_finds None name files ms there named found = absurd (let no : ⊥ = cc in no)
 named_finds (Some q) name files ms there named found = subst (λ (name : List ℕ). IsFound 26 (26 + longest_body) files name (Records (map message_bytes ms) [])) named found
 
--- an opening finds all that was left, where all was written
-pub found_all : {tells : Bool} (files : Files) (faults : ℕ) (b c : Around) (after : Files) (disk : List Message) {v0 v : Seen} → v0 ≡ v → IsTrue tells → OnDisk v.backlog.queue files disk
-    → Stores tells (flying_messages v0.flights) [] (around v0.backlog files faults) b → Stores tells (deferred_messages v0.deferred) [] b c → IsSome c.backlog.queue → IsBacklogOf v0.about c.backlog
-    → ((disk : List Message) → OnDisk c.backlog.queue c.files disk → FlushFinds c.backlog after disk FlushDone) → FindsAll (left_in_channel (seen_channel v disk)) (queue_name v.about.topic v.about.name) after
-found_all {tells} files faults b c after disk {v0} {v} is told on flew waited there named finds =
-    subst (λ (v : Seen). FindsAll (left_in_channel (seen_channel v disk)) (queue_name v.about.topic v.about.name) after) is (
+-- what was left waits in the ring and on disk
+record WaitsAll (left : List Message) (c : Around) : Type 0 where
+  to : List Message
+  on_disk : OnDisk c.backlog.queue c.files to
+  same : SameMessages left (to ++ map stored c.backlog.ring)
+
+waits_all : {tells : Bool} (files : Files) (faults : ℕ) (b c : Around) (disk : List Message) {v0 v : Seen} → v0 ≡ v → IsTrue tells → OnDisk v.backlog.queue files disk
+    → Stores tells (flying_messages v0.flights) [] (around v0.backlog files faults) b → Stores tells (deferred_messages v0.deferred) [] b c → WaitsAll (left_in_channel (seen_channel v disk)) c
+waits_all {tells} files faults b c disk {v0} {v} is told on flew waited =
+    subst (λ (v : Seen). WaitsAll (left_in_channel (seen_channel v disk)) c) is (
     let first = flew.list told disk (subst (λ (u : Seen). OnDisk u.backlog.queue files disk) (sym is) on) in
     let next = waited.list told first.to first.on_disk in
     let all = next.to ++ map stored c.backlog.ring in
     record {
-      messages = all;
-      found = named_finds c.backlog.queue _ after all there named.queue (finds next.to next.on_disk);
+      to = next.to;
+      on_disk = next.on_disk;
       same = λ p. omega (
         arith,
         left_count p v0 (queued_in v0 disk),
@@ -207,11 +213,42 @@ found_all {tells} files faults b c after disk {v0} {v} is told on flew waited th
       );
     })
 
+-- an opening finds it, where all was written
 pub flush_leaves : {tells : Bool} (files : Files) (faults : ℕ) (b c : Around) (after : Files) (disk : List Message) (answer : Flushed) {v0 v : Seen} → v0 ≡ v → IsTrue tells → OnDisk v.backlog.queue files disk
     → Stores tells (flying_messages v0.flights) [] (around v0.backlog files faults) b → Stores tells (deferred_messages v0.deferred) [] b c → IsSome c.backlog.queue → IsBacklogOf v0.about c.backlog
     → ((disk : List Message) → OnDisk c.backlog.queue c.files disk → FlushFinds c.backlog after disk answer) → FlushLeaves (left_in_channel (seen_channel v disk)) v.about after answer
-flush_leaves files faults b c after disk FlushDone is told on flew waited there named finds = λ durable. found_all files faults b c after disk is told on flew waited there named finds
+flush_leaves files faults b c after disk FlushDone {v0} {v} is told on flew waited there named finds = λ durable.
+    let all = waits_all files faults b c disk is told on flew waited in
+    record {
+      messages = all.to ++ map stored c.backlog.ring;
+      found = subst (λ (u : Seen). IsFound 26 (26 + longest_body) after (queue_name u.about.topic u.about.name) (Records (map message_bytes (all.to ++ map stored c.backlog.ring)) [])) is (named_finds c.backlog.queue _ after (all.to ++ map stored c.backlog.ring) there named.queue (finds all.to all.on_disk));
+      same = all.same;
+    }
 flush_leaves files faults b c after disk FlushFault is told on flew waited there named finds = tt
+
+-- and it is on disk
+all_written : (b b' : Backlog) (disk : List Message) → b'.ring ≡ [] → disk_flushed b b' disk ≡ disk ++ map stored b.ring
+all_written b b' disk none = ap (λ xs. disk ++ map stored xs) (take_all (length b.ring - length b'.ring) b.ring (omega (arith, ap length none)))
+
+ring_emptied : (b b' : Backlog) → FlushSeen b b' FlushDone → b'.ring ≡ []
+ring_emptied b b' seen = ap (λ (b : Backlog). b.ring) seen.0.is ∙ drop_all (length b.ring) b.ring (omega arith)
+
+pub flush_stores : {tells : Bool} (files : Files) (faults : ℕ) (b c : Around) (w : Seen) (after : Files) (disk : List Message) (answer : Flushed) {v0 v : Seen} → v0 ≡ v → IsTrue tells → OnDisk v.backlog.queue files disk
+    → Stores tells (flying_messages v0.flights) [] (around v0.backlog files faults) b → Stores tells (deferred_messages v0.deferred) [] b c → FlushSeen c.backlog w.backlog answer
+    → ((disk : List Message) → OnDisk c.backlog.queue c.files disk → OnDisk w.backlog.queue after (disk_flushed c.backlog w.backlog disk)) → FlushStores (left_in_channel (seen_channel v disk)) v.about w after answer
+flush_stores files faults b c w after disk FlushDone is told on flew waited seen list = λ durable.
+    let all = waits_all files faults b c disk is told on flew waited in
+    record {
+      messages = all.to ++ map stored c.backlog.ring;
+      on_disk = subst (OnDisk w.backlog.queue after) (all_written c.backlog w.backlog all.to (ring_emptied c.backlog w.backlog seen)) (list all.to all.on_disk);
+      same = all.same;
+    }
+flush_stores files faults b c w after disk FlushFault is told on flew waited seen list = tt
+
+-- nothing is in memory any more
+pub flush_empties : (about : About) (b : Backlog) (answer : Flushed) (w : Seen) → FlushSeen b w.backlog answer → w.flights ≡ [] → w.deferred ≡ [] → FlushEmpties about w answer
+flush_empties about b FlushDone w seen flights deferred = λ durable. record { ring = ring_emptied b w.backlog seen; flights = flights; deferred = deferred; saved = seen.1 }
+flush_empties about b FlushFault w seen flights deferred = tt
 
 -- all copies are gone
 pub was_emptied : {files' : Files} (waits : List Message) {v0 v w : Seen} → v0 ≡ v → OnDisk w.backlog.queue files' [] → w.backlog.ring ≡ [] → w.flights ≡ [] → w.deferred ≡ []

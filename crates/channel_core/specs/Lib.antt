@@ -1,4 +1,5 @@
 pub mod Answers
+pub mod Costs
 pub mod Deleting
 pub mod Drawing
 pub mod Drawn

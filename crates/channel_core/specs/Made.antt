@@ -2,6 +2,8 @@
 use Rattle.std.specs.Prelude.{◌≡◌, ◌≤◌, ℕ, ◌^◌, false, not, List, [], MatchBool, IsSome, IfSome}
 use Rattle.nsq_base.specs.declared.options.Options.{Options}
 use Rattle.queue_files.specs.declared.options.QueueOptions.{QueueOptions}
+use Rattle.queue_opening.specs.declared.refusal.Open.{Open}
+use Rattle.queue_opening.specs.declared.refusal.Open.TheVariants.{Memory}
 use Rattle.backlog.specs.Seen.{Seen as Backlog, IsOpenedAt, fresh_backlog}
 use Rattle.broker_history.specs.State.{is_ephemeral_channel}
 use Rattle.channel_core.specs.declared.about.About.{About}
@@ -61,3 +63,7 @@ pub record IsOpenedBacklog (topic name : List ℕ) (options : Options) (b : Back
 pub record IsOpenedAs (topic name : List ℕ) (options : Options) (v : Seen) : Type 0 where
   pub made : IsMadeWith topic name options v.backlog v
   pub backlog : MatchBool (is_ephemeral_channel topic name) (v.backlog ≡ fresh_of topic name options) (IsOpenedBacklog topic name options v.backlog)
+
+-- an opening found no memory
+abbrev pub IsWant : Open → Type 0
+IsWant why = why ≡ Memory

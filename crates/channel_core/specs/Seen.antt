@@ -71,10 +71,6 @@ room_of v = record { ephemeral = is_ephemeral_channel v.about.topic v.about.name
 abbrev pub queue_name : (topic name : List ℕ) → List ℕ
 queue_name topic name = topic ++ (codes ":" ++ name)
 
--- how many copies are in flight or deferred
-abbrev pub items : Seen → ℕ
-items v = length v.flights + length v.deferred
-
 -- there is room for one more in flight, and to defer it later
 pub record HasRoom (v : Seen) : Type 0 where
   pub flying : 1 ≤ v.spare

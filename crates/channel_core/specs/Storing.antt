@@ -1,5 +1,5 @@
 -- What joins a channel, and what becomes of all its copies.
-use Rattle.std.specs.Prelude.{◌≡◌, ℕ, ◌+◌, ◌<◌, Bool, false, ◌≤◌, List, [], ◌++◌, map, length, count_by, IsTrue}
+use Rattle.std.specs.Prelude.{◌≡◌, ℕ, ◌+◌, ◌<◌, false, List, [], map}
 use Rattle.nsq_outside.specs.Files.{Files}
 use Rattle.nsq_outside.specs.Causes.{Rose}
 use Rattle.v2_frame.specs.Written.{message_bytes}
@@ -7,15 +7,14 @@ use Rattle.v2_frame.specs.declared.message.Message.{Message}
 use Rattle.queue_image.specs.Finds.{IsFound, Records}
 use Rattle.disk_queue.specs.declared.answers.Emptied.{Emptied}
 use Rattle.disk_queue.specs.declared.answers.Emptied.TheVariants as emptying
-use Rattle.backlog.specs.Seen.{Seen as Backlog, longest_body}
+use Rattle.backlog.specs.Seen.{QueueIsSaved, longest_body}
 use Rattle.backlog.specs.Lists.{OnDisk}
 use Rattle.backlog.specs.declared.answers.Flushed.{Flushed}
 use Rattle.backlog.specs.declared.answers.Flushed.TheVariants as flushing
-use Rattle.broker_history.specs.State.{compared, counted, is_ephemeral_channel}
+use Rattle.broker_history.specs.State.{counted, is_ephemeral_channel}
 use Rattle.broker_history.specs.Channels.{JoinsLive, Gets}
 use Rattle.broker_history.specs.Left.{SameMessages}
 use Rattle.channel_copies.specs.Flights.{Leaves}
-use Rattle.channel_copies.specs.Deferred.{Waiting}
 use Rattle.channel_core.specs.declared.answers.Offer.{Offer}
 use Rattle.channel_core.specs.declared.answers.Offer.TheVariants.{Done, Fault, Memory as WantsMemory}
 use Rattle.channel_core.specs.Drawing.{Leads, IsAsBefore}
@@ -64,3 +63,25 @@ pub record FindsAll (left : List Message) (name : List ℕ) (files : Files) : Ty
 abbrev pub FlushLeaves : (left : List Message) → About → Files → Flushed → Type 0
 FlushLeaves left about files flushing.Done = is_ephemeral_channel about.topic about.name ≡ false → FindsAll left (queue_name about.topic about.name) files
 FlushLeaves left about files flushing.Fault = Unit {0}
+
+-- a channel has nothing in memory: all that it has is on disk, and saved
+pub record IsFlushed (v : Seen) : Type 0 where
+  pub ring : v.backlog.ring ≡ []
+  pub flights : v.flights ≡ []
+  pub deferred : v.deferred ≡ []
+  pub saved : QueueIsSaved v.backlog.queue
+
+-- so it is with a durable channel after a flush that is Done
+abbrev pub FlushEmpties : About → (new : Seen) → Flushed → Type 0
+FlushEmpties about new flushing.Done = is_ephemeral_channel about.topic about.name ≡ false → IsFlushed new
+FlushEmpties about new flushing.Fault = Unit {0}
+
+-- what is on disk of a channel is these messages, each as often
+pub record HasStored (left : List Message) (v : Seen) (files : Files) : Type 0 where
+  pub messages : List Message
+  pub on_disk : OnDisk v.backlog.queue files messages
+  pub same : SameMessages left messages
+
+abbrev pub FlushStores : (left : List Message) → About → (new : Seen) → Files → Flushed → Type 0
+FlushStores left about new files flushing.Done = is_ephemeral_channel about.topic about.name ≡ false → HasStored left new files
+FlushStores left about new files flushing.Fault = Unit {0}

@@ -1,16 +1,16 @@
-ghost use Rattle.std.specs.Prelude.{◌≡◌, ◌≤◌, ◌^◌, ℕ, List, [], true, false, IsTrue, IsSome, IfOk, IfErr, OnOk, OnErr, Some, None};
+ghost use Rattle.std.specs.Prelude.{◌≡◌, ◌≤◌, ◌^◌, ℕ, List, [], true, false, IsTrue, IsSome, IfSome, IfOk, IfErr, OnOk, OnErr, Some, None};
 ghost use Rattle.nsq_outside.specs.Files.{Files};
 ghost use Rattle.queue_image.specs.FileNames.{meta_file};
 ghost use Rattle.queue_image.specs.Metas.{IsIdle};
 ghost use Rattle.queue_opening.specs.Refusals.{OpenFails, OpenCounts};
-ghost use Rattle.disk_queue.specs.Opened.{IsOpened, IsTidied, FilesOfChange};
+ghost use Rattle.disk_queue.specs.Opened.{IsTidied, FilesOfChange};
 ghost use Rattle.v2_frame.specs.declared.message.Message.{Message};
 ghost use Rattle.backlog.specs.Lists.{OnDisk, Stands, WasFound, OpenRefused};
 ghost use Rattle.broker_history.specs.State.{flying, is_ephemeral_channel};
 ghost use Rattle.channel_copies.specs.Clients.{PutsClient, client_of, now_ready};
 ghost use Rattle.channel_core.specs.Seen.{channel_with, queue_name, seen_channel};
 ghost use Rattle.channel_core.specs.Kept.{IsBacklogOf};
-ghost use Rattle.channel_core.specs.Made.{IsFresh, IsOpenedAs, FitsRun};
+ghost use Rattle.channel_core.specs.Made.{IsFresh, IsOpenedAs, IsWant, FitsRun};
 ghost use Rattle.channel_core.specs.Answers.{IsNextDue, Looks, Tells, TellsDue, sooner_of};
 ghost use Rattle.channel_core.specs.declared.drawn.Drawn.TheVariants as drawn;
 ghost use Rattle.channel_core.specs.Moves.{due_in};
@@ -101,8 +101,8 @@ impl Channel {
         Ok(Channel::of(alloc, topic, name, options, backlog))
     }
 
-    /// A channel with the copies that an opening finds in its queue: all of them are queued. An ephemeral one is made as by `fresh`. Errors are
-    /// those of `Backlog::open`. Requires times of at most 2^62.
+    /// A channel with the copies that an opening finds in its queue: all of them are queued. An ephemeral one is made as by `fresh`, without a
+    /// look at the folder. Errors are those of `Backlog::open`. Requires times of at most 2^62.
     pub fn open<F: Folder>(
         alloc: Global,
         folder: &mut F,
@@ -114,6 +114,8 @@ impl Channel {
         ensures seen { IfOk result (IsOpenedAs topic name options.now) }
         ensures list { IsTrue F.tells_files → is_ephemeral_channel topic name ≡ false → IfOk result (λ c. (messages : List Message) → WasFound (queue_name topic name) (F.files folder.old) messages → OnDisk c.backlog.queue (F.files folder.new) messages) }
         ensures stands { IsTrue F.tells_files → IfOk result (λ c. Stands c.backlog.queue (F.files folder.new)) }
+        ensures tidied { IsTrue F.tells_files → IfOk result (λ c. IfSome c.backlog.queue (λ q. IsTidied q (F.files folder.old) (F.files folder.new))) }
+        ensures ephemeral { is_ephemeral_channel topic name ≡ true → (folder.new ≡ folder.old) × IfErr result IsWant }
         ensures refused { IsTrue F.tells_files → IfErr result (λ e. OpenRefused (queue_name topic name) (F.files folder.old) (F.files folder.new) e) }
         ensures others { IsTrue F.tells_files → FilesOfChange (queue_name topic name) (F.files folder.old) (F.files folder.new) }
         ensures faults { F.folder_faults folder.old ≤ F.folder_faults folder.new }

@@ -23,15 +23,15 @@ use Rattle.backlog.specs.declared.answers.Flushed.{Flushed}
 use Rattle.backlog.specs.declared.answers.Flushed.TheVariants.{Done as FlushDone, Fault as FlushFault}
 use Rattle.backlog.specs.declared.answers.PutOne.{PutOne}
 use Rattle.backlog.specs.declared.answers.PutOne.TheVariants.{Kept, Dropped, Spilled, Fault}
-use Rattle.broker_history.specs.State.{Waiting, Taken, Topic, compared}
+use Rattle.broker_history.specs.State.{Waiting, Taken, Topic, compared, new_topic}
 use Rattle.broker_history.specs.Left.{SameMessages, left_in_topic, taken_message}
 use Rattle.broker_history.specs.Topics.{Fits, HasWaiting}
 use Rattle.broker_history.proofs.Counting.{count-cons, count-append}
 use Rattle.topic_core.specs.Seen.{Seen, IsSettled}
 use Rattle.topic_core.specs.Kept.{IsNamed}
-use Rattle.topic_core.specs.Answers.{AllFound, FlushFindsAll, FlushesHead}
+use Rattle.topic_core.specs.Answers.{AllFound, FlushFindsAll, FlushesAll, FlushesTopic, FlushesHead}
 use Rattle.topic_core.specs.Rows.{IsTopicOf, FindsLeft, FlushLeaves, FindsMessages, found_topic}
-use Rattle.topic_core.proofs.Waiting.{from_settled, to_settled}
+use Rattle.topic_core.proofs.Waiting.{none_waiting, from_settled, to_settled}
 
 -- records are messages in their bytes
 from_records : (bodies : List (List ℕ)) (ms : List Message) → Pairwise IsRecordOf bodies ms → (bodies ≡ map message_bytes ms) × All IsStored ms
@@ -209,6 +209,19 @@ opened_topic name before after b queue capacity options durable there seen list 
           (record { in_order = map (λ m. record { message = m; loose = false }) ms; often = λ p. refl; fit = found_wait ms });
     })
 
+-- a topic that is made is one without messages
+pub new_topic_is : (name : List ℕ) (b : Backlog) (files : Files) → b.ring ≡ [] → b.lent ≡ Nothing → OnDisk b.queue files []
+    → IsTopicOf (record { name = name; paused = false; message_count = 0; backlog = b; head = None }) files (new_topic name)
+new_topic_is name b files ring lent on = to_settled (record { name = name; paused = false; message_count = 0; backlog = b; head = None }) files (new_topic name) lent (record {
+  name = refl;
+  paused = refl;
+  message_count = refl;
+  taken = refl;
+  disk = [];
+  on_disk = on;
+  waiting = subst (λ xs. HasWaiting (xs ++ []) []) (sym ring) none_waiting;
+})
+
 -- changes of one queue's files, one after another
 pub disk_joined : (q r : Option Queue) (f0 f1 f2 : Files) → SameQueue q r → DiskChanges q f0 f1 → DiskChanges r f1 f2 → DiskChanges q f0 f2
 disk_joined None None f0 f1 f2 same a b = λ file. b file ∙ a file
@@ -281,6 +294,28 @@ ring_found old new after disk none seen on found =
       on_disk = subst (λ ms. OnDisk new.backlog.queue after ms) (ap (λ xs. disk ++ map stored xs) (all_flushed old.backlog new.backlog (ap (λ (b : Backlog). b.ring) seen.0.is)) ∙ goal) on;
       found = subst (λ ms. QueueFinds old.backlog.queue after ms) goal found;
     }
+
+-- the ring is empty once all of it was written
+ring_emptied : (old new : Seen) → FlushSeen old.backlog new.backlog FlushDone → new.backlog ≡ record (old.backlog) { ring = []; queue = new.backlog.queue }
+ring_emptied old new seen = seen.0.is ∙ ap (λ xs. record (old.backlog) { ring = xs; queue = new.backlog.queue }) (drop_all (length old.backlog.ring) old.backlog.ring (omega arith))
+
+-- what is seen of a durable topic whose ring was written, and that has no head
+pub ring_flushed : (old new : Seen) → is_ephemeral old.name ≡ false → old.head ≡ None → new ≡ record old { backlog = new.backlog } → FlushSeen old.backlog new.backlog FlushDone → FlushesTopic old new FlushDone
+ring_flushed old new durable none only seen = subst (λ b. MatchBool b (new ≡ old) (FlushesAll old new)) (sym durable) (record {
+  is = only ∙ ap (λ (b : Backlog). record old { backlog = b }) (ring_emptied old new seen) ∙ ap (λ h. record old { backlog = record (old.backlog) { ring = []; queue = new.backlog.queue }; head = h }) none;
+  saved = seen.1;
+})
+
+-- and of one whose head was written then
+pub both_flushed : (old mid new : Seen) (answer : Flushed) → is_ephemeral old.name ≡ false → mid ≡ record old { backlog = mid.backlog } → FlushSeen old.backlog mid.backlog FlushDone → FlushesHead mid new answer
+    → FlushesTopic old new answer
+both_flushed old mid new FlushDone durable only seen head = subst (λ b. MatchBool b (new ≡ old) (FlushesAll old new)) (sym durable) (record {
+  is = head.is
+      ∙ ap (λ (b : Backlog). record mid { backlog = record b { ring = []; queue = new.backlog.queue }; head = None }) (ring_emptied old mid seen)
+      ∙ ap (λ (q : Seen). record q { backlog = record (old.backlog) { ring = []; queue = new.backlog.queue }; head = None }) only;
+  saved = head.saved;
+})
+both_flushed old mid new FlushFault durable only seen head = head ∙ ap (λ (q : Seen). record q { backlog = new.backlog; head = new.head }) only
 
 -- the ring that was written
 pub ring_written : (b0 b1 : Backlog) (disk : List Message) → FlushSeen b0 b1 FlushDone → (disk_flushed b0 b1 disk ≡ disk ++ map stored b0.ring) × (b1.ring ≡ [])

@@ -1,10 +1,10 @@
 ghost use Rattle.std.specs.Prelude.{◌≡◌, ◌≤◌, ◌<◌, ℕ, true, false, List, length, Some, IsTrue};
 ghost use Rattle.v2_frame.specs.declared.message.Message.{Message};
 ghost use Rattle.backlog.specs.Lists.{OnDisk};
-ghost use Rattle.channel_copies.specs.Flights.{CostsCalls, flights_of_id};
+ghost use Rattle.channel_copies.specs.Flights.{flights_of_id};
 ghost use Rattle.channel_copies.specs.Putting.{KeepsDisk, around};
 ghost use Rattle.channel_core.specs.declared.drawn.Drawn.TheVariants as drawn;
-ghost use Rattle.channel_core.specs.Seen.{items};
+ghost use Rattle.channel_core.specs.Costs.{CostsDeferred, CostsFlying, MoveCosts};
 ghost use Rattle.channel_core.specs.Moves.{MovesDue, MoveFails, IsTold, due_in};
 
 use super::Channel;
@@ -33,7 +33,7 @@ impl Channel {
         ensures rest { self.new ≡ record self.old { timeout_count = self.new.timeout_count; backlog = self.new.backlog; flights = self.new.flights; deferred = self.new.deferred; spare = self.new.spare; deferred_spare = self.new.deferred_spare } }
         ensures disk { KeepsDisk F.tells_files (around self.old.backlog (F.files folder.old) (F.folder_faults folder.old)) (around self.new.backlog (F.files folder.new) (F.folder_faults folder.new)) }
         ensures cause { MoveFails (F.folder_faults folder.old) (F.folder_faults folder.new) result }
-        ensures steps { CostsCalls 2 (items self.old) steps.old steps.new }
+        ensures steps { MoveCosts self.old steps.old steps.new (due_in now self.old) }
     {
         let Some((id, flies)) = self.due(now) else {
             return Moved::Nothing;
@@ -60,7 +60,7 @@ impl Channel {
         ensures rest { self.new ≡ record self.old { timeout_count = self.new.timeout_count; backlog = self.new.backlog; flights = self.new.flights; deferred = self.new.deferred; spare = self.new.spare; deferred_spare = self.new.deferred_spare } }
         ensures disk { KeepsDisk F.tells_files (around self.old.backlog (F.files folder.old) (F.folder_faults folder.old)) (around self.new.backlog (F.files folder.new) (F.folder_faults folder.new)) }
         ensures cause { MoveFails (F.folder_faults folder.old) (F.folder_faults folder.new) result }
-        ensures steps { CostsCalls 2 (items self.old) steps.old steps.new }
+        ensures steps { CostsFlying 2 self.old steps.old steps.new }
     {
         match self
             .flights
@@ -90,7 +90,7 @@ impl Channel {
         ensures rest { self.new ≡ record self.old { timeout_count = self.new.timeout_count; backlog = self.new.backlog; flights = self.new.flights; deferred = self.new.deferred; spare = self.new.spare; deferred_spare = self.new.deferred_spare } }
         ensures disk { KeepsDisk F.tells_files (around self.old.backlog (F.files folder.old) (F.folder_faults folder.old)) (around self.new.backlog (F.files folder.new) (F.folder_faults folder.new)) }
         ensures cause { MoveFails (F.folder_faults folder.old) (F.folder_faults folder.new) result }
-        ensures steps { CostsCalls 2 (items self.old) steps.old steps.new }
+        ensures steps { CostsDeferred 2 self.old steps.old steps.new }
     {
         match self
             .deferred

@@ -6,10 +6,10 @@ ghost use Rattle.backlog.specs.Lists.{OnDisk};
 ghost use Rattle.broker_history.specs.State.{flying, queued};
 ghost use Rattle.broker_history.specs.Channels.{MovesLive, Sends, HoldsBack};
 ghost use Rattle.channel_copies.specs.Clients.{client_of};
-ghost use Rattle.channel_copies.specs.Flights.{CostsCalls};
 ghost use Rattle.channel_copies.specs.Putting.{KeepsDisk, around};
 ghost use Rattle.channel_core.specs.declared.drawn.Drawn.TheVariants as drawn;
-ghost use Rattle.channel_core.specs.Seen.{HasRoom, channel_with, drawn_in, items, queued_in, seen_channel};
+ghost use Rattle.channel_core.specs.Costs.{CostsDeferred, CostsFlying};
+ghost use Rattle.channel_core.specs.Seen.{HasRoom, channel_with, drawn_in, queued_in, seen_channel};
 ghost use Rattle.channel_core.specs.Drawing.{Draws, DrawFails, Drew, IsDrawnFor, IsFirstDrawn, IsHeld, IsOfDrawing, Leads, NextLeaves, NextWhere, first_drawn, ready_of, timeout_of};
 
 use super::Channel;
@@ -80,7 +80,7 @@ impl Channel {
         ensures row { IsTrue F.tells_files → (disk : List Message) → OnDisk self.old.backlog.queue (F.files folder.old) disk → IsFirstDrawn (first_drawn self.old.drawn message) self.old disk → Leads (Sends MovesLive client now (timeout_of client self.old) message) self.old (drawn_in (first_drawn self.old.drawn message) self.old disk) self.new (F.files folder.new) }
         ensures rest { self.new ≡ record self.old { backlog = self.new.backlog; flights = self.new.flights; drawn = drawn.Nothing; spare = self.new.spare } }
         ensures disk { KeepsDisk F.tells_files (around self.old.backlog (F.files folder.old) (F.folder_faults folder.old)) (around self.new.backlog (F.files folder.new) (F.folder_faults folder.new)) }
-        ensures steps { CostsCalls 1 (items self.old) steps.old steps.new }
+        ensures steps { CostsFlying 1 self.old steps.old steps.new }
     {
         let due = now + self.clients.get(client).timeout;
         self.backlog.settle(folder);
@@ -123,7 +123,7 @@ impl Channel {
         ensures row { IsTrue F.tells_files → (disk : List Message) → (held : Message) → self.old.drawn ≡ drawn.ToHold held now → OnDisk self.old.backlog.queue (F.files folder.old) disk → IsFirstDrawn held self.old disk → Leads (HoldsBack MovesLive held.id (now + self.old.about.msg_timeout)) self.old (drawn_in held self.old disk) self.new (F.files folder.new) }
         ensures rest { self.new ≡ record self.old { backlog = self.new.backlog; deferred = self.new.deferred; drawn = drawn.Nothing; deferred_spare = self.new.deferred_spare } }
         ensures disk { KeepsDisk F.tells_files (around self.old.backlog (F.files folder.old) (F.folder_faults folder.old)) (around self.new.backlog (F.files folder.new) (F.folder_faults folder.new)) }
-        ensures steps { CostsCalls 1 (items self.old) steps.old steps.new }
+        ensures steps { CostsDeferred 1 self.old steps.old steps.new }
     {
         let due = now + self.about.msg_timeout;
         let drawn = mem::replace(&mut self.drawn, Drawn::Nothing);

@@ -3,10 +3,9 @@ ghost use Rattle.v2_frame.specs.declared.message.Message.{Message};
 ghost use Rattle.backlog.specs.Lists.{OnDisk};
 ghost use Rattle.broker_history.specs.Channels.{MovesLive, Finishes, Touches};
 ghost use Rattle.channel_copies.specs.Clients.{client_of};
-ghost use Rattle.channel_copies.specs.Flights.{CostsCalls};
 ghost use Rattle.channel_copies.specs.Putting.{KeepsDisk, around};
 ghost use Rattle.channel_core.specs.declared.drawn.Drawn.TheVariants as drawn;
-ghost use Rattle.channel_core.specs.Seen.{items};
+ghost use Rattle.channel_core.specs.Costs.{CostsFlying, RequeueCosts};
 ghost use Rattle.channel_core.specs.Drawing.{Does, timeout_of};
 ghost use Rattle.channel_core.specs.Answers.{IsYours, RequeueFails};
 ghost use Rattle.channel_core.specs.Moves.{Requeues};
@@ -26,7 +25,7 @@ impl Channel {
         requires yours { IsYours client id self.old }
         ensures row { Does (Finishes MovesLive client id) self.old self.new }
         ensures rest { self.new ≡ record self.old { flights = self.new.flights; spare = self.new.spare } }
-        ensures steps { CostsCalls 1 (items self.old) steps.old steps.new }
+        ensures steps { CostsFlying 1 self.old steps.old steps.new }
     {
         let _ = self.flights.take(id, steps);
     }
@@ -40,7 +39,7 @@ impl Channel {
         requires now { now ≤ 2 ^ 62 }
         ensures row { Does (Touches MovesLive client id now (timeout_of client self.old) self.old.about.max_msg_timeout) self.old self.new }
         ensures rest { self.new ≡ record self.old { flights = self.new.flights; spare = self.new.spare } }
-        ensures steps { CostsCalls 2 (items self.old) steps.old steps.new }
+        ensures steps { CostsFlying 2 self.old steps.old steps.new }
     {
         let until = now + self.clients.get(client).timeout;
         self.flights
@@ -68,7 +67,7 @@ impl Channel {
         ensures rest { self.new ≡ record self.old { requeue_count = self.new.requeue_count; backlog = self.new.backlog; flights = self.new.flights; deferred = self.new.deferred; spare = self.new.spare; deferred_spare = self.new.deferred_spare } }
         ensures disk { KeepsDisk F.tells_files (around self.old.backlog (F.files folder.old) (F.folder_faults folder.old)) (around self.new.backlog (F.files folder.new) (F.folder_faults folder.new)) }
         ensures cause { RequeueFails delay (F.folder_faults folder.old) (F.folder_faults folder.new) result }
-        ensures steps { CostsCalls 2 (items self.old) steps.old steps.new }
+        ensures steps { RequeueCosts delay self.old steps.old steps.new }
     {
         if delay != 0 {
             let flight = self.flights.take(id, steps);

@@ -4,13 +4,14 @@ ghost use Rattle.v2_frame.specs.declared.message.Message.{Message};
 ghost use Rattle.backlog.specs.Seen.{FitsLimit, SyncSeen};
 ghost use Rattle.backlog.specs.Lists.{OnDisk, Stands, DiskChanges, SyncFinds, EmptyFinds};
 ghost use Rattle.backlog.specs.Answers.{FlushFails, EmptyFails};
+ghost use Rattle.backlog.specs.declared.answers.Flushed.TheVariants.{Done as FlushDone};
 ghost use Rattle.broker_history.specs.State.{is_ephemeral_channel};
 ghost use Rattle.broker_history.specs.Left.{left_in_channel};
-ghost use Rattle.channel_copies.specs.Flights.{CostsCalls};
 ghost use Rattle.channel_copies.specs.Putting.{KeepsDisk, around};
 ghost use Rattle.channel_core.specs.declared.drawn.Drawn.TheVariants as drawn;
-ghost use Rattle.channel_core.specs.Seen.{items, queued_in, seen_channel};
-ghost use Rattle.channel_core.specs.Storing.{Defers, Offers, OfferBack, OfferFails, Empties, FlushLeaves};
+ghost use Rattle.channel_core.specs.Costs.{CostsHeaps, OfferCosts};
+ghost use Rattle.channel_core.specs.Seen.{queued_in, seen_channel};
+ghost use Rattle.channel_core.specs.Storing.{Defers, Offers, OfferBack, OfferFails, Empties, FlushEmpties, FlushLeaves, FlushStores};
 ghost use Rattle.channel_core.specs.Deleting.{Deletes, DeleteSeen, DeleteStands, DeleteFinds, DeleteGone, DeleteFails};
 
 use super::Channel;
@@ -48,7 +49,8 @@ impl Channel {
         ensures rest { self.new ≡ record self.old { message_count = self.new.message_count; backlog = self.new.backlog; deferred = self.new.deferred; deferred_spare = self.new.deferred_spare } }
         ensures disk { KeepsDisk F.tells_files (around self.old.backlog (F.files folder.old) (F.folder_faults folder.old)) (around self.new.backlog (F.files folder.new) (F.folder_faults folder.new)) }
         ensures cause { OfferFails message.delay (F.folder_faults folder.old) (F.folder_faults folder.new) result }
-        ensures steps { CostsCalls 1 (items self.old) steps.old steps.new }
+        ensures steps { OfferCosts self.old steps.old steps.new result }
+        ensures free { message.delay ≡ 0 → steps.new ≡ steps.old }
     {
         if message.delay != 0 {
             return self.defer(message, now, steps);
@@ -82,8 +84,9 @@ impl Channel {
     }
 
     /// Writes all copies of a durable channel behind those on disk, the ring's, those in flight and the deferred ones, each of the two by due
-    /// moment, and saves: an opening finds them all. After a fault nothing is claimed of where the copies are, and one that the folder refused is
-    /// in no place any more. An ephemeral channel stays as it is. It takes no memory. Requires that nothing is drawn, and 16,777,242 bytes of `scratch`.
+    /// moment, and saves: an opening finds them all, and none is left in memory. After a fault nothing is claimed of where the copies are, and one
+    /// that the folder refused is in no place any more. An ephemeral channel stays as it is, and asks nothing of the folder. It takes no memory.
+    /// Requires that nothing is drawn, and 16,777,242 bytes of `scratch`.
     pub fn flush<F: Folder, L: Ledger>(
         &mut self,
         folder: &mut F,
@@ -93,12 +96,15 @@ impl Channel {
         requires nothing { self.old.drawn ≡ drawn.Nothing }
         requires scratch { 16777242 ≤ length scratch.old }
         ensures found { IsTrue F.tells_files → (disk : List Message) → OnDisk self.old.backlog.queue (F.files folder.old) disk → Stands self.old.backlog.queue (F.files folder.old) → FlushLeaves (left_in_channel (seen_channel self.old disk)) self.old.about (F.files folder.new) result }
+        ensures empties { FlushEmpties self.old.about self.new result }
+        ensures stores { IsTrue F.tells_files → (disk : List Message) → OnDisk self.old.backlog.queue (F.files folder.old) disk → FlushStores (left_in_channel (seen_channel self.old disk)) self.old.about self.new (F.files folder.new) result }
         ensures ephemeral { is_ephemeral_channel self.old.about.topic self.old.about.name ≡ true → self.new ≡ self.old }
+        ensures idle { is_ephemeral_channel self.old.about.topic self.old.about.name ≡ true → (folder.new ≡ folder.old) × (steps.new ≡ steps.old) × (result ≡ FlushDone) }
         ensures rest { self.new ≡ record self.old { backlog = self.new.backlog; flights = self.new.flights; deferred = self.new.deferred; spare = self.new.spare; deferred_spare = self.new.deferred_spare } }
         ensures nothing_now { self.new.drawn ≡ drawn.Nothing }
         ensures disk { KeepsDisk F.tells_files (around self.old.backlog (F.files folder.old) (F.folder_faults folder.old)) (around self.new.backlog (F.files folder.new) (F.folder_faults folder.new)) }
         ensures cause { FlushFails (F.folder_faults folder.old) (F.folder_faults folder.new) result }
-        ensures steps { CostsCalls (items self.old) (items self.old) steps.old steps.new }
+        ensures steps { CostsHeaps (length self.old.flights) (length self.old.deferred) self.old steps.old steps.new }
     {
         if is_ephemeral(self.about.topic, self.about.name) {
             return Flushed::Done;
@@ -195,7 +201,7 @@ impl Channel {
         requires delay { message.delay ≤ 2 ^ 62 }
         ensures defers { Defers now message self.old self.new result }
         ensures rest { self.new ≡ record self.old { message_count = self.new.message_count; deferred = self.new.deferred; deferred_spare = self.new.deferred_spare } }
-        ensures steps { CostsCalls 1 (items self.old) steps.old steps.new }
+        ensures steps { OfferCosts self.old steps.old steps.new result }
     {
         let Some(most) = self.flights.len().checked_add(1) else {
             return Offer::Memory(message);

@@ -1,7 +1,7 @@
 use Rattle.std.proofs.Common.{◌∙◌, ap, refl, arith}
 use Rattle.channel_copies.proofs.Counts.{shorter}
 use Rattle.channel_core.specs.Seen.{Seen}
-use Rattle.channel_core.proofs.Keeping.{still_whole, nothing_lent, costs_flights}
+use Rattle.channel_core.proofs.Keeping.{still_whole, nothing_lent, costs_flying}
 use Rattle.channel_core.proofs.Rows.{asked, finished}
 use Rattle.channel_core.proofs.channel.Channel.finish.Goals as goal
 
@@ -17,4 +17,4 @@ pub returns-clause-row : goal.returns-clause-row
 returns-clause-row g c = finished c.take.result c.self.view_is c.requires.yours c.take.ensures.id c.take.ensures.leaves c.take.ensures.none refl
 
 pub returns-clause-steps : goal.returns-clause-steps
-returns-clause-steps g c = costs_flights 1 c.args.steps.now c.take.new.steps c.self.view_is c.take.ensures.steps
+returns-clause-steps g c = costs_flying 1 c.args.steps.now c.take.new.steps c.self.view_is c.take.ensures.steps

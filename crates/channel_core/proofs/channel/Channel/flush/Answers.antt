@@ -1,9 +1,9 @@
 use Rattle.std.proofs.Common.{◌∙◌, length, sym, ap, arith}
 use Rattle.channel_copies.specs.Putting.{around}
 use Rattle.channel_core.specs.Seen.{Seen}
-use Rattle.channel_core.proofs.Keeping.{durable_queue, keeps_of, nothing_lent, still_named, still_whole}
+use Rattle.channel_core.proofs.Keeping.{costs_all, costs_first, durable_queue, keeps_of, nothing_lent, still_named, still_whole}
 use Rattle.channel_storing.proofs.Capacity.{flush_capacity}
-use Rattle.channel_core.proofs.Storing.{flush_leaves}
+use Rattle.channel_core.proofs.Storing.{flush_empties, flush_leaves, flush_stores}
 use Rattle.channel_storing.proofs.Wrote.{keeps_joined, same_there}
 use Rattle.channel_core.proofs.channel.Channel.flush.Goals as goal
 
@@ -70,3 +70,24 @@ returns-clause-found g c = λ told disk on stands.
     flush_leaves (files c.args.folder.now) (count c.args.folder.now) flew waited (files c.flush.new.folder) disk c.flush.result c.self.view_is told on c.in-Done.ensures.stores c.in-Done-write_deferred.ensures.stores
     (same_there _ _ kept.queue durable) named
     (λ d there. c.flush.ensures.found told d there stood)
+
+pub returns-clause-empties : goal.returns-clause-empties
+returns-clause-empties g c = flush_empties c.args.self.now.about c.write_deferred.new.backlog c.flush.result _ c.flush.ensures.seen c.in-Done.ensures.left c.in-Done-write_deferred.ensures.left
+
+pub returns-clause-stores : goal.returns-clause-stores
+returns-clause-stores g c = λ told disk on.
+    let files = g.F.Folder.files in
+    let count = g.F.Folder.folder_faults in
+    let flew = around c.write_flights.new.backlog (files c.write_flights.new.folder) (count c.write_flights.new.folder) in
+    let waited = around c.write_deferred.new.backlog (files c.write_deferred.new.folder) (count c.write_deferred.new.folder) in
+    flush_stores (files c.args.folder.now) (count c.args.folder.now) flew waited _ (files c.flush.new.folder) disk c.flush.result c.self.view_is told on c.in-Done.ensures.stores c.in-Done-write_deferred.ensures.stores c.flush.ensures.seen
+    (λ d there. c.flush.ensures.list told d there)
+
+pub returns-in-Fault-clause-steps : goal.returns-in-Fault-clause-steps
+returns-in-Fault-clause-steps g c = costs_first c.args.steps.now c.write_flights.new.steps c.self.view_is c.write_flights.ensures.steps
+
+pub returns-in-Fault-write_deferred-clause-steps : goal.returns-in-Fault-write_deferred-clause-steps
+returns-in-Fault-write_deferred-clause-steps g c = costs_all c.args.steps.now c.write_flights.new.steps c.write_deferred.new.steps c.self.view_is c.write_flights.ensures.steps c.write_deferred.ensures.steps
+
+pub returns-clause-steps : goal.returns-clause-steps
+returns-clause-steps g c = costs_all c.args.steps.now c.write_flights.new.steps c.write_deferred.new.steps c.self.view_is c.write_flights.ensures.steps c.write_deferred.ensures.steps

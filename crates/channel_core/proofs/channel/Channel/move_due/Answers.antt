@@ -1,8 +1,9 @@
 use Rattle.std.proofs.Common.{rules, ◌∙◌, refl, sym, subst}
 use Rattle.channel_copies.specs.Putting.{around}
 use Rattle.channel_core.specs.Answers.{TellsDue}
+use Rattle.channel_core.specs.Costs.{MoveCosts}
 use Rattle.channel_core.specs.Seen.{channel_with, queued_in}
-use Rattle.channel_core.proofs.Dues.{flies_there, waits_there}
+use Rattle.channel_core.proofs.Dues.{costs_came_due, costs_timed_out, flies_there, waits_there}
 use Rattle.channel_storing.proofs.Wrote.{keeps_none}
 use Rattle.channel_core.proofs.channel.Channel.move_due.Goals as goal
 
@@ -27,3 +28,12 @@ come_due-requires-clause-there g c = waits_there c.in-Some.id c.args.now c.args.
 
 pub returns-clause-row : goal.returns-clause-row
 returns-clause-row g c = λ told disk on. c.come_due.ensures.row told c.args.now (search rules) disk on
+
+pub returns-in_default-clause-steps : goal.returns-in_default-clause-steps
+returns-in_default-clause-steps g c = subst (MoveCosts c.args.self.now c.args.steps.now c.args.steps.now) (sym c.in_default.is ∙ c.due.ensures.is) refl
+
+pub returns-then-flies-clause-steps : goal.returns-then-flies-clause-steps
+returns-then-flies-clause-steps g c = costs_timed_out c.args.self.now c.args.steps.now c.time_out.new.steps c.in-Some.id (search rules) c.time_out.ensures.steps
+
+pub returns-clause-steps : goal.returns-clause-steps
+returns-clause-steps g c = costs_came_due c.args.self.now c.args.steps.now c.come_due.new.steps c.in-Some.id (search rules) c.come_due.ensures.steps

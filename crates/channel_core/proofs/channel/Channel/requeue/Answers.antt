@@ -4,7 +4,7 @@ use Rattle.backlog.specs.Lists.{OnDisk}
 use Rattle.channel_copies.specs.Putting.{around}
 use Rattle.channel_copies.proofs.Counts.{shorter, as_long}
 use Rattle.channel_core.specs.Seen.{Seen}
-use Rattle.channel_core.proofs.Keeping.{costs_both, costs_deferred, costs_flights, keeps_of, nothing_lent, put_named, still_whole}
+use Rattle.channel_core.proofs.Keeping.{costs_both, costs_flying, keeps_of, nothing_lent, put_named, still_whole}
 use Rattle.channel_core.proofs.Moving.{gave_back, was_deferred, flies_again}
 use Rattle.channel_core.proofs.Rows.{asked}
 use Rattle.channel_storing.proofs.Wrote.{keeps_put}
@@ -78,11 +78,19 @@ pub returns-in-Fault-clause-cause : goal.returns-in-Fault-clause-cause
 returns-in-Fault-clause-cause g c = (c.if-delay-ne0.false, c.in-Fault.ensures.moves.puts.cause)
 
 pub returns-then-delay-ne0-clause-steps : goal.returns-then-delay-ne0-clause-steps
-returns-then-delay-ne0-clause-steps g c =
-    costs_both _ c.args.steps.now c.take-flight.new.steps c.put.new.steps (costs_flights 1 c.args.steps.now c.take-flight.new.steps c.self.view_is c.take-flight.ensures.steps) (costs_deferred 1 c.take-flight.new.steps c.put.new.steps c.self.view_is c.put.ensures.steps)
+returns-then-delay-ne0-clause-steps g c = record {
+  at_once = λ none. absurd (c.if-delay-ne0.true none);
+  later = λ some. costs_both 1 1 c.args.steps.now c.take-flight.new.steps c.put.new.steps c.self.view_is c.take-flight.ensures.steps c.put.ensures.steps;
+}
 
 pub returns-in-Done-clause-steps : goal.returns-in-Done-clause-steps
-returns-in-Done-clause-steps g c = costs_flights 2 c.args.steps.now c.move_back.new.steps c.self.view_is c.move_back.ensures.steps
+returns-in-Done-clause-steps g c = record {
+  at_once = λ none. costs_flying 2 c.args.steps.now c.move_back.new.steps c.self.view_is c.move_back.ensures.steps;
+  later = λ some. absurd (some c.if-delay-ne0.false);
+}
 
 pub returns-in-Fault-clause-steps : goal.returns-in-Fault-clause-steps
-returns-in-Fault-clause-steps g c = costs_flights 2 c.args.steps.now c.move_back.new.steps c.self.view_is c.move_back.ensures.steps
+returns-in-Fault-clause-steps g c = record {
+  at_once = λ none. costs_flying 2 c.args.steps.now c.move_back.new.steps c.self.view_is c.move_back.ensures.steps;
+  later = λ some. absurd (some c.if-delay-ne0.false);
+}

@@ -4,7 +4,7 @@ use Rattle.channel_copies.specs.Clients.{client_of}
 use Rattle.channel_copies.specs.Putting.{around}
 use Rattle.channel_copies.proofs.Counts.{shorter}
 use Rattle.channel_core.specs.Seen.{Seen}
-use Rattle.channel_core.proofs.Keeping.{costs_flights, keeps_of, still_named, still_whole, to_send}
+use Rattle.channel_core.proofs.Keeping.{costs_flying, keeps_of, still_named, still_whole, to_send}
 use Rattle.channel_storing.proofs.Capacity.{settle_capacity}
 use Rattle.channel_core.proofs.Rows.{sent_row}
 use Rattle.channel_core.proofs.channel.Channel.sent.Goals as goal
@@ -43,4 +43,4 @@ returns-clause-disk g c =
     (record { queue = c.settle.ensures.queue; stands = c.settle.ensures.stands; others = c.settle.ensures.others; faults = c.settle.ensures.faults })
 
 pub returns-clause-steps : goal.returns-clause-steps
-returns-clause-steps g c = costs_flights 1 c.args.steps.now c.put.new.steps c.self.view_is c.put.ensures.steps
+returns-clause-steps g c = costs_flying 1 c.args.steps.now c.put.new.steps c.self.view_is c.put.ensures.steps

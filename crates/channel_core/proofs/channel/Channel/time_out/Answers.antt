@@ -5,7 +5,7 @@ use Rattle.channel_copies.specs.Putting.{around}
 use Rattle.channel_copies.proofs.Counts.{as_long, shorter}
 use Rattle.channel_core.specs.Seen.{Seen, queued_in}
 use Rattle.channel_core.proofs.Dues.{flight_is_due, flight_told, timed_out_due}
-use Rattle.channel_core.proofs.Keeping.{costs_flights, keeps_of, nothing_lent, put_named, still_whole}
+use Rattle.channel_core.proofs.Keeping.{costs_flying, keeps_of, nothing_lent, put_named, still_whole}
 use Rattle.channel_core.proofs.Moving.{flies_again, timed_out}
 use Rattle.channel_storing.proofs.Wrote.{keeps_put}
 use Rattle.channel_core.proofs.channel.Channel.time_out.Goals as goal
@@ -63,7 +63,7 @@ pub returns-in-Fault-clause-cause : goal.returns-in-Fault-clause-cause
 returns-in-Fault-clause-cause g c = c.in-Fault.ensures.moves.puts.cause
 
 pub returns-in-Done-clause-steps : goal.returns-in-Done-clause-steps
-returns-in-Done-clause-steps g c = costs_flights 2 c.args.steps.now c.move_back.new.steps c.self.view_is c.move_back.ensures.steps
+returns-in-Done-clause-steps g c = costs_flying 2 c.args.steps.now c.move_back.new.steps c.self.view_is c.move_back.ensures.steps
 
 pub returns-in-Fault-clause-steps : goal.returns-in-Fault-clause-steps
-returns-in-Fault-clause-steps g c = costs_flights 2 c.args.steps.now c.move_back.new.steps c.self.view_is c.move_back.ensures.steps
+returns-in-Fault-clause-steps g c = costs_flying 2 c.args.steps.now c.move_back.new.steps c.self.view_is c.move_back.ensures.steps

@@ -1,7 +1,7 @@
 use Rattle.std.proofs.Common.{◌∙◌, sym, ap, subst, refl, arith, IsSome}
 use Rattle.channel_copies.specs.Clients.{client_of}
 use Rattle.channel_core.specs.Seen.{Seen}
-use Rattle.channel_core.proofs.Keeping.{still_whole, nothing_lent, costs_flights}
+use Rattle.channel_core.proofs.Keeping.{still_whole, nothing_lent, costs_flying}
 use Rattle.channel_core.proofs.Rows.{asked, as_many, touched_now}
 use Rattle.channel_core.proofs.channel.Channel.touch.Goals as goal
 
@@ -26,4 +26,4 @@ pub returns-clause-row : goal.returns-clause-row
 returns-clause-row g c = touched_now c.get.result c.self.view_is c.requires.yours c.get.ensures.value refl c.touch.ensures.prolongs refl
 
 pub returns-clause-steps : goal.returns-clause-steps
-returns-clause-steps g c = costs_flights 2 c.args.steps.now c.touch.new.steps c.self.view_is c.touch.ensures.steps
+returns-clause-steps g c = costs_flying 2 c.args.steps.now c.touch.new.steps c.self.view_is c.touch.ensures.steps

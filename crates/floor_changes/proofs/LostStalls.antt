@@ -55,19 +55,19 @@ left_true : (a b : Bool) → a && b ≡ true → a ≡ true
 left_true true b e = refl
 left_true false b e = absurd (false≢true e)
 
-right_true : (a b : Bool) → a && b ≡ true → b ≡ true
+pub right_true : (a b : Bool) → a && b ≡ true → b ≡ true
 right_true true b e = e
 right_true false b e = absurd (false≢true e)
 
-right_of : (a b : Bool) → a && b ≡ false → a ≡ true → b ≡ false
+pub right_of : (a b : Bool) → a && b ≡ false → a ≡ true → b ≡ false
 right_of true b e f = e
 right_of false b e f = absurd (false≢true f)
 
-and_false : (a b : Bool) → a ≡ false → a && b ≡ false
+pub and_false : (a b : Bool) → a ≡ false → a && b ≡ false
 and_false true b e = absurd (false≢true (sym e))
 and_false false b e = refl
 
-neither : (a b : Bool) → (a ≡ true → b ≡ true → ⊥) → a && b ≡ false
+pub neither : (a b : Bool) → (a ≡ true → b ≡ true → ⊥) → a && b ≡ false
 neither true true f = absurd (f refl refl)
 neither true false f = refl
 neither false b f = refl
@@ -88,7 +88,7 @@ bytes_turned : (a b : List ℕ) → bytes_eq a b ≡ false → bytes_eq b a ≡ 
 bytes_turned a b e = untrue (bytes_eq b a) (λ same. false≢true (sym e ∙ ap (λ n. bytes_eq n b) (sym (exact_bytes b a same)) ∙ same_bytes b))
 
 -- of two channels a client has one
-on_one : (o : Option Route) (topic channel t k : List ℕ) → is_on o topic channel ≡ true → bytes_eq topic t && bytes_eq channel k ≡ false → is_on o t k ≡ false
+pub on_one : (o : Option Route) (topic channel t k : List ℕ) → is_on o topic channel ≡ true → bytes_eq topic t && bytes_eq channel k ≡ false → is_on o t k ≡ false
 on_one None topic channel t k on apart = refl
 on_one (Some r) topic channel t k on apart =
     let one : topic ≡ r.topic = exact_bytes topic r.topic (left_true (bytes_eq topic r.topic) (bytes_eq channel r.channel) on) in
@@ -100,7 +100,7 @@ on_one (Some r) topic channel t k on apart =
     let both : bytes_eq topic t && bytes_eq channel k ≡ true = ap (λ b. b && bytes_eq channel k) (ap (bytes_eq topic) (sym t_is) ∙ same_bytes topic) ∙ ap (bytes_eq channel) (sym k_is) ∙ same_bytes channel in
     false≢true (sym apart ∙ both))
 
-and_both : (a b : Bool) → b ≡ false → a && b ≡ false
+pub and_both : (a b : Bool) → b ≡ false → a && b ≡ false
 and_both true b e = e
 and_both false b e = refl
 
@@ -175,7 +175,7 @@ All-append P [] ys a b = b
 All-append P (x ∷ xs) ys a b = All-cons P x (xs ++ ys) (a 0 x (omega arith)) (All-append P xs ys (λ i d l. a (suc i) d (omega (arith, l))) b)
 
 -- an item is put in, and those of other names are so for that
-All-put_apart : {X : Type 0} (key : X → List ℕ) (P Q : X → Type 0) (xs : List X) (x : X) → ((y : X) → bytes_eq (key x) (key y) ≡ false → P y → Q y) → All P xs → Q x → All Q (put_by key xs x)
+pub All-put_apart : {X : Type 0} (key : X → List ℕ) (P Q : X → Type 0) (xs : List X) (x : X) → ((y : X) → bytes_eq (key x) (key y) ≡ false → P y → Q y) → All P xs → Q x → All Q (put_by key xs x)
 All-put_apart key P Q xs x f all it =
     let before : (y : List ℕ) → is_before y (key x) ≡ true → bytes_eq (key x) y ≡ false = λ y h. other_from_order (key x) y _ (byte_order-flip y (key x) _ (Less-from_before (byte_order y (key x)) h)) refl in
     let after : (y : List ℕ) → is_before (key x) y ≡ true → bytes_eq (key x) y ≡ false = λ y h. other_from_order (key x) y _ (Less-from_before (byte_order (key x) y) h) refl in

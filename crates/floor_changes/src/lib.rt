@@ -1,10 +1,13 @@
-//! What goes from a hall: topics and channels that are dropped or deleted.
+//! What goes from a hall: topics and channels that are dropped or deleted, and clients; and a client's taking of a channel.
 #![tactic(auto)]
 
 mod going;
 mod losing;
 mod lost;
+mod seating;
+mod seats;
 
 pub use going::{delete_room, drop_room, forget_room};
 pub use losing::lose_stall;
 pub use lost::Lost;
+pub use seating::{part, take_seat};

@@ -1,15 +1,15 @@
 -- A topic that has no channel goes from a hall, and from the states that the hall stands for.
-use Rattle.std.proofs.Common.{◌≡◌, ◌≢◌, ◌⊎◌, inl, inr, ◌≤◌, ◌<◌, ◌^◌, ℕ, suc, set, Bool, true, false, not, if◌then◌else◌, List, [], ◌∷◌, ◌++◌, length, take, drop, get_or, Option, Some, None, refl, sym, ap, subst, ◌∙◌, append_assoc, arith}
+use Rattle.std.proofs.Common.{◌≡◌, ◌⊎◌, inl, inr, ◌≤◌, ◌<◌, ◌^◌, ℕ, suc, set, Bool, true, false, not, if◌then◌else◌, List, [], ◌∷◌, ◌++◌, length, take, drop, get_or, Option, Some, None, refl, sym, ap, subst, ◌∙◌, append_assoc, arith}
 use Rattle.std.specs.Prelude.{HoldsAt, IfSome, IsSome, is_some, option_and_then}
-use Rattle.std.specs.List.{All, AllPairs, Contains, filter, find, insert, slice_get}
+use Rattle.std.specs.List.{All, filter, insert, slice_get}
 use Rattle.std.specs.Global.{Vec}
 use Rattle.std.specs.Str.{bytes_eq}
 use Rattle.std.proofs.Math.Seq.{drop-append_seam, take-append_seam}
 use Rattle.std.proofs.lemmas.Bool.{false≢true}
-use Rattle.std.proofs.lemmas.List.{get_or-set_same, length-set, length-take-le, set_split, take-append-drop}
-use Rattle.std.proofs.lemmas.List.Elements.{All-filter, All-nil, All-weaker, filter-append, filter_passes}
+use Rattle.std.proofs.lemmas.List.{drop-set-lt, get_or-set_same, length-set, length-take-le, set_split, take-set}
+use Rattle.std.proofs.lemmas.List.Elements.{All-filter, All-weaker, filter-append, filter_passes}
 use Rattle.std.proofs.lemmas.List.Kept.{AllPairs-filter}
-use Rattle.std.proofs.lemmas.Option.{get_or_from_slice_get, slice_get_within}
+use Rattle.std.proofs.lemmas.Option.{get_or_from_slice_get}
 use Rattle.nsq_base.specs.Name.{IsName, is_ephemeral}
 use Rattle.nsq_base.specs.Names.{IsAscendingBy, byte_order, is_before}
 use Rattle.nsq_base.specs.Options.{IsInRange}
@@ -29,7 +29,7 @@ use Rattle.topic_core.specs.Seen.{Seen as TopicSeen, owed_of}
 use Rattle.topic_core.specs.Rows.{IsTopicOf}
 use Rattle.topic_core.specs.Deleting.{DropSeen}
 use Rattle.topic_core.specs.declared.answers.DropTopic.TheVariants as topics
-use Rattle.broker_history.specs.State.{Client, Route, State, Topic}
+use Rattle.broker_history.specs.State.{Route, State, Topic}
 use Rattle.broker_history.specs.Changes.{without_topic}
 use Rattle.broker_history.proofs.Lists.{exact_bytes, find_gone, same_bytes}
 use Rattle.channel_core.specs.Seen.{queue_name}
@@ -40,15 +40,17 @@ use Rattle.floor_rooms.specs.declared.stall.Stall.{Stall}
 use Rattle.floor_rooms.specs.declared.room.Room.{Room}
 use Rattle.floor_rooms.specs.declared.hall.Hall.{Hall}
 use Rattle.floor_rooms.specs.Rooms.{channel_name, stall_names, topic_name, room_in, stall_in, stall_at, without_room}
-use Rattle.floor_rooms.specs.Sound.{AreMembers, AsksForNone, HasItsChannel, IsRoomSound, IsSound, rests}
+use Rattle.floor_rooms.specs.Sound.{AreMembers, AsksForNone, HasItsChannel, IsPast, IsRoomSound, IsSound, rests}
 use Rattle.floor_rooms.specs.Standing.{HoldsFor, IsDurableChannel, IsDurableTopic, IsRoomOf}
-use Rattle.floor_rooms.specs.Changes.{AtRoom, OthersStay, TouchesRoom, marked}
+use Rattle.floor_rooms.specs.Changes.{AtRoom, KeepsRooms, OnlyQueueFiles, OthersStay, TouchesRoom, marked}
 use Rattle.floor_rooms.proofs.Placing.{at_place, found_at, standing_at}
 use Rattle.floor_rooms.proofs.Staying.{IsElsewhere, idle_stays, others_stay, room_named, room_stays, topic_is_no_channel}
 use Rattle.floor_rooms.proofs.Changing.{IsNamedRoom, apart_names, named_room}
-use Rattle.floor_rooms.proofs.Sounding.{KeepsRest, at_all, room_lowered, room_touched, sound_at_room}
+use Rattle.floor_rooms.proofs.Sounding.{KeepsRest, all_past, at_all, room_lowered, room_past, room_touched, sound_at_room}
 use Rattle.floor_rooms.proofs.Holding.{StaysElse}
 use Rattle.floor_rooms.proofs.Marked.{IsElse, MarksRoom, else_keeps, else_stays}
+use Rattle.floor_rooms.proofs.Dating.{keeps_at_room, keeps_marks_room, keeps_room_alike, keeps_then, since_equal}
+use Rattle.floor_rooms.proofs.Filing.{only_of_topic}
 use Rattle.floor_rooms.proofs.Orders.{room_as_before}
 use Rattle.floor_rooms.proofs.Turning.{room_change}
 
@@ -79,7 +81,7 @@ if_some_weaker P Q None f h = h
 if_some_weaker P Q (Some x) f h = f x h
 
 -- none is found behind the going: it is the one that went, or it wasn't there before
-gone_one : {X : Type 0} (Q : Option X → Type 0) (o : Option X) (b : Bool) → Q (if b then None else o) → (b ≡ true) ⊎ ((b ≡ false) × Q o)
+pub gone_one : {X : Type 0} (Q : Option X → Type 0) (o : Option X) (b : Bool) → Q (if b then None else o) → (b ≡ true) ⊎ ((b ≡ false) × Q o)
 gone_one Q o true h = inl refl
 gone_one Q o false h = inr (refl, h)
 
@@ -129,6 +131,7 @@ module _ (h h' : Hall) (i : ℕ) (room : Room) (sound : IsSound h) (at : slice_g
             (λ c has. if_some_weaker (λ (route : Route). IsSome (stall_at h.rooms.items route.topic route.channel)) (λ (route : Route). IsSome (stall_at h'.rooms.items route.topic route.channel)) (held_channel c.phase c.route)
             (λ route there. still_there route.topic route.channel there) has) h.clients.items sound.channels);
         ready = subst (All AsksForNone) (sym keeps.clients) sound.ready;
+        past = subst (All (IsPast h'.moment)) (sym left_rooms) (All-filter p (IsPast h'.moment) h.rooms.items (all_past h h' keeps.later sound));
       }
 
   module _ (old new : Files) (s : State) (rest : StaysElse h h') (others : OthersStay (topic_name room) old new) (idle : is_ephemeral (topic_name room) ≡ false → IsIdle (new (meta_file (topic_name room)))) (holds : HoldsFor h old s) where
@@ -204,9 +207,9 @@ keeps_rooms h rooms unsaved sound = else_keeps h (record h { rooms = rooms; unsa
 
 -- a queue whose deletion is done begins with nothing
 forgotten_idle : (queue : Option Queue) (e : Bool) (name : List ℕ) (files : Files) → is_some queue ≡ not e → e ≡ false → IfSome queue (λ q. q.name ≡ name) → DeleteFinds queue files IsGone → IsIdle (files (meta_file name))
-forgotten_idle None true name files some durable is found = absurd (false≢true (sym durable))
-forgotten_idle None false name files some durable is found = absurd (false≢true some)
-forgotten_idle (Some q) e name files some durable is found = subst (λ n. IsIdle (files (meta_file n))) is found.idle
+forgotten_idle None true name files some durable is finds = absurd (false≢true (sym durable))
+forgotten_idle None false name files some durable is finds = absurd (false≢true some)
+forgotten_idle (Some q) e name files some durable is finds = subst (λ n. IsIdle (files (meta_file n))) is finds.idle
 
 -- one that could not be deleted has the same name and as many records
 same_kept : (q r : Option Queue) → EmptyQueueSeen q r emptying.Fault → SameQueue q r
@@ -258,6 +261,20 @@ module _ (h0 h1 : Hall) (i : ℕ) (room : Room) (sound : IsSound h1) (range : i 
   pub marked_idle : (new : Files) → DeleteFinds room.queue.backlog.queue new IsGone → is_ephemeral (topic_name room) ≡ false → IsIdle (new (meta_file (topic_name room)))
   marked_idle new found durable = forgotten_idle room.queue.backlog.queue (is_ephemeral (topic_name room)) (topic_name room) new room_sound.backlog.durable durable room_sound.backlog.queue found
 
+  -- only its mark changed before it went
+  pub marked_keeps : KeepsRooms h0.moment h0.rooms.items h1.rooms.items
+  marked_keeps = keeps_marks_room h0.moment i h0.rooms.items h1.rooms.items at
+
+  pub marked_gone : IsSound h0 → (xs : List Room) → xs ≡ take i h1.rooms.items ++ drop (suc i) h1.rooms.items → (d : Room) → xs ≡ without_room h0.rooms.items (topic_name (get_or h0.rooms.items i d))
+  marked_gone sound0 xs e d =
+      let same : get_or h0.rooms.items i d ≡ at.room = get_or_from_slice_get h0.rooms.items i at.room d at.there in
+      e ∙ ap (λ (zs : List Room). take i zs ++ drop (suc i) zs) at.is ∙ ap (λ (zs : List Room). zs ++ drop (suc i) (set h0.rooms.items i at.after)) (take-set h0.rooms.items i at.after)
+      ∙ ap (λ (zs : List Room). take i h0.rooms.items ++ zs) (drop-set-lt (suc i) h0.rooms.items i at.after (omega arith))
+      ∙ gone_standing topic_name h0.rooms.items (topic_name at.room) i at.room (standing_at topic_name h0.rooms.items i at.room sound0.room_order at.there) ∙ ap (λ (r : Room). without_room h0.rooms.items (topic_name r)) (sym same)
+
+  pub marked_only : (old new : Files) → DiskChanges room.queue.backlog.queue old new → OnlyQueueFiles old new
+  marked_only old new change = only_of_topic (topic_name room) room.queue.backlog.queue old new room_sound.named room_sound.backlog.queue change
+
   module _ (h2 : Hall) (rest : IsElse h1 h2) (back : AtRoom i KeepsBack h1.rooms.items h2.rooms.items) where
     back_is : back.room ≡ room
     back_is = sym (get_or_from_slice_get h1.rooms.items i back.room room back.there) ∙ get_or_from_slice_get h1.rooms.items i room room marked_at
@@ -298,9 +315,16 @@ module _ (h0 h1 : Hall) (i : ℕ) (room : Room) (sound : IsSound h1) (range : i 
       rests = λ l. back_rests ∙ back_room.rests (sym (ap (λ (r : Room). r.listed) back.does.0) ∙ l);
     }
 
+    pub back_keeps : KeepsRooms h0.moment h0.rooms.items h2.rooms.items
+    back_keeps =
+        keeps_then h0.moment h0.rooms.items h1.rooms.items h2.rooms.items marked_keeps
+        (keeps_at_room h0.moment i KeepsBack h1.rooms.items h2.rooms.items back
+        (keeps_room_alike h0.moment back.room back.after back_name (ap (λ (q : TopicSeen). q.paused) seen_queue) (since_equal h0.moment back.room.since back.after.since (ap (λ (r : Room). r.since) back.does.0)) (ap (λ (r : Room). r.stalls.items) back.does.0)))
+
     pub back_sound : KeepsRest h1 h2 → IsSound h2
     back_sound keeps =
         sound_at_room h1 h2 i KeepsBack sound keeps back back_name (ap (λ (r : Room). r.stalls.items) back.does.0) (room_touched h1 h2 back.room back.after keeps.lowers back_room back_touches)
+        (subst (λ o. IfSome o (λ m. m ≤ h2.moment)) (sym (ap (λ (r : Room). r.since) back.does.0)) (room_past h1 h2 i KeepsBack sound keeps.later back))
 
     pub back_stands : (old new : Files) (s : State) → DiskChanges room.queue.backlog.queue old new → ((t : Topic) → IsTopicOf back.room.queue old t → IsTopicOf back.after.queue new t) → (Stands back.room.queue.backlog.queue old → Stands back.after.queue.backlog.queue new) → HoldsFor h1 old s → HoldsFor h2 new s
     back_stands old new s change topic stands holds =

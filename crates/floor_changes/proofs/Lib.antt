@@ -1,1 +1,5 @@
 pub mod Goes
+pub mod LostClients
+pub mod LostStalls
+pub mod LostPlaces
+pub mod LostWhole

@@ -1,8 +1,10 @@
-//! What goes from a hall: topics that are dropped or deleted.
+//! What goes from a hall: topics and channels that are dropped or deleted.
 #![tactic(auto)]
 
 mod going;
+mod losing;
 mod lost;
 
 pub use going::{delete_room, drop_room, forget_room};
+pub use losing::lose_stall;
 pub use lost::Lost;

@@ -1,11 +1,14 @@
-use Rattle.std.proofs.Common.{List, ℕ, true, refl, ap, subst, ◌∙◌}
+use Rattle.std.proofs.Common.{List, ℕ, true, get_or, refl, ap, subst, ◌∙◌}
 use Rattle.std.specs.List.{insert}
 use Rattle.broker_history.specs.Changes.{without_topic}
+use Rattle.floor_rooms.specs.declared.hall.Hall.{Hall}
 use Rattle.floor_rooms.specs.declared.room.Room.{Room}
 use Rattle.floor_rooms.specs.Rooms.{topic_name}
 use Rattle.floor_rooms.specs.Changes.{AtRoom, OthersStay}
 use Rattle.floor_rooms.proofs.Marked.{else_stays}
-use Rattle.floor_changes.proofs.Goes.{KeepsBack, back_sound, back_stands, keeps_rooms, left_sound, left_stands, marked_at, marked_idle, marked_name, marked_none, marked_others, marked_range, put_back_at}
+use Rattle.floor_rooms.proofs.Dating.{since_kept, since_without}
+use Rattle.floor_rooms.proofs.Naming.{names_kept}
+use Rattle.floor_changes.proofs.Goes.{KeepsBack, back_keeps, back_sound, back_stands, keeps_rooms, left_sound, left_stands, marked_at, marked_gone, marked_idle, marked_only, marked_name, marked_none, marked_others, marked_range, put_back_at}
 use Rattle.floor_changes.proofs.going.delete_room.Goals as goal
 
 pub returns-in-Done-clause-sound : goal.returns-in-Done-clause-sound
@@ -92,3 +95,58 @@ returns-in-Ok-clause-others g c = λ told d.
     let new = g.F.Folder.files c.delete.new.folder in
     subst (λ (n : List ℕ). OthersStay n old new) (marked_name h0 h1 c.args.i room mark.sound c.requires.room mark.room c.requires.none c.remove-queue.ensures.value d)
     (marked_others h0 h1 c.args.i room mark.sound c.requires.room mark.room c.requires.none c.remove-queue.ensures.value old new (c.delete.ensures.others told))
+
+pub returns-in-Done-clause-rooms : goal.returns-in-Done-clause-rooms
+returns-in-Done-clause-rooms g c = λ d.
+    let h0 = c.args.hall.now in
+    let h1 = c.mark_room.new.self in
+    let room = c.remove-queue.result in
+    let mark = c.mark_room.ensures in
+    marked_gone h0 h1 c.args.i room mark.sound c.requires.room mark.room c.requires.none c.remove-queue.ensures.value c.requires.sound c.remove-queue.new.self.items c.remove-queue.ensures.items d
+
+pub returns-in-Done-clause-files : goal.returns-in-Done-clause-files
+returns-in-Done-clause-files g c = λ told.
+    let h0 = c.args.hall.now in
+    let h1 = c.mark_room.new.self in
+    let room = c.remove-queue.result in
+    let mark = c.mark_room.ensures in
+    marked_only h0 h1 c.args.i room mark.sound c.requires.room mark.room c.requires.none c.remove-queue.ensures.value (g.F.Folder.files c.args.folder.now) (g.F.Folder.files c.delete.new.folder) (c.delete.ensures.others told)
+
+pub returns-in-Done-clause-since : goal.returns-in-Done-clause-since
+returns-in-Done-clause-since g c =
+    let h0 = c.args.hall.now in
+    let h1 = c.mark_room.new.self in
+    let room = c.remove-queue.result in
+    let mark = c.mark_room.ensures in
+    since_without h0.moment h0.rooms.items c.remove-queue.new.self.items (topic_name (get_or h0.rooms.items c.args.i room)) (marked_gone h0 h1 c.args.i room mark.sound c.requires.room mark.room c.requires.none c.remove-queue.ensures.value c.requires.sound c.remove-queue.new.self.items c.remove-queue.ensures.items room)
+
+pub returns-in-Ok-clause-rooms : goal.returns-in-Ok-clause-rooms
+returns-in-Ok-clause-rooms g c = λ d.
+    let h0 = c.args.hall.now in
+    let h1 = c.mark_room.new.self in
+    let room = c.remove-queue.result in
+    let mark = c.mark_room.ensures in
+    let back : AtRoom c.args.i KeepsBack h1.rooms.items c.insert.new.self.items = record {
+      room = room;
+      after = record room { queue = c.in-Fault.queue };
+      there = marked_at h0 h1 c.args.i room mark.sound c.requires.room mark.room c.requires.none c.remove-queue.ensures.value;
+      is = c.in-Ok.ensures.items ∙ ap (λ (xs : List Room). insert xs c.args.i (record room { queue = c.in-Fault.queue })) c.remove-queue.ensures.items
+          ∙ put_back_at h1.rooms.items c.args.i (record room { queue = c.in-Fault.queue }) (marked_range h0 h1 c.args.i room mark.sound c.requires.room mark.room c.requires.none c.remove-queue.ensures.value);
+      does = (refl, c.in-Fault.ensures.seen);
+    } in
+    back_keeps h0 h1 c.args.i room mark.sound c.requires.room mark.room c.requires.none c.remove-queue.ensures.value (record h1 { rooms = c.insert.new.self }) refl back
+
+pub returns-in-Ok-clause-files : goal.returns-in-Ok-clause-files
+returns-in-Ok-clause-files g c = λ told.
+    let h0 = c.args.hall.now in
+    let h1 = c.mark_room.new.self in
+    let room = c.remove-queue.result in
+    let mark = c.mark_room.ensures in
+    marked_only h0 h1 c.args.i room mark.sound c.requires.room mark.room c.requires.none c.remove-queue.ensures.value (g.F.Folder.files c.args.folder.now) (g.F.Folder.files c.delete.new.folder) (c.delete.ensures.others told)
+
+pub returns-in-Ok-clause-names : goal.returns-in-Ok-clause-names
+returns-in-Ok-clause-names g c =
+    names_kept c.args.hall.now.moment c.args.hall.now (record (c.mark_room.new.self) { rooms = c.insert.new.self }) (ap (λ (x : Hall). x.unsaved_names) c.mark_room.ensures.rest) (returns-in-Ok-clause-rooms g c c.remove-queue.result)
+
+pub returns-in-Ok-clause-since : goal.returns-in-Ok-clause-since
+returns-in-Ok-clause-since g c = since_kept c.args.hall.now.moment c.args.hall.now.rooms.items c.insert.new.self.items (returns-in-Ok-clause-rooms g c c.remove-queue.result)

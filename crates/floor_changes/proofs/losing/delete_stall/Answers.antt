@@ -1,0 +1,329 @@
+use Rattle.std.proofs.Common.{◌≡◌, ◌∙◌, Some, get_or, refl, ap, subst}
+use Rattle.std.specs.List.{slice_get}
+use Rattle.std.specs.Vec.{with_item}
+use Rattle.std.proofs.lemmas.Option.{get_or_from_slice_get}
+use Rattle.backlog.specs.Lists.{DiskChanges}
+use Rattle.channel_core.specs.Seen.{queue_name}
+use Rattle.floor_rooms.specs.declared.stall.Stall.{Stall}
+use Rattle.floor_rooms.specs.declared.room.Room.{Room}
+use Rattle.floor_rooms.specs.declared.hall.Hall.{Hall}
+use Rattle.floor_rooms.specs.Rooms.{channel_name, topic_name}
+use Rattle.floor_rooms.specs.Changes.{AtStall, OthersStay}
+use Rattle.floor_rooms.proofs.Placing.{at_place}
+use Rattle.floor_rooms.proofs.Marked.{MarksStall}
+use Rattle.floor_rooms.proofs.Dating.{since_kept}
+use Rattle.floor_rooms.proofs.Naming.{names_kept}
+use Rattle.floor_changes.specs.Losing.{StaysBack}
+use Rattle.floor_changes.proofs.Goes.{keeps_rooms}
+use Rattle.floor_changes.proofs.LostPlaces.{at_stall_held, back_keeps, back_sound, back_stands, channel_was, held_stall, lost_only, lost_others, read_same, topic_was}
+use Rattle.floor_changes.proofs.LostWhole.{GoesOut, gone_clients, gone_files, gone_others, gone_rooms, gone_since, gone_stands, marked_range, whole_sound}
+use Rattle.floor_changes.proofs.losing.delete_stall.Goals as goal
+
+pub returns-in-None-clause-rooms : goal.returns-in-None-clause-rooms
+returns-in-None-clause-rooms g c = λ d e.
+    let h0 = c.args.hall.now in
+    let h1 = c.mark_stall.new.self in
+    let mark = c.mark_stall.ensures in
+    let room = c.index_mut.result.now in
+    let at : slice_get h1.rooms.items c.args.i ≡ Some room = at_place h1.rooms.items c.args.i room (marked_range h0.moment c.args.i c.args.j c.args.i h0.rooms.items h1.rooms.items mark.stall c.requires.room) c.index_mut.ensures.value in
+    let h2 = record h1 { rooms = with_item h1.rooms c.args.i c.take_out.new.room } in
+    let old = g.F.Folder.files c.args.folder.now in
+    let new = g.F.Folder.files c.take_out.new.folder in
+    let takes = c.in-None.ensures.takes in
+    let stall = takes.stall in
+    let back : AtStall c.args.i c.args.j (StaysBack g.F.Folder.tells_files old new) h1.rooms.items h2.rooms.items = record { room = room; after = c.take_out.new.room; there = at; is = refl; does = takes } in
+    back_keeps h0 h1 c.args.i c.args.j mark.sound mark.stall room at stall takes.there h2 refl g.F.Folder.tells_files old new back
+
+pub returns-in-None-clause-sound : goal.returns-in-None-clause-sound
+returns-in-None-clause-sound g c =
+    let h0 = c.args.hall.now in
+    let h1 = c.mark_stall.new.self in
+    let mark = c.mark_stall.ensures in
+    let room = c.index_mut.result.now in
+    let at : slice_get h1.rooms.items c.args.i ≡ Some room = at_place h1.rooms.items c.args.i room (marked_range h0.moment c.args.i c.args.j c.args.i h0.rooms.items h1.rooms.items mark.stall c.requires.room) c.index_mut.ensures.value in
+    let h2 = record h1 { rooms = with_item h1.rooms c.args.i c.take_out.new.room } in
+    let old = g.F.Folder.files c.args.folder.now in
+    let new = g.F.Folder.files c.take_out.new.folder in
+    let takes = c.in-None.ensures.takes in
+    let stall = takes.stall in
+    let back : AtStall c.args.i c.args.j (StaysBack g.F.Folder.tells_files old new) h1.rooms.items h2.rooms.items = record { room = room; after = c.take_out.new.room; there = at; is = refl; does = takes } in
+    back_sound h0 h1 c.args.i c.args.j mark.sound mark.stall room at stall takes.there h2 refl g.F.Folder.tells_files old new back (keeps_rooms h1 (with_item h1.rooms c.args.i c.take_out.new.room) h1.unsaved_names mark.sound) refl
+
+pub returns-in-None-clause-stands : goal.returns-in-None-clause-stands
+returns-in-None-clause-stands g c = λ told d e s holds.
+    let h0 = c.args.hall.now in
+    let h1 = c.mark_stall.new.self in
+    let mark = c.mark_stall.ensures in
+    let room = c.index_mut.result.now in
+    let at : slice_get h1.rooms.items c.args.i ≡ Some room = at_place h1.rooms.items c.args.i room (marked_range h0.moment c.args.i c.args.j c.args.i h0.rooms.items h1.rooms.items mark.stall c.requires.room) c.index_mut.ensures.value in
+    let h2 = record h1 { rooms = with_item h1.rooms c.args.i c.take_out.new.room } in
+    let old = g.F.Folder.files c.args.folder.now in
+    let new = g.F.Folder.files c.take_out.new.folder in
+    let takes = c.in-None.ensures.takes in
+    let stall = takes.stall in
+    let back : AtStall c.args.i c.args.j (StaysBack g.F.Folder.tells_files old new) h1.rooms.items h2.rooms.items = record { room = room; after = c.take_out.new.room; there = at; is = refl; does = takes } in
+    (s, refl, back_stands h0 h1 c.args.i c.args.j mark.sound mark.stall room at stall takes.there h2 refl g.F.Folder.tells_files old new back told s (lost_others h0 h1 c.args.i c.args.j mark.sound mark.stall room at stall takes.there old new (at_stall_held (λ (s : Stall). DiskChanges s.channel.backlog.queue old new) room.stalls.items c.args.j stall (c.take_out.ensures.disk told) takes.there)) (mark.stands old s holds))
+
+pub returns-in-None-clause-others : goal.returns-in-None-clause-others
+returns-in-None-clause-others g c = λ told.
+    let h0 = c.args.hall.now in
+    let h1 = c.mark_stall.new.self in
+    let mark = c.mark_stall.ensures in
+    let room = c.index_mut.result.now in
+    let at : slice_get h1.rooms.items c.args.i ≡ Some room = at_place h1.rooms.items c.args.i room (marked_range h0.moment c.args.i c.args.j c.args.i h0.rooms.items h1.rooms.items mark.stall c.requires.room) c.index_mut.ensures.value in
+    let h2 = record h1 { rooms = with_item h1.rooms c.args.i c.take_out.new.room } in
+    let old = g.F.Folder.files c.args.folder.now in
+    let new = g.F.Folder.files c.take_out.new.folder in
+    let takes = c.in-None.ensures.takes in
+    let stall = takes.stall in
+    let back : AtStall c.args.i c.args.j (StaysBack g.F.Folder.tells_files old new) h1.rooms.items h2.rooms.items = record { room = room; after = c.take_out.new.room; there = at; is = refl; does = takes } in
+    held_stall (λ t k. OthersStay (queue_name t k) old new) c.args.i c.args.j (MarksStall h0.moment) h0.rooms.items h1.rooms.items mark.stall
+    (subst (λ n. OthersStay (queue_name n (channel_name mark.stall.does.stall)) old new) (topic_was h0 h1 c.args.i c.args.j mark.sound mark.stall room at stall takes.there) (subst (λ k. OthersStay (queue_name (topic_name room) k) old new) (channel_was h0 h1 c.args.i c.args.j mark.sound mark.stall room at stall takes.there) (lost_others h0 h1 c.args.i c.args.j mark.sound mark.stall room at stall takes.there old new (at_stall_held (λ (s : Stall). DiskChanges s.channel.backlog.queue old new) room.stalls.items c.args.j stall (c.take_out.ensures.disk told) takes.there))))
+
+pub returns-in-None-clause-files : goal.returns-in-None-clause-files
+returns-in-None-clause-files g c = λ told.
+    let h0 = c.args.hall.now in
+    let h1 = c.mark_stall.new.self in
+    let mark = c.mark_stall.ensures in
+    let room = c.index_mut.result.now in
+    let at : slice_get h1.rooms.items c.args.i ≡ Some room = at_place h1.rooms.items c.args.i room (marked_range h0.moment c.args.i c.args.j c.args.i h0.rooms.items h1.rooms.items mark.stall c.requires.room) c.index_mut.ensures.value in
+    let h2 = record h1 { rooms = with_item h1.rooms c.args.i c.take_out.new.room } in
+    let old = g.F.Folder.files c.args.folder.now in
+    let new = g.F.Folder.files c.take_out.new.folder in
+    let takes = c.in-None.ensures.takes in
+    let stall = takes.stall in
+    let back : AtStall c.args.i c.args.j (StaysBack g.F.Folder.tells_files old new) h1.rooms.items h2.rooms.items = record { room = room; after = c.take_out.new.room; there = at; is = refl; does = takes } in
+    lost_only h0 h1 c.args.i c.args.j mark.sound mark.stall room at stall takes.there old new (at_stall_held (λ (s : Stall). DiskChanges s.channel.backlog.queue old new) room.stalls.items c.args.j stall (c.take_out.ensures.disk told) takes.there)
+
+pub returns-in-None-clause-names : goal.returns-in-None-clause-names
+returns-in-None-clause-names g c =
+    let h0 = c.args.hall.now in
+    let h1 = c.mark_stall.new.self in
+    let mark = c.mark_stall.ensures in
+    let room = c.index_mut.result.now in
+    let at : slice_get h1.rooms.items c.args.i ≡ Some room = at_place h1.rooms.items c.args.i room (marked_range h0.moment c.args.i c.args.j c.args.i h0.rooms.items h1.rooms.items mark.stall c.requires.room) c.index_mut.ensures.value in
+    let h2 = record h1 { rooms = with_item h1.rooms c.args.i c.take_out.new.room } in
+    let old = g.F.Folder.files c.args.folder.now in
+    let new = g.F.Folder.files c.take_out.new.folder in
+    let takes = c.in-None.ensures.takes in
+    let stall = takes.stall in
+    let back : AtStall c.args.i c.args.j (StaysBack g.F.Folder.tells_files old new) h1.rooms.items h2.rooms.items = record { room = room; after = c.take_out.new.room; there = at; is = refl; does = takes } in
+    names_kept h0.moment h0 h2 (ap (λ (x : Hall). x.unsaved_names) mark.rest) (back_keeps h0 h1 c.args.i c.args.j mark.sound mark.stall room at stall takes.there h2 refl g.F.Folder.tells_files old new back)
+
+pub returns-in-None-clause-since : goal.returns-in-None-clause-since
+returns-in-None-clause-since g c =
+    let h0 = c.args.hall.now in
+    let h1 = c.mark_stall.new.self in
+    let mark = c.mark_stall.ensures in
+    let room = c.index_mut.result.now in
+    let at : slice_get h1.rooms.items c.args.i ≡ Some room = at_place h1.rooms.items c.args.i room (marked_range h0.moment c.args.i c.args.j c.args.i h0.rooms.items h1.rooms.items mark.stall c.requires.room) c.index_mut.ensures.value in
+    let h2 = record h1 { rooms = with_item h1.rooms c.args.i c.take_out.new.room } in
+    let old = g.F.Folder.files c.args.folder.now in
+    let new = g.F.Folder.files c.take_out.new.folder in
+    let takes = c.in-None.ensures.takes in
+    let stall = takes.stall in
+    let back : AtStall c.args.i c.args.j (StaysBack g.F.Folder.tells_files old new) h1.rooms.items h2.rooms.items = record { room = room; after = c.take_out.new.room; there = at; is = refl; does = takes } in
+    since_kept h0.moment h0.rooms.items h2.rooms.items (back_keeps h0 h1 c.args.i c.args.j mark.sound mark.stall room at stall takes.there h2 refl g.F.Folder.tells_files old new back)
+
+pub returns-in-Some-clause-rooms : goal.returns-in-Some-clause-rooms
+returns-in-Some-clause-rooms g c =
+    let h0 = c.args.hall.now in
+    let h1 = c.mark_stall.new.self in
+    let mark = c.mark_stall.ensures in
+    let room = c.index_mut.result.now in
+    let at : slice_get h1.rooms.items c.args.i ≡ Some room = at_place h1.rooms.items c.args.i room (marked_range h0.moment c.args.i c.args.j c.args.i h0.rooms.items h1.rooms.items mark.stall c.requires.room) c.index_mut.ensures.value in
+    let takes = c.in-Some.ensures.takes in
+    let stall = takes.stall in
+    let topic : c.name-topic.result ≡ topic_name room = c.name-topic.ensures ∙ ap topic_name (read_same h1.rooms.items c.args.i room c.index.result.now at c.index.ensures) in
+    let channel : c.name-channel.result ≡ channel_name stall =
+    c.name-channel.ensures
+    ∙ ap channel_name (c.index-3.ensures ∙ ap (λ (r : Room). get_or r.stalls.items c.args.j c.index-3.result.now) (read_same h1.rooms.items c.args.i room c.index-2.result.now at c.index-2.ensures) ∙ get_or_from_slice_get room.stalls.items c.args.j stall c.index-3.result.now takes.there) in
+    let goes : GoesOut h1 c.strike.new.hall c.args.i c.args.j c.name-topic.result c.name-channel.result room c.take_out.new.room stall = record {
+      sound = mark.sound;
+      at = at;
+      there = takes.there;
+      called = topic;
+      named = channel;
+      is = takes.is;
+      left = takes.left;
+      numbers = c.deref.result.now;
+      members = c.deref.ensures.value ∙ takes.members;
+      rest = ap (λ (x : Hall). record x { unsaved_names = c.strike.new.hall.unsaved_names }) c.strike.ensures.rest;
+      clients = c.strike.ensures.clients;
+      room3 = c.strike.ensures.room;
+    } in
+    gone_rooms h0 h1 c.strike.new.hall c.args.i c.args.j c.name-topic.result c.name-channel.result room c.take_out.new.room stall (ap (λ (x : Hall). record x { unsaved_from = h1.unsaved_from }) mark.rest) mark.stall goes
+
+pub returns-in-Some-clause-clients : goal.returns-in-Some-clause-clients
+returns-in-Some-clause-clients g c =
+    let h0 = c.args.hall.now in
+    let h1 = c.mark_stall.new.self in
+    let mark = c.mark_stall.ensures in
+    let room = c.index_mut.result.now in
+    let at : slice_get h1.rooms.items c.args.i ≡ Some room = at_place h1.rooms.items c.args.i room (marked_range h0.moment c.args.i c.args.j c.args.i h0.rooms.items h1.rooms.items mark.stall c.requires.room) c.index_mut.ensures.value in
+    let takes = c.in-Some.ensures.takes in
+    let stall = takes.stall in
+    let topic : c.name-topic.result ≡ topic_name room = c.name-topic.ensures ∙ ap topic_name (read_same h1.rooms.items c.args.i room c.index.result.now at c.index.ensures) in
+    let channel : c.name-channel.result ≡ channel_name stall =
+    c.name-channel.ensures
+    ∙ ap channel_name (c.index-3.ensures ∙ ap (λ (r : Room). get_or r.stalls.items c.args.j c.index-3.result.now) (read_same h1.rooms.items c.args.i room c.index-2.result.now at c.index-2.ensures) ∙ get_or_from_slice_get room.stalls.items c.args.j stall c.index-3.result.now takes.there) in
+    let goes : GoesOut h1 c.strike.new.hall c.args.i c.args.j c.name-topic.result c.name-channel.result room c.take_out.new.room stall = record {
+      sound = mark.sound;
+      at = at;
+      there = takes.there;
+      called = topic;
+      named = channel;
+      is = takes.is;
+      left = takes.left;
+      numbers = c.deref.result.now;
+      members = c.deref.ensures.value ∙ takes.members;
+      rest = ap (λ (x : Hall). record x { unsaved_names = c.strike.new.hall.unsaved_names }) c.strike.ensures.rest;
+      clients = c.strike.ensures.clients;
+      room3 = c.strike.ensures.room;
+    } in
+    gone_clients h0 h1 c.strike.new.hall c.args.i c.args.j c.name-topic.result c.name-channel.result room c.take_out.new.room stall (ap (λ (x : Hall). record x { unsaved_from = h1.unsaved_from }) mark.rest) mark.stall goes
+
+pub returns-in-Some-clause-sound : goal.returns-in-Some-clause-sound
+returns-in-Some-clause-sound g c =
+    let h0 = c.args.hall.now in
+    let h1 = c.mark_stall.new.self in
+    let mark = c.mark_stall.ensures in
+    let room = c.index_mut.result.now in
+    let at : slice_get h1.rooms.items c.args.i ≡ Some room = at_place h1.rooms.items c.args.i room (marked_range h0.moment c.args.i c.args.j c.args.i h0.rooms.items h1.rooms.items mark.stall c.requires.room) c.index_mut.ensures.value in
+    let takes = c.in-Some.ensures.takes in
+    let stall = takes.stall in
+    let topic : c.name-topic.result ≡ topic_name room = c.name-topic.ensures ∙ ap topic_name (read_same h1.rooms.items c.args.i room c.index.result.now at c.index.ensures) in
+    let channel : c.name-channel.result ≡ channel_name stall =
+    c.name-channel.ensures
+    ∙ ap channel_name (c.index-3.ensures ∙ ap (λ (r : Room). get_or r.stalls.items c.args.j c.index-3.result.now) (read_same h1.rooms.items c.args.i room c.index-2.result.now at c.index-2.ensures) ∙ get_or_from_slice_get room.stalls.items c.args.j stall c.index-3.result.now takes.there) in
+    let goes : GoesOut h1 c.strike.new.hall c.args.i c.args.j c.name-topic.result c.name-channel.result room c.take_out.new.room stall = record {
+      sound = mark.sound;
+      at = at;
+      there = takes.there;
+      called = topic;
+      named = channel;
+      is = takes.is;
+      left = takes.left;
+      numbers = c.deref.result.now;
+      members = c.deref.ensures.value ∙ takes.members;
+      rest = ap (λ (x : Hall). record x { unsaved_names = c.strike.new.hall.unsaved_names }) c.strike.ensures.rest;
+      clients = c.strike.ensures.clients;
+      room3 = c.strike.ensures.room;
+    } in
+    whole_sound h1 c.strike.new.hall c.args.i c.args.j c.name-topic.result c.name-channel.result room c.take_out.new.room stall goes
+
+pub returns-in-Some-clause-since : goal.returns-in-Some-clause-since
+returns-in-Some-clause-since g c =
+    let h0 = c.args.hall.now in
+    let h1 = c.mark_stall.new.self in
+    let mark = c.mark_stall.ensures in
+    let room = c.index_mut.result.now in
+    let at : slice_get h1.rooms.items c.args.i ≡ Some room = at_place h1.rooms.items c.args.i room (marked_range h0.moment c.args.i c.args.j c.args.i h0.rooms.items h1.rooms.items mark.stall c.requires.room) c.index_mut.ensures.value in
+    let takes = c.in-Some.ensures.takes in
+    let stall = takes.stall in
+    let topic : c.name-topic.result ≡ topic_name room = c.name-topic.ensures ∙ ap topic_name (read_same h1.rooms.items c.args.i room c.index.result.now at c.index.ensures) in
+    let channel : c.name-channel.result ≡ channel_name stall =
+    c.name-channel.ensures
+    ∙ ap channel_name (c.index-3.ensures ∙ ap (λ (r : Room). get_or r.stalls.items c.args.j c.index-3.result.now) (read_same h1.rooms.items c.args.i room c.index-2.result.now at c.index-2.ensures) ∙ get_or_from_slice_get room.stalls.items c.args.j stall c.index-3.result.now takes.there) in
+    let goes : GoesOut h1 c.strike.new.hall c.args.i c.args.j c.name-topic.result c.name-channel.result room c.take_out.new.room stall = record {
+      sound = mark.sound;
+      at = at;
+      there = takes.there;
+      called = topic;
+      named = channel;
+      is = takes.is;
+      left = takes.left;
+      numbers = c.deref.result.now;
+      members = c.deref.ensures.value ∙ takes.members;
+      rest = ap (λ (x : Hall). record x { unsaved_names = c.strike.new.hall.unsaved_names }) c.strike.ensures.rest;
+      clients = c.strike.ensures.clients;
+      room3 = c.strike.ensures.room;
+    } in
+    gone_since h0 h1 c.strike.new.hall c.args.i c.args.j c.name-topic.result c.name-channel.result room c.take_out.new.room stall (ap (λ (x : Hall). record x { unsaved_from = h1.unsaved_from }) mark.rest) mark.stall goes
+
+pub returns-in-Some-clause-others : goal.returns-in-Some-clause-others
+returns-in-Some-clause-others g c = λ told.
+    let h0 = c.args.hall.now in
+    let h1 = c.mark_stall.new.self in
+    let mark = c.mark_stall.ensures in
+    let room = c.index_mut.result.now in
+    let at : slice_get h1.rooms.items c.args.i ≡ Some room = at_place h1.rooms.items c.args.i room (marked_range h0.moment c.args.i c.args.j c.args.i h0.rooms.items h1.rooms.items mark.stall c.requires.room) c.index_mut.ensures.value in
+    let takes = c.in-Some.ensures.takes in
+    let stall = takes.stall in
+    let topic : c.name-topic.result ≡ topic_name room = c.name-topic.ensures ∙ ap topic_name (read_same h1.rooms.items c.args.i room c.index.result.now at c.index.ensures) in
+    let channel : c.name-channel.result ≡ channel_name stall =
+    c.name-channel.ensures
+    ∙ ap channel_name (c.index-3.ensures ∙ ap (λ (r : Room). get_or r.stalls.items c.args.j c.index-3.result.now) (read_same h1.rooms.items c.args.i room c.index-2.result.now at c.index-2.ensures) ∙ get_or_from_slice_get room.stalls.items c.args.j stall c.index-3.result.now takes.there) in
+    let goes : GoesOut h1 c.strike.new.hall c.args.i c.args.j c.name-topic.result c.name-channel.result room c.take_out.new.room stall = record {
+      sound = mark.sound;
+      at = at;
+      there = takes.there;
+      called = topic;
+      named = channel;
+      is = takes.is;
+      left = takes.left;
+      numbers = c.deref.result.now;
+      members = c.deref.ensures.value ∙ takes.members;
+      rest = ap (λ (x : Hall). record x { unsaved_names = c.strike.new.hall.unsaved_names }) c.strike.ensures.rest;
+      clients = c.strike.ensures.clients;
+      room3 = c.strike.ensures.room;
+    } in
+    gone_others h0 h1 c.strike.new.hall c.args.i c.args.j c.name-topic.result c.name-channel.result room c.take_out.new.room stall (ap (λ (x : Hall). record x { unsaved_from = h1.unsaved_from }) mark.rest) mark.stall goes (g.F.Folder.files c.args.folder.now) (g.F.Folder.files c.take_out.new.folder) (at_stall_held (λ (s : Stall). DiskChanges s.channel.backlog.queue (g.F.Folder.files c.args.folder.now) (g.F.Folder.files c.take_out.new.folder)) room.stalls.items c.args.j stall (c.take_out.ensures.disk told) takes.there)
+
+pub returns-in-Some-clause-files : goal.returns-in-Some-clause-files
+returns-in-Some-clause-files g c = λ told.
+    let h0 = c.args.hall.now in
+    let h1 = c.mark_stall.new.self in
+    let mark = c.mark_stall.ensures in
+    let room = c.index_mut.result.now in
+    let at : slice_get h1.rooms.items c.args.i ≡ Some room = at_place h1.rooms.items c.args.i room (marked_range h0.moment c.args.i c.args.j c.args.i h0.rooms.items h1.rooms.items mark.stall c.requires.room) c.index_mut.ensures.value in
+    let takes = c.in-Some.ensures.takes in
+    let stall = takes.stall in
+    let topic : c.name-topic.result ≡ topic_name room = c.name-topic.ensures ∙ ap topic_name (read_same h1.rooms.items c.args.i room c.index.result.now at c.index.ensures) in
+    let channel : c.name-channel.result ≡ channel_name stall =
+    c.name-channel.ensures
+    ∙ ap channel_name (c.index-3.ensures ∙ ap (λ (r : Room). get_or r.stalls.items c.args.j c.index-3.result.now) (read_same h1.rooms.items c.args.i room c.index-2.result.now at c.index-2.ensures) ∙ get_or_from_slice_get room.stalls.items c.args.j stall c.index-3.result.now takes.there) in
+    let goes : GoesOut h1 c.strike.new.hall c.args.i c.args.j c.name-topic.result c.name-channel.result room c.take_out.new.room stall = record {
+      sound = mark.sound;
+      at = at;
+      there = takes.there;
+      called = topic;
+      named = channel;
+      is = takes.is;
+      left = takes.left;
+      numbers = c.deref.result.now;
+      members = c.deref.ensures.value ∙ takes.members;
+      rest = ap (λ (x : Hall). record x { unsaved_names = c.strike.new.hall.unsaved_names }) c.strike.ensures.rest;
+      clients = c.strike.ensures.clients;
+      room3 = c.strike.ensures.room;
+    } in
+    gone_files h0 h1 c.strike.new.hall c.args.i c.args.j c.name-topic.result c.name-channel.result room c.take_out.new.room stall (ap (λ (x : Hall). record x { unsaved_from = h1.unsaved_from }) mark.rest) mark.stall goes (g.F.Folder.files c.args.folder.now) (g.F.Folder.files c.take_out.new.folder) (at_stall_held (λ (s : Stall). DiskChanges s.channel.backlog.queue (g.F.Folder.files c.args.folder.now) (g.F.Folder.files c.take_out.new.folder)) room.stalls.items c.args.j stall (c.take_out.ensures.disk told) takes.there)
+
+pub returns-in-Some-clause-stands : goal.returns-in-Some-clause-stands
+returns-in-Some-clause-stands g c = λ told.
+    let h0 = c.args.hall.now in
+    let h1 = c.mark_stall.new.self in
+    let mark = c.mark_stall.ensures in
+    let room = c.index_mut.result.now in
+    let at : slice_get h1.rooms.items c.args.i ≡ Some room = at_place h1.rooms.items c.args.i room (marked_range h0.moment c.args.i c.args.j c.args.i h0.rooms.items h1.rooms.items mark.stall c.requires.room) c.index_mut.ensures.value in
+    let takes = c.in-Some.ensures.takes in
+    let stall = takes.stall in
+    let topic : c.name-topic.result ≡ topic_name room = c.name-topic.ensures ∙ ap topic_name (read_same h1.rooms.items c.args.i room c.index.result.now at c.index.ensures) in
+    let channel : c.name-channel.result ≡ channel_name stall =
+    c.name-channel.ensures
+    ∙ ap channel_name (c.index-3.ensures ∙ ap (λ (r : Room). get_or r.stalls.items c.args.j c.index-3.result.now) (read_same h1.rooms.items c.args.i room c.index-2.result.now at c.index-2.ensures) ∙ get_or_from_slice_get room.stalls.items c.args.j stall c.index-3.result.now takes.there) in
+    let goes : GoesOut h1 c.strike.new.hall c.args.i c.args.j c.name-topic.result c.name-channel.result room c.take_out.new.room stall = record {
+      sound = mark.sound;
+      at = at;
+      there = takes.there;
+      called = topic;
+      named = channel;
+      is = takes.is;
+      left = takes.left;
+      numbers = c.deref.result.now;
+      members = c.deref.ensures.value ∙ takes.members;
+      rest = ap (λ (x : Hall). record x { unsaved_names = c.strike.new.hall.unsaved_names }) c.strike.ensures.rest;
+      clients = c.strike.ensures.clients;
+      room3 = c.strike.ensures.room;
+    } in
+    gone_stands h0 h1 c.strike.new.hall c.args.i c.args.j c.name-topic.result c.name-channel.result room c.take_out.new.room stall (ap (λ (x : Hall). record x { unsaved_from = h1.unsaved_from }) mark.rest) mark.stall goes (g.F.Folder.files c.args.folder.now) (g.F.Folder.files c.take_out.new.folder) (at_stall_held (λ (s : Stall). DiskChanges s.channel.backlog.queue (g.F.Folder.files c.args.folder.now) (g.F.Folder.files c.take_out.new.folder)) room.stalls.items c.args.j stall (c.take_out.ensures.disk told) takes.there) (takes.found told) (mark.stands (g.F.Folder.files c.args.folder.now))

@@ -1,0 +1,166 @@
+use Rattle.std.proofs.Common.{◌≡◌, ◌∙◌, true, Some, refl, ap}
+use Rattle.std.specs.List.{slice_get}
+use Rattle.broker_history.specs.State.{is_ephemeral_channel}
+use Rattle.floor_rooms.specs.declared.hall.Hall.{Hall}
+use Rattle.floor_rooms.specs.Rooms.{channel_name, topic_name}
+use Rattle.floor_rooms.proofs.Placing.{at_place}
+use Rattle.floor_rooms.proofs.Marked.{range_of}
+use Rattle.floor_changes.proofs.LostPlaces.{of_stall, read_same}
+use Rattle.floor_changes.proofs.LostWhole.{GoesOut, went_clients, went_names, went_rooms, went_stands, whole_since, whole_sound}
+use Rattle.floor_changes.proofs.losing.forget_stall.Goals as goal
+
+pub returns-clause-rooms : goal.returns-clause-rooms
+returns-clause-rooms c =
+    let h = c.args.hall.now in
+    let room = c.index_mut.result.now in
+    let room2 = record room { stalls = c.remove-stall.new.self } in
+    let stall = c.remove-stall.result in
+    let at : slice_get h.rooms.items c.args.i ≡ Some room = at_place h.rooms.items c.args.i room c.requires.room c.index_mut.ensures.value in
+    let there : slice_get room.stalls.items c.args.j ≡ Some stall = at_place room.stalls.items c.args.j stall (range_of c.args.j h.rooms.items c.args.i room c.index_mut.ensures.value c.requires.stall) c.remove-stall.ensures.value in
+    let ephemeral : is_ephemeral_channel (topic_name room) c.name.result ≡ true =
+    ap (is_ephemeral_channel (topic_name room)) c.name.ensures ∙ of_stall (λ r s. is_ephemeral_channel (topic_name r) (channel_name s) ≡ true) h.rooms.items c.args.i c.args.j room stall c.requires.ephemeral at there in
+    let goes : GoesOut h c.strike.new.hall c.args.i c.args.j c.name-topic.result c.name.result room room2 stall = record {
+      sound = c.requires.sound;
+      at = at;
+      there = there;
+      called = c.name-topic.ensures ∙ ap topic_name (read_same h.rooms.items c.args.i room c.index.result.now at c.index.ensures);
+      named = c.name.ensures;
+      is = refl;
+      left = c.remove-stall.ensures.items;
+      numbers = c.deref.result.now;
+      members = c.deref.ensures.value;
+      rest = ap (λ (x : Hall). record x { unsaved_names = c.strike.new.hall.unsaved_names }) c.strike.ensures.rest;
+      clients = c.strike.ensures.clients;
+      room3 = c.strike.ensures.room;
+    } in
+    went_rooms h c.strike.new.hall c.args.i c.args.j c.name-topic.result c.name.result room room2 stall goes ephemeral
+
+pub returns-clause-clients : goal.returns-clause-clients
+returns-clause-clients c =
+    let h = c.args.hall.now in
+    let room = c.index_mut.result.now in
+    let room2 = record room { stalls = c.remove-stall.new.self } in
+    let stall = c.remove-stall.result in
+    let at : slice_get h.rooms.items c.args.i ≡ Some room = at_place h.rooms.items c.args.i room c.requires.room c.index_mut.ensures.value in
+    let there : slice_get room.stalls.items c.args.j ≡ Some stall = at_place room.stalls.items c.args.j stall (range_of c.args.j h.rooms.items c.args.i room c.index_mut.ensures.value c.requires.stall) c.remove-stall.ensures.value in
+    let ephemeral : is_ephemeral_channel (topic_name room) c.name.result ≡ true =
+    ap (is_ephemeral_channel (topic_name room)) c.name.ensures ∙ of_stall (λ r s. is_ephemeral_channel (topic_name r) (channel_name s) ≡ true) h.rooms.items c.args.i c.args.j room stall c.requires.ephemeral at there in
+    let goes : GoesOut h c.strike.new.hall c.args.i c.args.j c.name-topic.result c.name.result room room2 stall = record {
+      sound = c.requires.sound;
+      at = at;
+      there = there;
+      called = c.name-topic.ensures ∙ ap topic_name (read_same h.rooms.items c.args.i room c.index.result.now at c.index.ensures);
+      named = c.name.ensures;
+      is = refl;
+      left = c.remove-stall.ensures.items;
+      numbers = c.deref.result.now;
+      members = c.deref.ensures.value;
+      rest = ap (λ (x : Hall). record x { unsaved_names = c.strike.new.hall.unsaved_names }) c.strike.ensures.rest;
+      clients = c.strike.ensures.clients;
+      room3 = c.strike.ensures.room;
+    } in
+    went_clients h c.strike.new.hall c.args.i c.args.j c.name-topic.result c.name.result room room2 stall goes ephemeral
+
+pub returns-clause-sound : goal.returns-clause-sound
+returns-clause-sound c =
+    let h = c.args.hall.now in
+    let room = c.index_mut.result.now in
+    let room2 = record room { stalls = c.remove-stall.new.self } in
+    let stall = c.remove-stall.result in
+    let at : slice_get h.rooms.items c.args.i ≡ Some room = at_place h.rooms.items c.args.i room c.requires.room c.index_mut.ensures.value in
+    let there : slice_get room.stalls.items c.args.j ≡ Some stall = at_place room.stalls.items c.args.j stall (range_of c.args.j h.rooms.items c.args.i room c.index_mut.ensures.value c.requires.stall) c.remove-stall.ensures.value in
+    let ephemeral : is_ephemeral_channel (topic_name room) c.name.result ≡ true =
+    ap (is_ephemeral_channel (topic_name room)) c.name.ensures ∙ of_stall (λ r s. is_ephemeral_channel (topic_name r) (channel_name s) ≡ true) h.rooms.items c.args.i c.args.j room stall c.requires.ephemeral at there in
+    let goes : GoesOut h c.strike.new.hall c.args.i c.args.j c.name-topic.result c.name.result room room2 stall = record {
+      sound = c.requires.sound;
+      at = at;
+      there = there;
+      called = c.name-topic.ensures ∙ ap topic_name (read_same h.rooms.items c.args.i room c.index.result.now at c.index.ensures);
+      named = c.name.ensures;
+      is = refl;
+      left = c.remove-stall.ensures.items;
+      numbers = c.deref.result.now;
+      members = c.deref.ensures.value;
+      rest = ap (λ (x : Hall). record x { unsaved_names = c.strike.new.hall.unsaved_names }) c.strike.ensures.rest;
+      clients = c.strike.ensures.clients;
+      room3 = c.strike.ensures.room;
+    } in
+    whole_sound h c.strike.new.hall c.args.i c.args.j c.name-topic.result c.name.result room room2 stall goes
+
+pub returns-clause-stands : goal.returns-clause-stands
+returns-clause-stands c = λ files.
+    let h = c.args.hall.now in
+    let room = c.index_mut.result.now in
+    let room2 = record room { stalls = c.remove-stall.new.self } in
+    let stall = c.remove-stall.result in
+    let at : slice_get h.rooms.items c.args.i ≡ Some room = at_place h.rooms.items c.args.i room c.requires.room c.index_mut.ensures.value in
+    let there : slice_get room.stalls.items c.args.j ≡ Some stall = at_place room.stalls.items c.args.j stall (range_of c.args.j h.rooms.items c.args.i room c.index_mut.ensures.value c.requires.stall) c.remove-stall.ensures.value in
+    let ephemeral : is_ephemeral_channel (topic_name room) c.name.result ≡ true =
+    ap (is_ephemeral_channel (topic_name room)) c.name.ensures ∙ of_stall (λ r s. is_ephemeral_channel (topic_name r) (channel_name s) ≡ true) h.rooms.items c.args.i c.args.j room stall c.requires.ephemeral at there in
+    let goes : GoesOut h c.strike.new.hall c.args.i c.args.j c.name-topic.result c.name.result room room2 stall = record {
+      sound = c.requires.sound;
+      at = at;
+      there = there;
+      called = c.name-topic.ensures ∙ ap topic_name (read_same h.rooms.items c.args.i room c.index.result.now at c.index.ensures);
+      named = c.name.ensures;
+      is = refl;
+      left = c.remove-stall.ensures.items;
+      numbers = c.deref.result.now;
+      members = c.deref.ensures.value;
+      rest = ap (λ (x : Hall). record x { unsaved_names = c.strike.new.hall.unsaved_names }) c.strike.ensures.rest;
+      clients = c.strike.ensures.clients;
+      room3 = c.strike.ensures.room;
+    } in
+    went_stands h c.strike.new.hall c.args.i c.args.j c.name-topic.result c.name.result room room2 stall goes ephemeral files
+
+pub returns-clause-names : goal.returns-clause-names
+returns-clause-names c =
+    let h = c.args.hall.now in
+    let room = c.index_mut.result.now in
+    let room2 = record room { stalls = c.remove-stall.new.self } in
+    let stall = c.remove-stall.result in
+    let at : slice_get h.rooms.items c.args.i ≡ Some room = at_place h.rooms.items c.args.i room c.requires.room c.index_mut.ensures.value in
+    let there : slice_get room.stalls.items c.args.j ≡ Some stall = at_place room.stalls.items c.args.j stall (range_of c.args.j h.rooms.items c.args.i room c.index_mut.ensures.value c.requires.stall) c.remove-stall.ensures.value in
+    let ephemeral : is_ephemeral_channel (topic_name room) c.name.result ≡ true =
+    ap (is_ephemeral_channel (topic_name room)) c.name.ensures ∙ of_stall (λ r s. is_ephemeral_channel (topic_name r) (channel_name s) ≡ true) h.rooms.items c.args.i c.args.j room stall c.requires.ephemeral at there in
+    let goes : GoesOut h c.strike.new.hall c.args.i c.args.j c.name-topic.result c.name.result room room2 stall = record {
+      sound = c.requires.sound;
+      at = at;
+      there = there;
+      called = c.name-topic.ensures ∙ ap topic_name (read_same h.rooms.items c.args.i room c.index.result.now at c.index.ensures);
+      named = c.name.ensures;
+      is = refl;
+      left = c.remove-stall.ensures.items;
+      numbers = c.deref.result.now;
+      members = c.deref.ensures.value;
+      rest = ap (λ (x : Hall). record x { unsaved_names = c.strike.new.hall.unsaved_names }) c.strike.ensures.rest;
+      clients = c.strike.ensures.clients;
+      room3 = c.strike.ensures.room;
+    } in
+    went_names h c.strike.new.hall c.args.i c.args.j c.name-topic.result c.name.result room room2 stall goes ephemeral (ap (λ (x : Hall). x.unsaved_names) c.strike.ensures.rest)
+
+pub returns-clause-since : goal.returns-clause-since
+returns-clause-since c =
+    let h = c.args.hall.now in
+    let room = c.index_mut.result.now in
+    let room2 = record room { stalls = c.remove-stall.new.self } in
+    let stall = c.remove-stall.result in
+    let at : slice_get h.rooms.items c.args.i ≡ Some room = at_place h.rooms.items c.args.i room c.requires.room c.index_mut.ensures.value in
+    let there : slice_get room.stalls.items c.args.j ≡ Some stall = at_place room.stalls.items c.args.j stall (range_of c.args.j h.rooms.items c.args.i room c.index_mut.ensures.value c.requires.stall) c.remove-stall.ensures.value in
+    let ephemeral : is_ephemeral_channel (topic_name room) c.name.result ≡ true =
+    ap (is_ephemeral_channel (topic_name room)) c.name.ensures ∙ of_stall (λ r s. is_ephemeral_channel (topic_name r) (channel_name s) ≡ true) h.rooms.items c.args.i c.args.j room stall c.requires.ephemeral at there in
+    let goes : GoesOut h c.strike.new.hall c.args.i c.args.j c.name-topic.result c.name.result room room2 stall = record {
+      sound = c.requires.sound;
+      at = at;
+      there = there;
+      called = c.name-topic.ensures ∙ ap topic_name (read_same h.rooms.items c.args.i room c.index.result.now at c.index.ensures);
+      named = c.name.ensures;
+      is = refl;
+      left = c.remove-stall.ensures.items;
+      numbers = c.deref.result.now;
+      members = c.deref.ensures.value;
+      rest = ap (λ (x : Hall). record x { unsaved_names = c.strike.new.hall.unsaved_names }) c.strike.ensures.rest;
+      clients = c.strike.ensures.clients;
+      room3 = c.strike.ensures.room;
+    } in
+    whole_since h c.strike.new.hall c.args.i c.args.j c.name-topic.result c.name.result room room2 stall goes

@@ -198,12 +198,6 @@ module _ (h0 : Hall) (i : ℕ) (f0 : Files) (r : Room) (read : r ≡ get_or h0.r
 pub in_hand : (m : Message) (r : Room) (owed : Owed) (o : IsOwedFirst r owed) → IfSome r.queue.head (λ h. m ≡ h.message) → m ≡ o.taken.message
 in_hand m r owed o h = subst (λ u. IfSome u (λ (x : Taken). m ≡ x.message)) o.head h
 
--- so it is where the room was read twice
-pub in_hand_too : (rooms : List Room) (i : ℕ) (m : Message) (r x : Room) (owed : Owed) (o : IsOwedFirst r owed) → r ≡ get_or rooms i r → x ≡ get_or rooms i x → HasRoomAt i OwesNext rooms → IfSome x.queue.head (λ h. m ≡ h.message) → m ≡ o.taken.message
-in_hand_too rooms i m r x owed o first second has h =
-    let within : i < length rooms = slice_get_within rooms i has.room has.there in
-    in_hand m r owed o (subst (λ (y : Room). IfSome y.queue.head (λ (k : Taken). m ≡ k.message)) (some_same x r (sym (at_place rooms i x within second) ∙ at_place rooms i r within first)) h)
-
 -- the place is one
 pub give_room : (rooms : List Room) (i : ℕ) (owed : Owed) (place : Place) → HasRoomAt i OwesNext rooms → place ≡ record { room = i; stall = owed.stall } → place.room < length rooms
 give_room rooms i owed place has is = subst (λ (p : Place). p.room < length rooms) (sym is) (slice_get_within rooms i has.room has.there)

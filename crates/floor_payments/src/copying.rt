@@ -8,7 +8,7 @@ ghost use Rattle.floor_payments.specs.Copying.{CopiesFirst, OwesNext};
 ghost use Rattle.floor_payments.specs.Taking.{HasRoomAt};
 
 use crate::giving::give;
-use crate::owed::{announce_copied, copy_head, first_owed};
+use crate::owed::{announce_copy, first_owed};
 use crate::paying::pay;
 use broker_history::Entry;
 use floor_moves::{Made, Place};
@@ -17,8 +17,8 @@ use nsq_base::Steps;
 use nsq_outside::{End, Folder, Journal};
 use std::sync::ledger::Ledger;
 
-/// The first channel that is owed a copy of the message that the topic at this place took gets it, and that is noted: it is owed none any more, and with the
-/// last one the message goes. A disk fault keeps it off, and is noted. Want of memory leaves all as it is.
+/// The first channel that is owed a copy of the message that the topic at this place took gets it, and that is noted: it is owed none any more, and
+/// with the last one the message goes. A disk fault keeps it off, and is noted. Want of memory leaves all as it is.
 pub fn copy_message<F: Folder, J: Journal<Entry>, L: Ledger>(
     hall: &mut Hall,
     i: usize,
@@ -39,17 +39,12 @@ pub fn copy_message<F: Folder, J: Journal<Entry>, L: Ledger>(
     ensures files { IsTrue F.tells_files → OnlyQueueFiles (F.files folder.old) (F.files folder.new) }
     ensures fault { result ≡ Stuck → Rose (F.folder_faults folder.old) (F.folder_faults folder.new) }
 {
-    let alloc = hall.alloc;
-    let at = hall.moment;
-    let owed = first_owed(&hall.rooms[i]);
-    let Ok(message) = copy_head(&hall.rooms[i], alloc) else {
+    let room = &hall.rooms[i];
+    let owed = first_owed(room);
+    let Ok(message) = announce_copy(room, hall.alloc, hall.moment, owed, journal) else {
         return Made::Memory;
     };
-    let Ok(message) = announce_copied(journal, at, owed, message) else {
-        return Made::Memory;
-    };
-    let place = owed.place(i);
-    match give(hall, place, folder, scratch, message, steps) {
+    match give(hall, owed.place(i), folder, scratch, message, steps) {
         Made::Done => {}
         Made::Stuck => {
             journal.note(End::Faulted(0));

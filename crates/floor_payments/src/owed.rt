@@ -28,7 +28,7 @@ pub struct Owed {
 }
 
 impl Owed {
-    // Where the channel stands, whose topic stands at this place.
+    /// The place of the channel in a hall, whose topic stands at this place there.
     pub(crate) fn place(&self, room: usize) -> Place
         ensures { result ≡ record { room = room; stall = self.now.stall } }
     {
@@ -38,7 +38,7 @@ impl Owed {
         }
     }
 
-    // The channel's name.
+    /// The channel's name.
     pub(crate) fn channel(&self) -> Chan
         ensures { result ≡ self.now.channel }
     {
@@ -64,8 +64,34 @@ pub(crate) fn first_owed(room: &Room) -> Owed
     }
 }
 
-/// A copy of the message that the topic took. Want of memory is the only error.
-pub(crate) fn copy_head(room: &Room, alloc: Global) -> Result<Message, Memory>
+/// Keeps the entry aside of a channel that gets its copy of what the topic took: the copy goes into it, and comes back. Want of memory is the only
+/// error.
+pub(crate) fn announce_copy<J: Journal<Entry>>(
+    room: &Room,
+    alloc: Global,
+    at: u64,
+    owed: Owed,
+    journal: &mut J,
+) -> Result<Message, Memory>
+    requires head { OwesNext room.now }
+    requires calm { J.is_aside journal.old ≡ false }
+    ensures same { IfOk result (λ m. IfSome room.now.queue.head (λ head. m ≡ head.message)) }
+    ensures short { IfOk result FitsLimit }
+    ensures aside { OnOk result (J.is_aside journal.new ≡ true) }
+    ensures kept { IfOk result (λ m. IsTrue J.tells_notes → J.kept journal.new ≡ Some (entry_at at (acts.Copied owed.topic owed.channel m))) }
+    ensures err { OnErr result (J.is_aside journal.new ≡ false) }
+    ensures notes { IsTrue J.tells_notes → J.notes journal.new ≡ J.notes journal.old }
+{
+    let message = copy_head(room, alloc)?;
+    let act = Act::Copied(owed.topic, owed.channel, message);
+    let (act, ready) = lend(journal, at, act);
+    let message = message_of(act);
+    ready?;
+    Ok(message)
+}
+
+// A copy of the message that the topic took.
+fn copy_head(room: &Room, alloc: Global) -> Result<Message, Memory>
     requires { OwesNext room.now }
     ensures same { IfOk result (λ m. IfSome room.now.queue.head (λ head. m ≡ head.message)) }
     ensures short { IfOk result FitsLimit }
@@ -74,26 +100,6 @@ pub(crate) fn copy_head(room: &Room, alloc: Global) -> Result<Message, Memory>
         unreachable!()
     };
     message.copy(alloc)
-}
-
-/// Keeps the entry aside of a channel that gets its copy, which goes into it and comes back. Want of memory is the only error.
-pub(crate) fn announce_copied<J: Journal<Entry>>(
-    journal: &mut J,
-    at: u64,
-    owed: Owed,
-    message: Message,
-) -> Result<Message, Memory>
-    requires calm { J.is_aside journal.old ≡ false }
-    ensures same { IfOk result (λ m. m ≡ message) }
-    ensures aside { OnOk result (J.is_aside journal.new ≡ true) }
-    ensures kept { OnOk result (IsTrue J.tells_notes → J.kept journal.new ≡ Some (entry_at at (acts.Copied owed.topic owed.channel message))) }
-    ensures err { OnErr result (J.is_aside journal.new ≡ false) }
-    ensures notes { IsTrue J.tells_notes → J.notes journal.new ≡ J.notes journal.old }
-{
-    let (act, ready) = lend(journal, at, Act::Copied(owed.topic, owed.channel, message));
-    let message = message_of(act);
-    ready?;
-    Ok(message)
 }
 
 // The message of the move.

@@ -1,17 +1,16 @@
 -- A topic that is deleted with its channels.
-use Rattle.std.proofs.Common.{◌≡◌, ◌⊎◌, inl, inr, ◌≤◌, ◌<◌, ℕ, Bool, true, false, not, if◌then◌else◌, List, [], ◌∷◌, map, take, drop, length, get_or, Option, Some, None, refl, sym, ap, subst, ◌∙◌, arith}
-use Rattle.std.specs.Prelude.{HoldsAt, IsTrue}
-use Rattle.std.specs.List.{All, filter, find, slice_get}
+use Rattle.std.proofs.Common.{◌≡◌, ◌⊎◌, inl, inr, ◌≤◌, ◌<◌, ℕ, Bool, true, false, not, if◌then◌else◌, List, [], ◌∷◌, map, take, drop, length, get_or, Some, None, refl, sym, ap, subst, ◌∙◌, arith}
+use Rattle.std.specs.Prelude.{HoldsAt}
+use Rattle.std.specs.List.{filter, find, slice_get}
 use Rattle.std.specs.Str.{bytes_eq}
 use Rattle.std.proofs.Math.Seq.{drop-length, take-length}
-use Rattle.std.proofs.lemmas.Bool.{false≢true}
 use Rattle.std.proofs.lemmas.List.{length-map}
 use Rattle.std.proofs.lemmas.Option.{get_or_from_slice_get, slice_get_within}
 use Rattle.nsq_base.specs.Name.{is_ephemeral}
 use Rattle.nsq_base.specs.Names.{IsAscendingBy}
 use Rattle.nsq_outside.specs.Files.{Files}
 use Rattle.broker_history.specs.State.{Channel, State, Topic, topic_of}
-use Rattle.broker_history.specs.Changes.{channels_in, deleted, deleted_channels, deleted_first, without_topic}
+use Rattle.broker_history.specs.Changes.{channels_in, deleted, deleted_channels, without_topic}
 use Rattle.floor_laws.proofs.Pairs.{pairs_told}
 use Rattle.floor_rooms.specs.declared.room.Room.{Room}
 use Rattle.floor_rooms.specs.declared.hall.Hall.{Hall}
@@ -29,6 +28,7 @@ use Rattle.floor_changes.specs.declared.lost.Lost.TheVariants as losing
 use Rattle.floor_changes.specs.Going.{DropsRoom}
 use Rattle.floor_topics.specs.Deleting.{DeletesFirst, LosesFirst, kept_without_all}
 use Rattle.floor_topics.proofs.Marks.{stands_now}
+use Rattle.floor_topics.proofs.Steps.{all_read}
 use Rattle.floor_topics.proofs.Whole.{Has, all_kept, first_kept}
 
 -- what isn't there doesn't go
@@ -48,7 +48,7 @@ absent_deleted h files s topic holds none =
 
 -- a topic of the hall, and of a state
 module _ (h : Hall) (files : Files) (s : State) (topic : List ℕ) (r : Room) (sound : IsSound h) (holds : HoldsFor h files s) (there : room_in h.rooms.items topic ≡ Some r) where
-  its : Topic
+  abbrev its : Topic
   its = (topic_there h files s topic r holds there).0
 
   its_there : topic_of s topic ≡ Some its
@@ -133,3 +133,13 @@ module _ (h : Hall) (files : Files) (s : State) (topic : List ℕ) (r : Room) (s
       subst (λ n. DeletesFirst topic n s v) (sym counted)
       (subst (DeletesFirst topic (length r.stalls.items) s) (sym (is ∙ ap (λ n. kept_without_all s n (take (length r.stalls.items) (stall_names r))) called))
       (first_deleted h files s topic r sound holds there (length r.stalls.items) (omega arith) (inr (ap is_ephemeral (sym called) ∙ durable))))
+
+-- how many channels were counted at a place
+pub counted_at : (rooms : List Room) (i : ℕ) (room : Room) (all : ℕ) → i < length rooms → room ≡ get_or rooms i room → all ≡ length room.stalls.items → (d : Room) → all ≡ length (get_or rooms i d).stalls.items
+counted_at rooms i room all within value e d = all_read rooms i room all within value e d
+
+pub dropped_rest : (h0 h1 h2 : Hall) → h1 ≡ record h0 { clients = h1.clients; rooms = h1.rooms; unsaved_names = h1.unsaved_names; unsaved_from = h1.unsaved_from } → h2 ≡ record h1 { rooms = h2.rooms; unsaved_names = h2.unsaved_names; unsaved_from = h2.unsaved_from }
+    → h2 ≡ record h0 { clients = h2.clients; rooms = h2.rooms; unsaved_names = h2.unsaved_names; unsaved_from = h2.unsaved_from }
+dropped_rest h0 h1 h2 e1 e2 =
+    let f : Hall → Hall = λ y. record y { clients = h2.clients; rooms = h2.rooms; unsaved_names = h2.unsaved_names; unsaved_from = h2.unsaved_from } in
+    ap f e2 ∙ ap f e1

@@ -1,17 +1,13 @@
 -- A topic whose channel went, in a state: an ephemeral one goes with its last channel.
-use Rattle.std.proofs.Common.{◌≡◌, ℕ, suc, Bool, true, false, not, ◌&&◌, if◌then◌else◌, List, [], ◌∷◌, ◌++◌, map, Option, Some, None, refl, sym, ap, subst, ◌∙◌, arith, Ordering, Less, Equal, Greater}
-use Rattle.std.specs.Prelude.{IsSome, is_some}
-use Rattle.std.specs.List.{All, filter, find}
+use Rattle.std.proofs.Common.{◌≡◌, ℕ, suc, Bool, true, false, not, ◌&&◌, if◌then◌else◌, List, [], ◌∷◌, ◌++◌, map, Some, refl, sym, ap, ◌∙◌, arith, Ordering, Less, Equal, Greater}
+use Rattle.std.specs.List.{All, filter}
 use Rattle.std.specs.Ordering.{is_lt}
 use Rattle.std.specs.Str.{bytes_eq}
-use Rattle.std.proofs.lemmas.Bool.{false≢true}
 use Rattle.std.proofs.lemmas.List.Elements.{All-weaker, filter-append, filter_passes}
 use Rattle.nsq_base.specs.Name.{is_ephemeral}
 use Rattle.nsq_base.specs.Names.{IsAscendingBy, byte_order, is_before, put_by}
 use Rattle.nsq_base.proofs.PutBy.{Less-from_before, byte_order-flip, filter_all, filter_none, is_before-trans, other_from_order, same_from_tie}
-use Rattle.nsq_outside.specs.Files.{Files}
-use Rattle.history.specs.Found.{Pairwise}
-use Rattle.broker_history.specs.State.{State, Topic, channel_of, is_empty, topic_of, with_topic}
+use Rattle.broker_history.specs.State.{State, Topic, is_empty, topic_of, with_topic}
 use Rattle.broker_history.specs.Changes.{deleted, deleted_in, lost, with_fewer, without_channel, without_topic}
 use Rattle.broker_history.proofs.Lists.{exact_bytes, find_passes, find_put, same_bytes}
 use Rattle.floor_changes.specs.Losing.{LosesChannel}

@@ -1,6 +1,6 @@
 -- A channel that is deleted from the hall, and an ephemeral topic that goes with it.
-use Rattle.std.proofs.Common.{◌≡◌, ◌⊎◌, inl, inr, ◌≤◌, ◌<◌, ℕ, Bool, true, false, ◌&&◌, if◌then◌else◌, List, [], ◌∷◌, map, length, get_or, Option, Some, None, refl, sym, ap, subst, ◌∙◌, length-set, get_or-set_same}
-use Rattle.std.specs.Prelude.{HoldsAt, IsSome, is_some}
+use Rattle.std.proofs.Common.{◌≡◌, inl, inr, ◌<◌, ℕ, Bool, true, false, ◌&&◌, if◌then◌else◌, List, [], ◌∷◌, map, length, get_or, Option, Some, None, refl, sym, ap, subst, ◌∙◌}
+use Rattle.std.specs.Prelude.{HoldsAt, is_some}
 use Rattle.std.specs.List.{slice_get}
 use Rattle.std.specs.Str.{bytes_eq}
 use Rattle.std.proofs.lemmas.Bool.{false≢true}
@@ -16,7 +16,7 @@ use Rattle.floor_rooms.specs.declared.room.Room.{Room}
 use Rattle.floor_rooms.specs.declared.hall.Hall.{Hall}
 use Rattle.floor_rooms.specs.Rooms.{channel_name, room_in, stall_in, topic_name}
 use Rattle.floor_rooms.specs.Sound.{IsSound}
-use Rattle.floor_rooms.specs.Standing.{HoldsFor, IsRoomOf, IsStallOf}
+use Rattle.floor_rooms.specs.Standing.{HoldsFor, IsStallOf}
 use Rattle.floor_rooms.specs.Changes.{AtRoom, KeepsSince}
 use Rattle.floor_rooms.proofs.Placing.{at_place, found_at}
 use Rattle.floor_rooms.proofs.Staying.{stall_named}

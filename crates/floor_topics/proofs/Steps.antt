@@ -1,5 +1,5 @@
 -- The channels of a topic that go one after another, in the hall.
-use Rattle.std.proofs.Common.{◌≡◌, ◌≤◌, ◌<◌, ◌+◌, ◌-◌, ℕ, suc, zero, set, Bool, List, [], ◌∷◌, ◌++◌, map, take, drop, length, get_or, Some, refl, sym, ap, subst, ◌∙◌, arith}
+use Rattle.std.proofs.Common.{◌≡◌, ◌≤◌, ◌<◌, ◌+◌, ◌-◌, ℕ, suc, zero, set, Bool, List, [], ◌∷◌, ◌++◌, take, drop, length, get_or, Some, refl, sym, ap, subst, ◌∙◌, arith}
 use Rattle.std.specs.Prelude.{IsTrue, HoldsAt}
 use Rattle.std.specs.List.{slice_get}
 use Rattle.std.proofs.Math.ListN.{get_or-map}
@@ -14,7 +14,7 @@ use Rattle.floor_rooms.specs.declared.room.Room.{Room}
 use Rattle.floor_rooms.specs.declared.hall.Hall.{Hall}
 use Rattle.floor_rooms.specs.Rooms.{channel_name, stall_names, topic_name}
 use Rattle.floor_rooms.specs.Sound.{IsSound}
-use Rattle.floor_rooms.specs.Standing.{Carries, HoldsFor}
+use Rattle.floor_rooms.specs.Standing.{HoldsFor}
 use Rattle.floor_rooms.specs.Changes.{AtRoom, KeepsRooms, KeepsSince, OnlyQueueFiles}
 use Rattle.floor_rooms.specs.Kept.{NamesTold}
 use Rattle.floor_rooms.proofs.Placing.{at_place}
@@ -114,12 +114,12 @@ module _ (tells : Bool) (i count : ℕ) (h0 h1 h2 : Hall) (f0 f1 f2 : Files) (n0
       };
       loses = so_far (among_lost i 0 channel h1.rooms.items h2.rooms.items at) more
           (λ told s holds.
-            let u : State = kept_without_all s (topic_name x.rooms.room) (take count (stall_names x.rooms.room)) in
-            let r = step told u (x.loses.told told s holds) in
-            let topic : topic_name (get_or h1.rooms.items i x.rooms.after) ≡ topic_name x.rooms.room = ap topic_name (now_read x.rooms.after) ∙ x.rooms.does.name in
-            let to : r.0 ≡ kept_without_all s (topic_name x.rooms.room) (take more (stall_names x.rooms.room)) =
-            kept_is u r.0 (topic_name (get_or h1.rooms.items i x.rooms.after)) channel r.1 ∙ ap (λ n. kept_without u n channel) topic ∙ sym (next_kept s) ∙ ap (λ n. kept_without_all s (topic_name x.rooms.room) (take n (stall_names x.rooms.room))) (sym is) in
-            subst (HoldsFor h2 f2) to r.2);
+          let u : State = kept_without_all s (topic_name x.rooms.room) (take count (stall_names x.rooms.room)) in
+          let r = step told u (x.loses.told told s holds) in
+          let topic : topic_name (get_or h1.rooms.items i x.rooms.after) ≡ topic_name x.rooms.room = ap topic_name (now_read x.rooms.after) ∙ x.rooms.does.name in
+          let to : r.0 ≡ kept_without_all s (topic_name x.rooms.room) (take more (stall_names x.rooms.room)) =
+          kept_is u r.0 (topic_name (get_or h1.rooms.items i x.rooms.after)) channel r.1 ∙ ap (λ n. kept_without u n channel) topic ∙ sym (next_kept s) ∙ ap (λ n. kept_without_all s (topic_name x.rooms.room) (take n (stall_names x.rooms.room))) (sym is) in
+          subst (HoldsFor h2 f2) to r.2);
     }
 
 -- how many channels there are, as they were counted at a place

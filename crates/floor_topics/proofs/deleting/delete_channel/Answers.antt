@@ -1,5 +1,5 @@
-use Rattle.std.proofs.Common.{ℕ, List, Some, get_or, refl, sym, ap, subst}
-use Rattle.floor_rooms.specs.Rooms.{channel_name, topic_name}
+use Rattle.std.proofs.Common.{ℕ, List, get_or, subst}
+use Rattle.floor_rooms.specs.Rooms.{topic_name}
 use Rattle.floor_rooms.specs.Standing.{Carries}
 use Rattle.floor_rooms.proofs.Forming.{some_at}
 use Rattle.floor_topics.specs.Deleting.{DeletesChannel}

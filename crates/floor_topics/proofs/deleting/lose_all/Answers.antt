@@ -1,4 +1,4 @@
-use Rattle.std.proofs.Common.{◌≡◌, ◌+◌, suc, length, get_or, refl, sym, subst, add-one, arith}
+use Rattle.std.proofs.Common.{◌≡◌, ◌+◌, suc, length, get_or, refl, subst, arith}
 use Rattle.broker_history.specs.State.{State}
 use Rattle.floor_rooms.specs.Rooms.{channel_name}
 use Rattle.floor_rooms.specs.Standing.{HoldsFor}

@@ -10,3 +10,8 @@ pub mod Paused
 pub mod Channels
 pub mod Emptied
 pub mod Copies
+pub mod Fewer
+pub mod Losing
+pub mod Whole
+pub mod Steps
+pub mod Dropping

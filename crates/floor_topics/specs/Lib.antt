@@ -1,3 +1,4 @@
 pub mod Publishing
 pub mod Pausing
 pub mod Emptying
+pub mod Deleting

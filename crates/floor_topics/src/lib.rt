@@ -4,6 +4,8 @@
 #![tactic(auto)]
 
 mod creating;
+mod deleted;
+mod deleting;
 mod emptying;
 mod messages;
 mod pausing;
@@ -11,6 +13,8 @@ mod published;
 mod publishing;
 
 pub use creating::create;
+pub use deleted::Deleted;
+pub use deleting::{delete_channel, delete_topic};
 pub use emptying::{empty_channel, empty_topic};
 pub use pausing::{pause, pause_channel};
 pub use published::Published;

@@ -27,7 +27,7 @@ put_new-requires-clause-delays g c = made_delay c.args.hall.now c.args.delay c.a
 pub returns-in-Ok-clause-told : goal.returns-in-Ok-clause-told
 returns-in-Ok-clause-told g c = λ told.
     let d = (some_at c.args.hall.now.rooms.items c.in-Ok.i c.in-Ok.ensures.in_range).0 in
-    publish_told c.args.hall.now c.args.delay c.args.bodies.items c.in_ok-messages.messages.items c.in_ok-messages.ensures c.put_there.result c.put_there.new.hall (g.F.Folder.files c.args.folder.now) (g.F.Folder.files c.put_there.new.folder) c.args.topic 
+    publish_told c.args.hall.now c.args.delay c.args.bodies.items c.in_ok-messages.messages.items c.in_ok-messages.ensures c.put_there.result c.put_there.new.hall (g.F.Folder.files c.args.folder.now) (g.F.Folder.files c.put_there.new.folder) c.args.topic
     (subst (λ (n : List ℕ). IfOk c.put_there.result (λ p. Carries c.args.hall.now (g.F.Folder.files c.args.folder.now) c.put_there.new.hall (g.F.Folder.files c.put_there.new.folder) (PutsInto n c.in_ok-messages.messages.items p))) (c.in-Ok.ensures.is_key d) (c.put_there.ensures.told told d))
 
 pub returns-in-Ok-clause-ids : goal.returns-in-Ok-clause-ids

@@ -1,4 +1,4 @@
-use Rattle.std.proofs.Common.{◌≡◌, ◌+◌, ◌≤◌, ◌^◌, min, length, get_or, refl, arith}
+use Rattle.std.proofs.Common.{◌≡◌, ◌+◌, min, length, get_or, refl, arith}
 use Rattle.floor_rooms.specs.Rooms.{topic_name}
 use Rattle.backlog.specs.declared.answers.PutAll.TheVariants.{Done as AllDone, Fault as AllFault}
 use Rattle.floor_topics.proofs.Frames.{ids_sound}

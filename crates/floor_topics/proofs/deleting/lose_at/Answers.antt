@@ -1,0 +1,28 @@
+use Rattle.std.proofs.Common.{get_or, ap}
+use Rattle.floor_rooms.specs.declared.hall.Hall.{Hall}
+use Rattle.floor_rooms.specs.Rooms.{channel_name, topic_name}
+use Rattle.floor_rooms.proofs.Forming.{some_at}
+use Rattle.floor_rooms.proofs.Naming.{names_then}
+use Rattle.floor_topics.proofs.Losing.{lost_room, lost_since, lost_told, lost_within}
+use Rattle.floor_topics.proofs.deleting.lose_at.Goals as goal
+
+pub forget_empty-requires-clause-room : goal.forget_empty-requires-clause-room
+forget_empty-requires-clause-room g c =
+    let d = (some_at c.args.hall.now.rooms.items c.args.i c.requires.room).0 in
+    let x = (some_at (get_or c.args.hall.now.rooms.items c.args.i d).stalls.items c.args.j (c.requires.stall d)).0 in
+    lost_within c.args.hall.now c.lose_stall.new.hall c.lose_stall.new.hall (g.F.Folder.files c.args.folder.now) (g.F.Folder.files c.lose_stall.new.folder) c.args.i c.args.j (channel_name (get_or (get_or c.args.hall.now.rooms.items c.args.i d).stalls.items c.args.j x)) c.requires.sound c.lose_stall.ensures.sound (c.in-Done.ensures.rooms d x)
+
+pub returns-in-Done-clause-told : goal.returns-in-Done-clause-told
+returns-in-Done-clause-told g c = λ told d x s holds.
+    let r = c.in-Done.ensures.stands told d x s holds in
+    let at = c.in-Done.ensures.rooms d x in
+    let f = c.forget_empty.ensures.stands at.after (g.F.Folder.files c.lose_stall.new.folder) r.0 r.2 in
+    (f.0, lost_told c.args.hall.now c.lose_stall.new.hall c.forget_empty.new.hall (g.F.Folder.files c.args.folder.now) (g.F.Folder.files c.lose_stall.new.folder) c.args.i c.args.j (channel_name (get_or (get_or c.args.hall.now.rooms.items c.args.i d).stalls.items c.args.j x)) c.requires.sound c.lose_stall.ensures.sound (c.in-Done.ensures.rooms d x) (topic_name (get_or c.args.hall.now.rooms.items c.args.i d)) (lost_room c.args.hall.now c.lose_stall.new.hall c.forget_empty.new.hall (g.F.Folder.files c.args.folder.now) (g.F.Folder.files c.lose_stall.new.folder) c.args.i c.args.j (channel_name (get_or (get_or c.args.hall.now.rooms.items c.args.i d).stalls.items c.args.j x)) c.requires.sound c.lose_stall.ensures.sound (c.in-Done.ensures.rooms d x) d) s r.0 f.0 holds r.1 r.2 f.1, f.2)
+
+pub returns-in-Done-clause-names : goal.returns-in-Done-clause-names
+returns-in-Done-clause-names g c = names_then c.args.hall.now c.lose_stall.new.hall c.forget_empty.new.hall c.lose_stall.ensures.names c.forget_empty.ensures.names
+
+pub returns-in-Done-clause-since : goal.returns-in-Done-clause-since
+returns-in-Done-clause-since g c =
+    let d = (some_at c.args.hall.now.rooms.items c.args.i c.requires.room).0 in
+    lost_since c.args.hall.now.moment c.lose_stall.new.hall.moment (get_or c.lose_stall.new.hall.rooms.items c.args.i d) c.args.hall.now.rooms.items c.lose_stall.new.hall.rooms.items c.forget_empty.new.hall.rooms.items (ap (λ (h : Hall). h.moment) c.lose_stall.ensures.rest) (c.forget_empty.ensures.rooms d) c.lose_stall.ensures.since c.forget_empty.ensures.since

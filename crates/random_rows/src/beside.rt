@@ -9,7 +9,7 @@ use crate::told::{comes_first, is_channel};
 use broker_changes::channels::has_credit;
 use broker_changes::topics::any_due;
 use broker_history::{Act, Ask, Entry};
-use broker_state::{ChannelState, State, TakenMessage, flying, queued};
+use broker_state::{ChannelState, State, TakenMessage, flying, in_flight, queued};
 use channel_core::{Channel, Moved};
 use nsq_base::{Chan, Memory, MsgId, Options, Topic};
 use nsq_fakes::MemFolder;
@@ -57,6 +57,21 @@ impl Beside {
             Some(channel) => live(channel, &id) >= 2,
             None => true,
         }
+    }
+
+    /// The id of one of the copies in flight, if there is one.
+    pub fn flying_id(&self, place: u64) -> Option<MsgId> {
+        let channel = self.first()?;
+        let mut left = place % (in_flight(&channel.copies).max(1) as u64);
+        for copy in &channel.copies {
+            if copy.place.is_in_flight() {
+                if left == 0 {
+                    return Some(copy.message.id);
+                }
+                left = left.saturating_sub(1);
+            }
+        }
+        None
     }
 
     // The channel in the first possible state.

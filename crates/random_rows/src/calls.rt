@@ -345,12 +345,11 @@ pub fn move_due<L: Ledger>(
 
 // Whether what moved, or could not, is what was told.
 fn is_told(moved: Moved, told: Option<(MsgId, bool)>) -> bool {
-    match (moved, told) {
-        (Moved::TimedOut(id), Some((due, flies))) => id == due && flies,
-        (Moved::CameDue(id), Some((due, flies))) => id == due && !flies,
-        (Moved::Fault(id), Some((due, _))) => id == due,
-        (Moved::Nothing, None) => true,
-        _ => false,
+    match moved {
+        Moved::TimedOut(id) => told == Some((id, true)),
+        Moved::CameDue(id) => told == Some((id, false)),
+        Moved::Fault(id) => told == Some((id, true)) || told == Some((id, false)),
+        Moved::Nothing => told.is_none(),
     }
 }
 

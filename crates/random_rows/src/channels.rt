@@ -166,12 +166,24 @@ impl Pair {
             .commands(who, at, Command::Rdy(i64::from(count)), true, End::Done)
     }
 
+    // An id that a client names: half of the time one that is in flight, where there is one.
+    fn named(&mut self) -> MsgId
+        ensures { self.new.channel ≡ self.old.channel }
+    {
+        let id = self.dice.id();
+        let place = self.dice.below(8);
+        if place < 4 {
+            return id;
+        }
+        self.beside.flying_id(place).unwrap_or(id)
+    }
+
     fn finish<L: Ledger>(&mut self, steps: &mut Steps<L>) -> Result<bool, Memory>
         requires { IsServed self.old.channel }
         ensures { OnOk result (IsServed self.new.channel) }
     {
         let who = self.dice.who();
-        let id = self.dice.id();
+        let id = self.named();
         let at = self.dice.moment();
         let flies = calls::finish(&mut self.channel, who, id, steps);
         self.beside
@@ -183,7 +195,7 @@ impl Pair {
         ensures { OnOk result (IsServed self.new.channel) }
     {
         let who = self.dice.who();
-        let id = self.dice.id();
+        let id = self.named();
         let at = self.dice.moment();
         let flies = calls::touch(&mut self.channel, who, id, at, steps);
         self.beside
@@ -199,7 +211,7 @@ impl Pair {
         ensures { OnOk result (IsServed self.new.channel) }
     {
         let who = self.dice.who();
-        let id = self.dice.id();
+        let id = self.named();
         let delay = self.dice.whole_delay();
         let at = self.dice.moment();
         let back = calls::requeue(

@@ -27,10 +27,10 @@ const MILLISECOND: u64 = 1_000_000;
 const LATEST: u64 = 1 << 62;
 
 // Of how many calls of a folder some fail.
-const FOLDER_CALLS: u64 = 700;
+const FOLDER_CALLS: u64 = 400;
 
 // How often some fail.
-const FAULTS: u64 = 24;
+const FAULTS: u64 = 32;
 
 impl Dice {
     /// Random numbers of this seed, other ones for each run.

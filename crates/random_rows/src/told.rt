@@ -138,12 +138,10 @@ fn sooner(soonest: Option<u128>, due: u128) -> Option<u128> {
 
 /// Whether a copy of this id is the next one due: in flight and due soonest there, or deferred, due soonest there and none in flight is due.
 pub fn comes_first(copies: &[MessageCopy], id: &MsgId, flies: bool, at: u64) -> bool {
-    if flies {
-        return is_due_at(copies, id, soonest(copies, true, false), true);
-    }
-    match soonest(copies, true, false) {
-        Some(due) if due <= u128::from(at) => false,
-        _ => is_due_at(copies, id, soonest(copies, false, true), false),
+    let flying = soonest(copies, true, false);
+    match flying {
+        Some(due) if due <= u128::from(at) => flies && is_due_at(copies, id, flying, true),
+        _ => !flies && is_due_at(copies, id, soonest(copies, false, true), false),
     }
 }
 

@@ -1,5 +1,5 @@
 -- A message that was drawn for a client is put back: the hall stands for the states that it stood for before the drawing.
-use Rattle.std.proofs.Common.{◌≡◌, inl, ℕ, Bool, true, List, refl, sym, ap, subst, ◌∙◌}
+use Rattle.std.proofs.Common.{◌≡◌, inl, ℕ, Bool, List, refl, sym, ap, subst, ◌∙◌}
 use Rattle.std.specs.Prelude.{IsTrue}
 use Rattle.nsq_outside.specs.Files.{Files}
 use Rattle.v2_frame.specs.declared.message.Message.{Message}

@@ -1,6 +1,6 @@
 -- A hall stays sound as one of its channels and the clients change together, where the channel's clients are those of the hall still.
-use Rattle.std.proofs.Common.{◌≡◌, ◌≤◌, ◌<◌, ◌^◌, ℕ, suc, zero, set, Bool, true, false, ◌&&◌, ◌||◌, if◌then◌else◌, List, [], ◌∷◌, map, length, get_or, Option, Some, None, is_none, is_some, refl, sym, ap, subst, ◌∙◌, arith}
-use Rattle.std.specs.Prelude.{IfSome, IsSome, option_and_then, slice_get}
+use Rattle.std.proofs.Common.{◌≡◌, ◌≤◌, ◌<◌, ◌^◌, ℕ, suc, zero, set, Bool, true, false, ◌&&◌, ◌||◌, if◌then◌else◌, List, [], ◌∷◌, map, Option, Some, None, is_none, is_some, refl, sym, ap, subst, ◌∙◌, arith}
+use Rattle.std.specs.Prelude.{IfSome, IsSome, option_and_then}
 use Rattle.std.specs.List.{All, Contains, filter}
 use Rattle.std.specs.Str.{bytes_eq}
 use Rattle.std.proofs.Math.Seq.{map-set_same}
@@ -8,7 +8,7 @@ use Rattle.std.proofs.lemmas.List.Elements.{All-append, All-cons, All-filter, Al
 use Rattle.std.proofs.lemmas.Option.{get_or_from_slice_get}
 use Rattle.nsq_base.specs.Options.{IsInRange}
 use Rattle.nsq_base.specs.Names.{IsAscendingBy, byte_order, is_before, put_by}
-use Rattle.nsq_base.proofs.PutBy.{All-put_by, IsAscendingBy-put_by, Less-from_before, byte_order-flip, other_from_order}
+use Rattle.nsq_base.proofs.PutBy.{IsAscendingBy-put_by, Less-from_before, byte_order-flip, other_from_order}
 use Rattle.broker_history.specs.State.{Client, Route, is_empty}
 use Rattle.broker_history.proofs.Lists.{exact_bytes, find_put}
 use Rattle.topic_core.specs.Seen.{owed_of}

@@ -1,6 +1,6 @@
 -- A message that was drawn for a client is sent to it: that is the definitions' step, of each state that the hall stood for before the drawing.
-use Rattle.std.proofs.Common.{◌≡◌, inl, ◌<◌, ◌≤◌, ℕ, set, Bool, true, false, not, ◌&&◌, if◌then◌else◌, List, length, get_or, Option, Some, None, HoldsAt, option_map, refl, sym, ap, subst, ◌∙◌, arith}
-use Rattle.std.specs.Prelude.{IfSome, IsSome, IsTrue, slice_get, slice_set, unwrap_or}
+use Rattle.std.proofs.Common.{◌≡◌, inl, ◌<◌, ℕ, Bool, true, false, not, ◌&&◌, if◌then◌else◌, List, length, get_or, Option, Some, None, HoldsAt, option_map, refl, sym, ap, subst, ◌∙◌}
+use Rattle.std.specs.Prelude.{IfSome, IsSome, IsTrue, slice_set, unwrap_or}
 use Rattle.std.specs.List.{All}
 use Rattle.std.specs.Str.{bytes_eq}
 use Rattle.std.proofs.lemmas.Bool.{false≢true}
@@ -9,7 +9,6 @@ use Rattle.disk_queue.specs.Seen.{Seen as Queue}
 use Rattle.v2_frame.specs.declared.message.Message.{Message}
 use Rattle.backlog.specs.Seen.{SameQueue}
 use Rattle.broker_history.specs.State.{Channel, Client, Route, State, counted, has_channel, is_lost, is_on, with_client}
-use Rattle.broker_history.specs.Changes.{AtChannel}
 use Rattle.broker_history.specs.Channels.{Moves, Sends}
 use Rattle.broker_history.specs.Step.{DoesSend}
 use Rattle.broker_history.proofs.Lists.{exact_bytes}
@@ -35,7 +34,7 @@ use Rattle.floor_rooms.proofs.Staying.{others_stay}
 use Rattle.floor_acts.specs.Sending.{DrawsStall, HasDrawn, IsToSend, SendsStall}
 use Rattle.floor_acts.proofs.Putting.{carries_client, found_at_place, read_at}
 use Rattle.floor_acts.proofs.Flying.{row_at, stays_rooms}
-use Rattle.floor_acts.proofs.Drawing.{Both, behind_stall, draw_name, draw_stall, holds_there, join}
+use Rattle.floor_acts.proofs.Drawing.{Both, behind_stall, draw_stall, holds_there, join}
 
 -- whose channel a client's is
 its_route : (r : Option Route) (topic channel : List ℕ) → is_on r topic channel ≡ true → (route : Route) × (r ≡ Some route) × (topic ≡ route.topic) × (channel ≡ route.channel)

@@ -1,38 +1,33 @@
 -- What is drawn for a client, and sent to it.
-use Rattle.std.proofs.Common.{◌≡◌, inl, ◌<◌, ◌≤◌, ℕ, min, set, Bool, true, false, List, length, get_or, Option, Some, HoldsAt, option_map, refl, sym, ap, subst, ◌∙◌, arith, set-set}
-use Rattle.std.specs.Prelude.{IsSome, IsTrue, slice_get, slice_set, unwrap_or}
-use Rattle.std.proofs.lemmas.Option.{get_or_from_slice_get, slice_get_within}
+use Rattle.std.proofs.Common.{◌≡◌, inl, ◌≤◌, ℕ, set, Bool, List, get_or, HoldsAt, refl, sym, ap, subst, ◌∙◌, arith, set-set}
+use Rattle.std.specs.Prelude.{IsSome, IsTrue, slice_get}
+use Rattle.std.proofs.lemmas.Option.{get_or_from_slice_get}
 use Rattle.nsq_outside.specs.Files.{Files}
 use Rattle.v2_frame.specs.declared.message.Message.{Message}
-use Rattle.backlog.specs.Lists.{DiskChanges, OnDisk}
-use Rattle.backlog.specs.Seen.{SameQueue}
-use Rattle.broker_history.specs.State.{Channel, Client, Route, State, counted, with_client}
-use Rattle.broker_history.specs.Changes.{AtChannel}
-use Rattle.broker_history.specs.Channels.{IsKept, Moves, Sends}
-use Rattle.broker_history.specs.Step.{AtOwn, DoesSend}
+use Rattle.broker_history.specs.State.{Channel}
+use Rattle.broker_history.specs.Channels.{IsKept}
 use Rattle.channel_copies.specs.Clients.{client_of}
-use Rattle.channel_copies.specs.declared.clients.Client as copies
 use Rattle.channel_core.specs.declared.answers.Next.{Next}
 use Rattle.channel_core.specs.declared.answers.Next.TheVariants as next
 use Rattle.channel_core.specs.declared.drawn.Drawn.{Drawn}
 use Rattle.channel_core.specs.declared.drawn.Drawn.TheVariants.{Nothing}
-use Rattle.channel_core.specs.Drawing.{Draws, NextLeaves, first_drawn, timeout_of}
-use Rattle.channel_core.specs.Seen.{Seen as ChannelSeen, channel_with, drawn_in, queued_in, queue_name, seen_channel}
+use Rattle.channel_core.specs.Drawing.{Draws, NextLeaves}
+use Rattle.channel_core.specs.Seen.{Seen as ChannelSeen, channel_with, queued_in, queue_name, seen_channel}
 use Rattle.floor_rooms.specs.declared.stall.Stall.{Stall}
 use Rattle.floor_rooms.specs.declared.room.Room.{Room}
 use Rattle.floor_rooms.specs.declared.hall.Hall.{Hall}
-use Rattle.floor_rooms.specs.Rooms.{channel_name, topic_name, client_in}
+use Rattle.floor_rooms.specs.Rooms.{channel_name, topic_name}
 use Rattle.floor_rooms.specs.Sound.{IsQuietUntil, IsRoomSound, IsSound, IsStallSound}
-use Rattle.floor_rooms.specs.Standing.{Carries, HoldsFor, IsStallOf, LiftsTo}
-use Rattle.floor_rooms.specs.Changes.{AtStall, KeepsRooms, OnlyQueueFiles, OthersStay, Touches, TouchesStall}
-use Rattle.floor_rooms.proofs.Dating.{keeps_at_stall, keeps_stall_touched, keeps_then, since_equal}
-use Rattle.floor_rooms.proofs.Filing.{only_of_channel, only_same}
+use Rattle.floor_rooms.specs.Standing.{Carries, IsStallOf}
+use Rattle.floor_rooms.specs.Changes.{AtStall, KeepsRooms, OnlyQueueFiles, TouchesStall}
+use Rattle.floor_rooms.proofs.Dating.{keeps_at_stall, keeps_then, since_equal}
+use Rattle.floor_rooms.proofs.Filing.{only_of_channel}
 use Rattle.floor_rooms.proofs.Marked.{MarksStall}
 use Rattle.floor_rooms.proofs.Orders.{stall_as_before}
 use Rattle.floor_rooms.proofs.Sounding.{at_all, sound_touched}
 use Rattle.floor_rooms.proofs.Staying.{others_stay}
 use Rattle.floor_rooms.proofs.Turning.{stall_change}
-use Rattle.floor_acts.specs.Sending.{DrawsStall, HasDrawn, IsUndrawn, SendsStall}
+use Rattle.floor_acts.specs.Sending.{DrawsStall, HasDrawn, IsUndrawn}
 use Rattle.floor_acts.proofs.Flying.{some_same, stands_now, stays_rooms}
 use Rattle.floor_acts.proofs.Returning.{holds_behind, some_since}
 

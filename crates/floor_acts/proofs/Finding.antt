@@ -1,22 +1,19 @@
 -- Where the channel of a client stands, and what is known of it there.
-use Rattle.std.proofs.Common.{◌≡◌, ◌<◌, ℕ, Bool, true, false, not, ◌&&◌, if◌then◌else◌, List, [], ◌∷◌, length, get_or, Option, Some, None, HoldsAt, nat_lt, refl, sym, ap, subst, ◌∙◌, arith}
-use Rattle.std.specs.Prelude.{IfSome, IsSome, option_and_then, option_map, slice_get}
-use Rattle.std.specs.List.{All, find}
+use Rattle.std.proofs.Common.{◌≡◌, ◌<◌, ℕ, true, false, not, ◌&&◌, if◌then◌else◌, List, [], ◌∷◌, length, get_or, Option, Some, None, HoldsAt, nat_lt, refl, sym, ap, subst, ◌∙◌, arith}
+use Rattle.std.specs.Prelude.{IfSome, IsSome, option_and_then, slice_get}
+use Rattle.std.specs.List.{All}
 use Rattle.std.specs.Str.{bytes_eq}
-use Rattle.std.proofs.lemmas.Bool.{false≢true, ltb-true}
-use Rattle.std.proofs.lemmas.Option.{get_or_from_slice_get, slice_get-get_or, slice_get_within}
+use Rattle.std.proofs.lemmas.Bool.{ltb-true}
+use Rattle.std.proofs.lemmas.Option.{get_or_from_slice_get, slice_get-get_or}
 use Rattle.broker_history.proofs.Lists.{same_bytes}
-use Rattle.v2_frame.specs.declared.message.Message.{Message}
-use Rattle.broker_history.specs.State.{Client, Phase, Fresh, Subscribed, Closing, Lost, Route, flying_with, has_channel, is_lost, is_on, is_subscribed}
+use Rattle.broker_history.specs.State.{Client, Phase, Fresh, Subscribed, Closing, Lost, Route, flying_with, has_channel, is_lost, is_on}
 use Rattle.channel_copies.specs.Clients.{client_of}
-use Rattle.channel_copies.specs.declared.clients.Client as copies
 use Rattle.channel_core.specs.Answers.{IsYours}
-use Rattle.channel_core.specs.Seen.{Seen as ChannelSeen, channel_with}
+use Rattle.channel_core.specs.Seen.{channel_with}
 use Rattle.channel_core.proofs.Copies.{flying_with_is}
 use Rattle.floor_clients.specs.Seen.{held_channel, route_named}
 use Rattle.floor_replies.specs.Replies.{copies_at, flies_in, stall_on}
 use Rattle.floor_replies.proofs.Found.{none_at}
-use Rattle.floor_rooms.specs.declared.stall.Stall.{Stall}
 use Rattle.floor_rooms.specs.declared.room.Room.{Room}
 use Rattle.floor_rooms.specs.declared.hall.Hall.{Hall}
 use Rattle.floor_rooms.specs.Places.{IsPlace, IsThere}
@@ -25,8 +22,8 @@ use Rattle.floor_rooms.specs.Sound.{AreMembers, HasItsChannel, IsRoomSound, IsSo
 use Rattle.floor_rooms.proofs.Placing.{found_at}
 use Rattle.floor_rooms.proofs.Sounding.{at_all}
 use Rattle.floor_acts.specs.declared.spots.Spot.{Spot}
-use Rattle.floor_acts.specs.Spots.{GetsOf, IsSpotFor, IsSpotOf, StandsIn}
-use Rattle.floor_acts.proofs.Putting.{found_at_place, holds_read, none_held, read_holds}
+use Rattle.floor_acts.specs.Spots.{IsSpotOf, StandsIn}
+use Rattle.floor_acts.proofs.Putting.{holds_read, read_holds}
 
 -- what stands at a place where something does
 item_at : {X : Type 0} (xs : List X) (i : ℕ) → i < length xs → (x : X) × (slice_get xs i ≡ Some x)

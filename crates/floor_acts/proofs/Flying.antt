@@ -1,18 +1,15 @@
 -- What a client does with a copy that it has is a row of its channel, of each state that the hall stood for.
-use Rattle.std.proofs.Common.{◌≡◌, ◌⊎◌, inl, inr, ◌<◌, ◌≤◌, ◌^◌, ℕ, set, Bool, true, false, List, [], ◌∷◌, length, get_or, Option, Some, None, HoldsAt, nat_lt, refl, sym, ap, subst, ◌∙◌, arith, get_or-set_same, length-set}
-use Rattle.std.specs.Prelude.{IsSome, IsTrue, slice_get}
-use Rattle.std.specs.List.{All}
-use Rattle.std.proofs.lemmas.Bool.{false≢true}
+use Rattle.std.proofs.Common.{◌≡◌, inr, ◌<◌, ℕ, set, List, length, get_or, Option, Some, None, HoldsAt, refl, sym, ap, subst, ◌∙◌, arith, get_or-set_same, length-set}
+use Rattle.std.specs.Prelude.{slice_get}
 use Rattle.std.proofs.lemmas.List.{set-get_or}
 use Rattle.std.proofs.lemmas.Option.{get_or_from_slice_get, slice_get_within, slice_get-get_or}
 use Rattle.nsq_outside.specs.Files.{Files}
 use Rattle.disk_queue.specs.Seen.{Seen as Queue}
 use Rattle.backlog.specs.Lists.{Stands}
 use Rattle.backlog.specs.Seen.{Seen as Backlog, SameQueue}
-use Rattle.v2_frame.specs.declared.message.Message.{Message}
 use Rattle.broker_history.specs.State.{Channel, Client, Route, State, with_client}
 use Rattle.broker_history.specs.Changes.{AtChannel}
-use Rattle.broker_history.specs.Step.{AtOwn, spoke}
+use Rattle.broker_history.specs.Step.{AtOwn}
 use Rattle.channel_copies.specs.Clients.{client_of}
 use Rattle.channel_core.specs.Seen.{Seen as ChannelSeen, queued_in, queue_name}
 use Rattle.floor_laws.specs.Lifting.{Lift}

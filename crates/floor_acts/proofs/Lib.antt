@@ -7,3 +7,4 @@ pub mod Belonging
 pub mod Readying
 pub mod Drawing
 pub mod Delivering
+pub mod Undoing

@@ -1,6 +1,6 @@
 -- A hall of which one client changed, or one more began.
-use Rattle.std.proofs.Common.{◌≡◌, ◌≤◌, ◌<◌, ◌==◌, ℕ, set, Bool, true, false, if◌then◌else◌, List, [], ◌∷◌, ◌++◌, length, get_or, Option, Some, None, HoldsAt, is_some, nat_lt, not, ◌&&◌, Ordering, Less, Equal, Greater, set-set, length-set, refl, sym, ap, subst, ◌∙◌, arith, get_or-set_same}
-use Rattle.std.specs.List.{All, Contains, filter, find, insert}
+use Rattle.std.proofs.Common.{◌≡◌, ◌<◌, ◌==◌, ℕ, set, Bool, true, false, if◌then◌else◌, List, [], ◌∷◌, ◌++◌, length, get_or, Option, Some, None, HoldsAt, is_some, nat_lt, not, ◌&&◌, Less, Equal, Greater, set-set, length-set, refl, sym, ap, subst, ◌∙◌, arith, get_or-set_same}
+use Rattle.std.specs.List.{All, insert}
 use Rattle.std.specs.Ordering.{nat_cmp}
 use Rattle.std.specs.Prelude.{IfSome, IsSome}
 use Rattle.std.specs.Global.{Vec}
@@ -11,14 +11,13 @@ use Rattle.nsq_base.specs.declared.options.Options.{Options}
 use Rattle.nsq_outside.specs.Files.{Files}
 use Rattle.broker_history.specs.Changes.{at_client, changed_client}
 use Rattle.broker_history.specs.Identify.{Identity, identity_of}
-use Rattle.broker_history.specs.State.{Client, Phase, Fresh, Subscribed, Closing, Lost, Route, State, has_channel, is_fresh, is_lost, is_on, is_subscribed, put_client, with_client}
+use Rattle.broker_history.specs.State.{Client, Phase, Fresh, Subscribed, Closing, Lost, Route, State, is_lost, is_on, is_subscribed, put_client, with_client}
 use Rattle.v2_frame.specs.declared.command.Command.TheVariants.{Identify}
 use Rattle.broker_history.specs.Step.{begun, known_as, new_client, spoke, with_identity}
 use Rattle.floor_clients.specs.Places.{AreInOrder, BelongsAt, StandsAt}
 use Rattle.floor_clients.specs.Seen.{held_channel}
 use Rattle.floor_clients.proofs.Placing.{stands}
 use Rattle.floor_clients.proofs.Putting.{found_put, order_put, put_belonging, put_standing}
-use Rattle.floor_rooms.specs.declared.stall.Stall.{Stall}
 use Rattle.floor_rooms.specs.declared.room.Room.{Room}
 use Rattle.floor_rooms.specs.declared.hall.Hall.{Hall}
 use Rattle.floor_rooms.specs.Rooms.{channel_name, topic_name, client_in, stall_at}

@@ -1,6 +1,6 @@
 -- RDY: a client that gets messages asks for so many in flight, and its channel knows it.
-use Rattle.std.proofs.Common.{◌≡◌, ◌<◌, ◌==◌, ℕ, ℤ, set, cond, Bool, true, false, not, ◌&&◌, if◌then◌else◌, List, length, get_or, Option, Some, None, HoldsAt, is_some, nat_eq, refl, sym, ap, subst, ◌∙◌}
-use Rattle.std.specs.Prelude.{IfSome, IsSome, slice_get, slice_set}
+use Rattle.std.proofs.Common.{◌≡◌, ◌<◌, ◌==◌, ℕ, ℤ, set, Bool, true, false, not, ◌&&◌, if◌then◌else◌, List, length, get_or, Option, Some, None, HoldsAt, is_some, nat_eq, refl, sym, ap, subst, ◌∙◌}
+use Rattle.std.specs.Prelude.{slice_set}
 use Rattle.std.specs.List.{All, list_any}
 use Rattle.std.specs.Str.{bytes_eq}
 use Rattle.std.proofs.lemmas.Bool.{eqb-true, false≢true}
@@ -11,7 +11,7 @@ use Rattle.v2_frame.specs.declared.command.Command.TheVariants.{Rdy}
 use Rattle.broker_history.specs.State.{Channel, Client, Phase, Fresh, Subscribed, Closing, Lost, Route, has_channel, is_fresh, is_lost, is_on, is_subscribed, put_client, with_client}
 use Rattle.broker_history.specs.Channels.{IsKept}
 use Rattle.broker_history.specs.Reply.{count_of}
-use Rattle.broker_history.specs.Step.{DoesCommand, ready_for, spoke}
+use Rattle.broker_history.specs.Step.{ready_for, spoke}
 use Rattle.broker_history.proofs.Lists.{exact_bytes, same_bytes}
 use Rattle.channel_copies.specs.Clients.{client_of, now_ready}
 use Rattle.channel_copies.specs.declared.clients.Client as copies
@@ -22,7 +22,7 @@ use Rattle.floor_clients.proofs.Putting.{found_put, order_put}
 use Rattle.floor_rooms.specs.declared.stall.Stall.{Stall}
 use Rattle.floor_rooms.specs.declared.room.Room.{Room}
 use Rattle.floor_rooms.specs.declared.hall.Hall.{Hall}
-use Rattle.floor_rooms.specs.Rooms.{channel_name, topic_name, client_in, stall_at}
+use Rattle.floor_rooms.specs.Rooms.{channel_name, topic_name, client_in}
 use Rattle.floor_rooms.specs.Sound.{AreMembers, AsksForNone, HasItsChannel, IsRoomSound, IsSound, IsStallSound, member_of}
 use Rattle.floor_rooms.specs.Standing.{Carries, HoldsFor, IsStallOf}
 use Rattle.floor_rooms.specs.Changes.{AtStall, KeepsRooms}
@@ -32,7 +32,7 @@ use Rattle.floor_rooms.proofs.Sounding.{at_all}
 use Rattle.floor_acts.specs.declared.spots.Spot.{Spot}
 use Rattle.floor_acts.specs.Acts.{DoesAt}
 use Rattle.floor_acts.specs.Flights.{ReadiesStall}
-use Rattle.floor_acts.specs.Spots.{GetsOf, IsSpotFor, StandsIn}
+use Rattle.floor_acts.specs.Spots.{GetsOf, IsSpotFor}
 use Rattle.floor_acts.proofs.Putting.{SameMember, carries_ordered, found_at_place, holds_read, put_at_place, read_at, read_holds}
 use Rattle.floor_acts.proofs.Finding.{member_here, on_its}
 use Rattle.floor_acts.proofs.Flying.{same_stall, stays_rooms, topic_there, channel_there}

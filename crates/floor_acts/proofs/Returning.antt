@@ -1,10 +1,9 @@
 -- REQ: a copy is given back, or a disk fault leaves it with its client.
-use Rattle.std.proofs.Common.{◌≡◌, inl, ◌<◌, ◌≤◌, ◌^◌, ℕ, ℤ, min, set, Bool, true, false, List, length, get_or, Option, Some, None, HoldsAt, refl, sym, ap, subst, ◌∙◌, arith}
+use Rattle.std.proofs.Common.{◌≡◌, inl, ◌≤◌, ℕ, ℤ, min, Bool, true, false, List, get_or, Option, Some, None, HoldsAt, refl, sym, ap, subst, ◌∙◌}
 use Rattle.std.specs.Prelude.{IsSome, IsTrue, slice_get, slice_set}
 use Rattle.std.proofs.lemmas.Option.{get_or_from_slice_get}
 use Rattle.nsq_outside.specs.Files.{Files}
 use Rattle.v2_frame.specs.declared.command.Command.TheVariants.{Req}
-use Rattle.v2_frame.specs.declared.message.Message.{Message}
 use Rattle.broker_history.specs.State.{Channel, Client, Route, State, counted, with_client}
 use Rattle.broker_history.specs.Changes.{AtChannel}
 use Rattle.broker_history.specs.Channels.{GivesBack, Moves, Room as Space}
@@ -35,11 +34,11 @@ use Rattle.floor_rooms.proofs.Sounding.{at_all}
 use Rattle.floor_rooms.proofs.Staying.{others_stay}
 use Rattle.floor_rooms.proofs.Turning.{stall_change}
 use Rattle.floor_acts.specs.declared.spots.Spot.{Spot}
-use Rattle.floor_acts.specs.Acts.{ChangesAt, DoesAt, FliesAt}
+use Rattle.floor_acts.specs.Acts.{DoesAt, FliesAt}
 use Rattle.floor_acts.specs.Flights.{GivesBackStall}
 use Rattle.floor_acts.proofs.Putting.{holds_read}
 use Rattle.floor_acts.proofs.Flying.{row_at, same_stall, some_same, stands_now, stays_rooms, topic_there, channel_there}
-use Rattle.floor_acts.proofs.Acting.{Spoke, first, last_act, own, own_told, rooms_same, route_is, spoken_in, yours_found}
+use Rattle.floor_acts.proofs.Acting.{Spoke, first, last_act, own, own_told, rooms_same, route_is, yours_found}
 
 -- what is at a place behind a change
 pub holds_behind : (i j : ℕ) (Does : Stall → Stall → Type 0) (r0 r1 : List Room) (P : Stall → Type 0) → (x : AtStall i j Does r0 r1) → P x.does.after → HoldsAt (λ (r : Room). HoldsAt P r.stalls.items j) r1 i

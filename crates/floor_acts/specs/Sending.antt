@@ -9,6 +9,7 @@ use Rattle.channel_copies.specs.Clients.{client_of}
 use Rattle.channel_copies.specs.Putting.{KeepsDisk, around}
 use Rattle.channel_core.specs.declared.answers.Next.{Next}
 use Rattle.channel_core.specs.declared.answers.Next.TheVariants as next
+use Rattle.channel_core.specs.declared.drawn.Drawn.{Drawn}
 use Rattle.channel_core.specs.declared.drawn.Drawn.TheVariants.{Nothing}
 use Rattle.channel_core.specs.Drawing.{DrawFails, Draws, IsDrawnFor, IsFirstDrawn, Leads, NextLeaves, NextWhere, first_drawn, ready_of, timeout_of}
 use Rattle.channel_core.specs.Seen.{channel_with, drawn_in, queued_in}
@@ -60,6 +61,10 @@ pub record SendsStall (tells : Bool) (client now : ℕ) (message : Message) (old
   pub rest : b.channel ≡ record a.channel { backlog = b.channel.backlog; flights = b.channel.flights; drawn = Nothing; spare = b.channel.spare }
   pub disk : KeepsDisk tells (around a.channel.backlog old before) (around b.channel.backlog new after)
   pub same : b ≡ record a { channel = b.channel }
+
+-- the message was drawn for some client
+abbrev pub IsDrawnForSome : Message → Drawn → Type 0
+IsDrawnForSome message d = (client : ℕ) × (now : ℕ) × IsDrawnFor client message now d
 
 -- what putting it back makes of the channel
 pub record UnsendsStall (message : Message) (a b : Stall) : Type 0 where

@@ -13,4 +13,4 @@ mod spots;
 pub use clients::{beat, begin, close, identify, speak, stop};
 pub use flights::{finish, requeue, touch};
 pub use ready::set_ready;
-pub use sending::{draw, settle_sent};
+pub use sending::{draw, settle_sent, undo_sent};

@@ -1,4 +1,4 @@
-ghost use Rattle.std.specs.Prelude.{◌≡◌, ◌<◌, ◌≤◌, ◌^◌, ℕ, HoldsAt, IsSome, IsTrue, length};
+ghost use Rattle.std.specs.Prelude.{◌≡◌, ◌<◌, ◌≤◌, ◌^◌, ℕ, HoldsAt, IsSome, IsTrue, length, Bool, true};
 ghost use Rattle.nsq_outside.specs.Files.{Files};
 ghost use Rattle.backlog.specs.Seen.{FitsLimit};
 ghost use Rattle.broker_history.specs.State.{counted};
@@ -11,7 +11,7 @@ ghost use Rattle.floor_rooms.specs.Sound.{IsSound};
 ghost use Rattle.floor_rooms.specs.Standing.{Carries};
 ghost use Rattle.floor_rooms.specs.declared.hall.Hall.{Hall as Holding};
 ghost use Rattle.floor_acts.specs.Acts.{ChangesAt};
-ghost use Rattle.floor_acts.specs.Sending.{DrawsStall, HasDrawn, IsToSend, IsUndrawn, SendsStall, UnsendsStall};
+ghost use Rattle.floor_acts.specs.Sending.{DrawsStall, HasDrawn, IsDrawnForSome, IsToSend, IsUndrawn, SendsStall, UnsendsStall};
 
 use channel_core::Next;
 use floor_rooms::Hall;
@@ -125,4 +125,32 @@ fn sent_at<F: Folder, L: Ledger>(
     hall.rooms[i].stalls[j]
         .channel
         .sent(folder, number, message, now, steps);
+}
+
+/// The message that `draw` gave isn't sent: it is put back, with the attempts that it had, and the hall stands for what it stood for before. Requires the
+/// places of that `draw`.
+pub fn undo_sent(hall: &mut Hall, i: usize, j: usize, message: Message)
+    requires room { i < length hall.old.rooms.items }
+    requires stall { HoldsAt (λ r. j < length r.stalls.items) hall.old.rooms.items i }
+    requires drawn { HoldsAt (λ r. HoldsAt (λ s. IsDrawnForSome message s.channel.drawn) r.stalls.items j) hall.old.rooms.items i }
+    requires short { FitsLimit message }
+    ensures rest { hall.new ≡ record hall.old { rooms = hall.new.rooms; quiet_until = hall.new.quiet_until } }
+    ensures sound { (tells : Bool) (number : ℕ) (old now : Files) (before after : ℕ) (first : Holding) → HasDrawn tells i j number (next.Send message) old now before after first hall.old → IsSound hall.new }
+    ensures told { (number : ℕ) (old now : Files) (before after : ℕ) (first : Holding) → HasDrawn true i j number (next.Send message) old now before after first hall.old → Carries first old hall.new now (λ s t. t ≡ s) }
+    ensures keeps { (tells : Bool) (number : ℕ) (old now : Files) (before after : ℕ) (first : Holding) → HasDrawn tells i j number (next.Send message) old now before after first hall.old → KeepsRooms first.moment first.rooms.items hall.new.rooms.items }
+{
+    unsend_at(hall, i, j, message);
+    hall.settle_stall(i, j);
+}
+
+// The copy is put back.
+fn unsend_at(hall: &mut Hall, i: usize, j: usize, message: Message)
+    requires room { i < length hall.old.rooms.items }
+    requires stall { HoldsAt (λ r. j < length r.stalls.items) hall.old.rooms.items i }
+    requires drawn { HoldsAt (λ r. HoldsAt (λ s. IsDrawnForSome message s.channel.drawn) r.stalls.items j) hall.old.rooms.items i }
+    requires short { FitsLimit message }
+    ensures rest { hall.new ≡ record hall.old { rooms = hall.new.rooms } }
+    ensures stall { AtStall i j (UnsendsStall message) hall.old.rooms.items hall.new.rooms.items }
+{
+    hall.rooms[i].stalls[j].channel.unsend(message);
 }

@@ -1,12 +1,11 @@
 use Rattle.std.proofs.Common.{refl}
 use Rattle.broker_history.specs.State.{Channel, Client, counted}
-use Rattle.broker_history.specs.Channels.{Finishes, MovesLive, Touches}
+use Rattle.broker_history.specs.Channels.{Finishes, MovesLive}
 use Rattle.broker_history.specs.Step.{spoke}
-use Rattle.channel_core.specs.Drawing.{timeout_of}
 use Rattle.floor_rooms.specs.declared.stall.Stall.{Stall}
 use Rattle.floor_acts.proofs.Putting.{changed_range, changed_twice, sound_client}
 use Rattle.floor_acts.proofs.Flying.{counts_same, flown_touches, range_behind, stall_range_behind}
-use Rattle.floor_acts.proofs.Acting.{Spoke, clients_same, finish_told, flight_keeps, member_at, spoken_in, touch_told, yours_at}
+use Rattle.floor_acts.proofs.Acting.{Spoke, clients_same, finish_told, flight_keeps, spoken_in, yours_at}
 use Rattle.floor_acts.proofs.flights.finish.Goals as goal
 
 pub finish_at-requires-clause-yours : goal.finish_at-requires-clause-yours

@@ -1,12 +1,10 @@
 use Rattle.std.proofs.Common.{refl}
-use Rattle.broker_history.specs.State.{Channel, Client, counted}
-use Rattle.broker_history.specs.Channels.{Finishes, MovesLive, Touches}
-use Rattle.broker_history.specs.Step.{spoke}
+use Rattle.broker_history.specs.State.{Channel}
+use Rattle.broker_history.specs.Channels.{MovesLive, Touches}
 use Rattle.channel_core.specs.Drawing.{timeout_of}
 use Rattle.floor_rooms.specs.declared.stall.Stall.{Stall}
-use Rattle.floor_acts.proofs.Putting.{changed_range, changed_twice, sound_client}
-use Rattle.floor_acts.proofs.Flying.{counts_same, flown_touches, range_behind, stall_range_behind}
-use Rattle.floor_acts.proofs.Acting.{Spoke, clients_same, finish_told, flight_keeps, member_at, spoken_in, touch_told, yours_at}
+use Rattle.floor_acts.proofs.Flying.{flown_touches, range_behind, stall_range_behind}
+use Rattle.floor_acts.proofs.Acting.{Spoke, clients_same, flight_keeps, member_at, spoken_in, touch_told, yours_at}
 use Rattle.floor_acts.proofs.flights.touch.Goals as goal
 
 pub touch_at-requires-clause-yours : goal.touch_at-requires-clause-yours

@@ -1,4 +1,4 @@
-use Rattle.std.proofs.Common.{IsSome, Some, refl, subst, sym}
+use Rattle.std.proofs.Common.{IsSome, refl, subst, sym}
 use Rattle.broker_history.specs.State.{Client}
 use Rattle.channel_copies.specs.Clients.{client_of}
 use Rattle.floor_rooms.specs.declared.stall.Stall.{Stall}

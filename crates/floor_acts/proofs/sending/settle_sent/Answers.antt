@@ -1,7 +1,7 @@
 use Rattle.std.proofs.Common.{◌<◌, HoldsAt, length, refl, subst, sym}
 use Rattle.std.specs.Vec.{with_item}
 use Rattle.std.specs.Prelude.{IsTrue}
-use Rattle.broker_history.specs.State.{Client, counted}
+use Rattle.broker_history.specs.State.{Client}
 use Rattle.broker_history.specs.Step.{DoesSend}
 use Rattle.channel_core.specs.declared.answers.Next.TheVariants.{Send}
 use Rattle.floor_rooms.specs.declared.room.Room.{Room}
@@ -10,7 +10,7 @@ use Rattle.floor_rooms.specs.Sound.{IsSound}
 use Rattle.floor_rooms.specs.Standing.{Carries}
 use Rattle.floor_acts.specs.Sending.{HasDrawn, IsToSend, SendsStall}
 use Rattle.floor_acts.proofs.Putting.{holds_read, read_holds, sound_client}
-use Rattle.floor_acts.proofs.Flying.{counts_same, range_behind, stall_range_behind}
+use Rattle.floor_acts.proofs.Flying.{counts_same}
 use Rattle.floor_acts.proofs.Delivering.{sent_clients, sent_files, sent_keeps, sent_told, sent_touches}
 use Rattle.floor_acts.proofs.sending.settle_sent.Goals as goal
 

@@ -3,5 +3,5 @@ pub mod Clearing
 pub mod Carrying
 pub mod Following
 pub mod Whole
-pub mod Once
+pub mod Leading
 pub mod Tying

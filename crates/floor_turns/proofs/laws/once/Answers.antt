@@ -1,4 +1,4 @@
-use Rattle.floor_turns.proofs.Once.{turn_leads}
+use Rattle.floor_turns.proofs.Leading.{turn_leads}
 use Rattle.floor_turns.proofs.Tying.{turn_ties}
 use Rattle.floor_turns.proofs.laws.once.Goals as goal
 

@@ -104,7 +104,7 @@ module _ (tells_notes tells_files tells_readings : Bool) (number : ℕ) (c : Cal
           least_greatest a b m = omega arith
 
           greatest_next : (coming : ℕ → ℕ) (readings : ℕ) → greatest coming (readings + 1) ≡ max (greatest coming readings) (coming readings)
-          greatest_next coming readings = ap (greatest coming) (sym (add-one readings))
+          greatest_next coming readings = ap (greatest coming) (add-one readings)
 
   turn_here : Leads tells_notes tells_files tells_readings number old new
   turn_here = record {

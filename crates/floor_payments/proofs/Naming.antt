@@ -15,7 +15,7 @@ use Rattle.floor_rooms.specs.declared.stall.Stall.{Stall}
 use Rattle.floor_rooms.specs.Rooms.{channel_name}
 
 -- what comes before a name doesn't come after it, and no name comes before itself
-not_after : (a b : List ℕ) → is_before a b ≡ true → is_before b a ≡ false
+pub not_after : (a b : List ℕ) → is_before a b ≡ true → is_before b a ≡ false
 not_after a b h = ap is_lt (byte_order-flip a b (byte_order a b) refl ∙ ap ordering_reverse (Less-from_before (byte_order a b) h))
 
 before_other : (a b : List ℕ) → is_before a b ≡ true → bytes_eq b a ≡ false
@@ -25,7 +25,7 @@ itself_not : (a : List ℕ) (b : Bool) → is_before a a ≡ b → b ≡ false
 itself_not a true h = absurd (false≢true (sym (before_other a a h) ∙ same_bytes a))
 itself_not a false h = refl
 
-not_before : (a : List ℕ) → is_before a a ≡ false
+pub not_before : (a : List ℕ) → is_before a a ≡ false
 not_before a = itself_not a (is_before a a) refl
 
 -- a name that comes behind all others is put at the end

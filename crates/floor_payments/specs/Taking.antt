@@ -1,5 +1,5 @@
 -- What becomes of a topic as a message of it is taken.
-use Rattle.std.specs.Prelude.{◌≡◌, ◌≢◌, ◌≤◌, ℕ, Bool, false, List, [], ◌∷◌, ◌++◌, IsTrue, IsSome, IfSome, Option, Some, None, slice_get}
+use Rattle.std.specs.Prelude.{◌≡◌, ◌≢◌, ◌≤◌, ℕ, Bool, false, List, [], ◌∷◌, ◌++◌, IsTrue, IfSome, Option, Some, None, slice_get}
 use Rattle.nsq_base.specs.Names.{TopicList}
 use Rattle.nsq_outside.specs.Causes.{Rose}
 use Rattle.nsq_outside.specs.Files.{Files, SameFiles}

@@ -1,0 +1,51 @@
+use Rattle.floor_rooms.specs.declared.hall.Hall.{Hall}
+use Rattle.floor_payments.specs.Copying.{bounded}
+use Rattle.floor_payments.proofs.Offering.{offer_files, offer_gives, offer_keeps_all, offer_room, offer_touches}
+use Rattle.floor_payments.proofs.giving.give.Goals as goal
+
+pub returns-clause-gives : goal.returns-clause-gives
+returns-clause-gives g c = λ topic channel named told.
+    let h0 : Hall = c.args.hall.now in
+    let h1 : Hall = c.mark_stall.new.self in
+    let h2 : Hall = c.offer-made.new.hall in
+    let h3 : Hall = c.settle_stall.new.self in
+    offer_gives g.F.Folder.tells_files h0 h1 h2 h3 _ _ (g.F.Folder.files c.args.folder.now) (g.F.Folder.files c.offer-made.new.folder) (g.F.Folder.folder_faults c.args.folder.now) (g.F.Folder.folder_faults c.offer-made.new.folder) c.args.place (bounded c.args.message) c.offer-made.result c.mark_stall.ensures.rest c.mark_stall.ensures.stall c.mark_stall.ensures.sound
+    c.offer-made.ensures.rest c.offer-made.ensures.stall c.settle_stall.ensures.rest
+    told (λ s holds. c.mark_stall.ensures.stands (g.F.Folder.files c.args.folder.now) s holds) (λ s holds. c.settle_stall.ensures.stands (g.F.Folder.files c.offer-made.new.folder) s holds) topic channel named
+
+pub returns-clause-sound : goal.returns-clause-sound
+returns-clause-sound g c =
+    let h0 : Hall = c.args.hall.now in
+    let h1 : Hall = c.mark_stall.new.self in
+    let h2 : Hall = c.offer-made.new.hall in
+    let h3 : Hall = c.settle_stall.new.self in
+    c.settle_stall.ensures.sound h1
+    (offer_touches g.F.Folder.tells_files h0 h1 h2 h3 _ _ (g.F.Folder.files c.args.folder.now) (g.F.Folder.files c.offer-made.new.folder) (g.F.Folder.folder_faults c.args.folder.now) (g.F.Folder.folder_faults c.offer-made.new.folder) c.args.place (bounded c.args.message) c.offer-made.result c.mark_stall.ensures.rest c.mark_stall.ensures.stall c.mark_stall.ensures.sound
+    c.offer-made.ensures.rest c.offer-made.ensures.stall c.settle_stall.ensures.rest)
+
+pub returns-clause-keeps : goal.returns-clause-keeps
+returns-clause-keeps g c =
+    let h0 : Hall = c.args.hall.now in
+    let h1 : Hall = c.mark_stall.new.self in
+    let h2 : Hall = c.offer-made.new.hall in
+    let h3 : Hall = c.settle_stall.new.self in
+    offer_keeps_all g.F.Folder.tells_files h0 h1 h2 h3 _ _ (g.F.Folder.files c.args.folder.now) (g.F.Folder.files c.offer-made.new.folder) (g.F.Folder.folder_faults c.args.folder.now) (g.F.Folder.folder_faults c.offer-made.new.folder) c.args.place (bounded c.args.message) c.offer-made.result c.mark_stall.ensures.rest c.mark_stall.ensures.stall c.mark_stall.ensures.sound
+    c.offer-made.ensures.rest c.offer-made.ensures.stall c.settle_stall.ensures.rest
+
+pub returns-clause-files : goal.returns-clause-files
+returns-clause-files g c =
+    let h0 : Hall = c.args.hall.now in
+    let h1 : Hall = c.mark_stall.new.self in
+    let h2 : Hall = c.offer-made.new.hall in
+    let h3 : Hall = c.settle_stall.new.self in
+    offer_files g.F.Folder.tells_files h0 h1 h2 h3 _ _ (g.F.Folder.files c.args.folder.now) (g.F.Folder.files c.offer-made.new.folder) (g.F.Folder.folder_faults c.args.folder.now) (g.F.Folder.folder_faults c.offer-made.new.folder) c.args.place (bounded c.args.message) c.offer-made.result c.mark_stall.ensures.rest c.mark_stall.ensures.stall c.mark_stall.ensures.sound
+    c.offer-made.ensures.rest c.offer-made.ensures.stall c.settle_stall.ensures.rest
+
+pub returns-clause-room : goal.returns-clause-room
+returns-clause-room g c =
+    let h0 : Hall = c.args.hall.now in
+    let h1 : Hall = c.mark_stall.new.self in
+    let h2 : Hall = c.offer-made.new.hall in
+    let h3 : Hall = c.settle_stall.new.self in
+    offer_room g.F.Folder.tells_files h0 h1 h2 h3 _ _ (g.F.Folder.files c.args.folder.now) (g.F.Folder.files c.offer-made.new.folder) (g.F.Folder.folder_faults c.args.folder.now) (g.F.Folder.folder_faults c.offer-made.new.folder) c.args.place (bounded c.args.message) c.offer-made.result c.mark_stall.ensures.rest c.mark_stall.ensures.stall c.mark_stall.ensures.sound
+    c.offer-made.ensures.rest c.offer-made.ensures.stall c.settle_stall.ensures.rest

@@ -1,0 +1,20 @@
+use Rattle.std.proofs.Common.{refl}
+use Rattle.floor_rooms.specs.Changes.{InRoom}
+use Rattle.floor_rooms.proofs.Marked.{at_room_read, in_room_read, range_of}
+use Rattle.floor_payments.specs.Copying.{OffersStall, bounded}
+use Rattle.floor_payments.proofs.Offering.{offers_stall}
+use Rattle.floor_payments.proofs.giving.offer.Goals as goal
+
+pub returns-clause-stall : goal.returns-clause-stall
+returns-clause-stall g c =
+    let room = c.index_mut.result.now in
+    let stall = c.index_mut-2.result.now in
+    let old = g.F.Folder.files c.args.folder.now in
+    let new = g.F.Folder.files c.offer-offered.new.folder in
+    let before = g.F.Folder.folder_faults c.args.folder.now in
+    let after = g.F.Folder.folder_faults c.offer-offered.new.folder in
+    let Given = OffersStall g.F.Folder.tells_files c.args.hall.now.moment (bounded c.args.message) c.made_of.result old new before after in
+    at_room_read c.args.place.room (InRoom c.args.place.stall Given) c.args.hall.now.rooms.items room _ c.requires.room c.index_mut.ensures.value
+    (in_room_read c.args.place.stall Given room _ stall _ (range_of c.args.place.stall c.args.hall.now.rooms.items c.args.place.room room c.index_mut.ensures.value c.requires.stall) c.index_mut-2.ensures.value refl refl
+    (offers_stall g.F.Folder.tells_files c.args.hall.now.moment c.args.message c.bound-message.result c.offer-offered.result c.made_of.result old new before after stall _ c.bound-message.ensures c.made_of.ensures
+    c.offer-offered.ensures.row c.offer-offered.ensures.rest c.offer-offered.ensures.disk c.offer-offered.ensures.cause refl))

@@ -1,16 +1,20 @@
-ghost use Rattle.std.specs.Prelude.{◌≡◌, ◌≢◌, ℕ, IsTrue};
+ghost use Rattle.std.specs.Prelude.{◌≡◌, ◌≢◌, ◌<◌, IsTrue, length};
 ghost use Rattle.broker_history.specs.Entries.{own};
 ghost use Rattle.desk.specs.Answers.{Adds, Grows, IsAnswerTo, IsShortAnswer, StopsSeen};
 ghost use Rattle.desk.specs.Calls.{CanCall, MayCall};
 ghost use Rattle.desk.specs.declared.turned.Turned.TheVariants.{Strange};
 ghost use Rattle.floor_turns.specs.Scenes.{scene};
-ghost use Rattle.broker_floor.specs.Turns.{IsTurn};
+ghost use Rattle.floor_turns.specs.Turns.{IsTurn};
 
 use crate::Floor;
 use broker_history::Entry;
 use desk::{Call, Turned, Turner};
+use floor_turns::turn_at;
+use nsq_base::Steps;
 use nsq_outside::{Clock, Folder, Journal};
 use std::alloc::Global;
+use std::marker::Brand;
+use std::sync::ledger::{Blank, Ledger};
 
 impl<F: Folder, C: Clock, J: Journal<Entry>> Floor<F, C, J> {
     /// Takes a turn of this number: it reads the clock once, moves what is due, 64 moves at most unless a Stop is called for, and makes the act of the call,
@@ -20,27 +24,31 @@ impl<F: Folder, C: Clock, J: Journal<Entry>> Floor<F, C, J> {
         requires can { CanCall call }
         requires may { IsTrue J.tells_notes → MayCall number (own number (J.notes self.old.journal)) call }
         ensures turn { IsTurn J.tells_notes F.tells_files C.tells_readings number call result (scene self.old.hall (J.notes self.old.journal) (F.files self.old.folder) (F.folder_faults self.old.folder) (C.coming self.old.clock)) (scene self.new.hall (J.notes self.new.journal) (F.files self.new.folder) (F.folder_faults self.new.folder) (C.coming self.new.clock)) }
-        ensures told { IsTrue J.tells_notes → result ≢ Strange }
-        ensures short { IsShortAnswer result }
-    {}
-}
+    {
+        self.turn_in::<Brand>(Blank::new(1), alloc, number, call)
+    }
 
-impl<F: Folder, C: Clock, J: Journal<Entry>> Turner for Floor<F, C, J> {
-    ghost use Rattle.floor_turns.specs.Leads.{Leads};
-    ghost use Rattle.floor_turns.proofs.Following.{leads_stay, leads_follow};
-    ghost use Rattle.floor_turns.specs.Scenes.{scene};
-
-    ghost tells = { J.tells_notes };
-
-    ghost notes = { λ f. J.notes f.journal };
-
-    ghost leads = { λ n a b. Leads J.tells_notes F.tells_files C.tells_readings n (scene a.hall (J.notes a.journal) (F.files a.folder) (F.folder_faults a.folder) (C.coming a.clock)) (scene b.hall (J.notes b.journal) (F.files b.folder) (F.folder_faults b.folder) (C.coming b.clock)) };
-
-    ghost stays = { λ n f. leads_stay _ _ _ _ _ };
-
-    ghost goes_on = { λ n a b c p q. leads_follow _ _ _ _ _ _ _ p q };
-
-    fn take_turn(&mut self, alloc: Global, conn: u64, call: Call) -> Turned {
-        self.turn(alloc, conn, call)
+    // The same, with steps of heaps counted in a ledger.
+    fn turn_in<L: Ledger>(&mut self, blank: Blank, alloc: Global, number: u64, call: Call) -> Turned
+        requires name { blank.name ≡ L.name }
+        requires parts { blank.parts ≡ L.parts }
+        requires some { 0 < L.parts }
+        requires can { CanCall call }
+        requires may { IsTrue J.tells_notes → MayCall number (own number (J.notes self.old.journal)) call }
+        ensures turn { IsTurn J.tells_notes F.tells_files C.tells_readings number call result (scene self.old.hall (J.notes self.old.journal) (F.files self.old.folder) (F.folder_faults self.old.folder) (C.coming self.old.clock)) (scene self.new.hall (J.notes self.new.journal) (F.files self.new.folder) (F.folder_faults self.new.folder) (C.coming self.new.clock)) }
+    {
+        let mut steps: Steps<L> = Steps::new(blank);
+        let reading = self.clock.now();
+        self.hall.pass(reading);
+        turn_at(
+            &mut self.hall,
+            alloc,
+            number,
+            call,
+            &mut self.folder,
+            &mut self.scratch,
+            &mut self.journal,
+            &mut steps,
+        )
     }
 }

@@ -2,3 +2,6 @@ pub mod Owing
 pub mod Clearing
 pub mod Carrying
 pub mod Following
+pub mod Whole
+pub mod Leading
+pub mod Tying

@@ -1,5 +1,5 @@
 -- What turns of a number lead to.
-use Rattle.std.specs.Prelude.{◌≡◌, ◌⊎◌, ◌≤◌, ℕ, ◌+◌, Bool, true, false, IsTrue, ◌++◌, Some, IfSome}
+use Rattle.std.specs.Prelude.{◌≡◌, ◌⊎◌, ◌≤◌, ℕ, ◌+◌, Bool, true, false, IsTrue, List, ◌++◌, Option, Some, IfSome}
 use Rattle.broker_history.specs.State.{State}
 use Rattle.broker_history.specs.Entries.{History, faults_apart, faults_of}
 use Rattle.broker_history.specs.Legal.{Legal}
@@ -12,7 +12,6 @@ use Rattle.floor_rooms.specs.Kept.{NamesTold}
 use Rattle.turn_laws.specs.Laid.{AreTurns}
 use Rattle.turn_laws.specs.Laws.{RoseBy}
 use Rattle.floor_turns.specs.Scenes.{IsAt, Scene, Stands}
-use Rattle.std.specs.List.{List}
 
 -- from a state that the floor stood for, turns led to another one: the entries that they noted are legal, and no more of them ended with a disk fault than
 -- the folder's count rose; where such a fault kept the Stop's turn from paying all, it rose by more than those that don't stand just before the Stop

@@ -3,3 +3,4 @@ pub mod Acting
 pub mod Turning
 pub mod Scenes
 pub mod Leads
+pub mod Turns

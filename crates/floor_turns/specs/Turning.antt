@@ -40,11 +40,11 @@ most_for true = 2 ^ 64 - 1
 most_for false = most_moves
 
 -- what was paid before a call's act allows it
-pub record PaysFor (tells_notes tells_files : Bool) (stopping : Bool) (old new : Sight) (paid : Paid) : Type 0 where
-  pub extends : Extends tells_notes tells_files (IsPayment old.hall.moment (most_for stopping) paid) old new
-  pub stuck : CountsStuck tells_files old new paid
-  pub act : paid ≢ paid.Wants → (t : State) → HoldsFor new.hall new.files t → MayActBehind old.hall.moment extends.added t
-  pub stop : stopping ≡ true → paid ≢ paid.Wants → paid ≢ paid.Most → (t : State) → HoldsFor new.hall new.files t → MayStop extends.added t old.hall.moment
+pub record PaysFor (tells_notes tells_files : Bool) (stopping : Bool) (old new : Sight) (ended : Paid) : Type 0 where
+  pub extends : Extends tells_notes tells_files (IsPayment old.hall.moment (most_for stopping) ended) old new
+  pub stuck : CountsStuck tells_files old new ended
+  pub act : ended ≢ paid.Wants → (t : State) → HoldsFor new.hall new.files t → MayActBehind old.hall.moment extends.added t
+  pub stop : stopping ≡ true → ended ≢ paid.Wants → ended ≢ paid.Most → (t : State) → HoldsFor new.hall new.files t → MayStop extends.added t old.hall.moment
 
 -- the client of the call's number isn't as it should be: nothing was noted
 pub record IsTurnedAway (h : Hall) (number : ℕ) (c : Call) (answer : Turned) (added : History) : Type 0 where

@@ -103,7 +103,12 @@ fn conn_of(act: &Act, number: u64) -> u64
 }
 
 // Keeps the entry of an act aside, and gives the act back: `note` appends the entry then. Want of memory is the only error.
-fn announce_act<J: Journal<Entry>>(journal: &mut J, conn: u64, at: u64, act: Act) -> Result<Act, Memory>
+fn announce_act<J: Journal<Entry>>(
+    journal: &mut J,
+    conn: u64,
+    at: u64,
+    act: Act,
+) -> Result<Act, Memory>
     requires { J.is_aside journal.old ≡ false }
     ensures same { IfOk result (λ back. back ≡ act) }
     ensures aside { OnOk result (J.is_aside journal.new ≡ true) }

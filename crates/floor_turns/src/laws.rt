@@ -1,3 +1,4 @@
+ghost use Rattle.floor_turns.specs.Turns.{TurnLeads, TurnTies};
 ghost use Rattle.floor_turns.specs.Leads.{LeadsFollow, LeadsStay};
 ghost use Rattle.floor_turns.specs.Paying.{PaidMayAct, PaidMayStop};
 
@@ -11,4 +12,10 @@ pub fn payments()
 pub fn leads()
     ensures stay { LeadsStay }
     ensures follow { LeadsFollow }
+{}
+
+/// One turn leads where turns of its number lead, and ties a hall's clients and its Stop to its history still.
+pub fn once()
+    ensures leads { TurnLeads }
+    ensures ties { TurnTies }
 {}

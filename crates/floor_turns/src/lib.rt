@@ -11,6 +11,6 @@ mod turning;
 
 pub use acting::{Carried, carry_out, make_act};
 pub use drawing::draw;
-pub use laws::{leads, payments};
+pub use laws::{leads, once, payments};
 pub use paying::{Paid, pay};
 pub use turning::turn_at;

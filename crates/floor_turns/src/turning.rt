@@ -1,4 +1,4 @@
-ghost use Rattle.std.specs.Prelude.{◌≡◌, ◌&&◌, ◌||◌, ◌≤◌, IsTrue, false, true, length};
+ghost use Rattle.std.specs.Prelude.{◌≡◌, ◌&&◌, ◌||◌, ◌≤◌, IsTrue, false, not, true, length};
 ghost use Rattle.desk.specs.Calls.{CanCall};
 ghost use Rattle.floor_rooms.specs.Changes.{OnlyQueueFiles};
 ghost use Rattle.floor_rooms.specs.Sound.{IsSound};
@@ -50,7 +50,7 @@ pub fn turn_at<F: Folder, J: Journal<Entry>, L: Ledger>(
     }
     let stopping = is_stopping(&call);
     let paid = pay_first(hall, stopping, folder, scratch, journal, steps);
-    if !is_enough(paid, stopping) {
+    if lacks(paid, stopping) {
         return Turned::Memory;
     }
     let answer = serve(hall, alloc, number, call, folder, scratch, journal, steps);
@@ -93,15 +93,15 @@ fn most_for(stopping: bool) -> u64
     64
 }
 
-// Whether enough was paid for an act: memory wasn't wanting, and all for a Stop unless a disk fault kept it off.
-fn is_enough(paid: Paid, stopping: bool) -> bool
-    ensures { result ≡ is_enough paid stopping }
+// Whether too little was paid for an act: memory was wanting, or a Stop had more to pay.
+fn lacks(paid: Paid, stopping: bool) -> bool
+    ensures { result ≡ not (is_enough paid stopping) }
 {
     match paid {
-        Paid::Clear => true,
-        Paid::Most => !stopping,
-        Paid::Stuck => true,
-        Paid::Wants => false,
+        Paid::Clear => false,
+        Paid::Most => stopping,
+        Paid::Stuck => false,
+        Paid::Wants => true,
     }
 }
 

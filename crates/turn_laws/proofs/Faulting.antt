@@ -24,6 +24,10 @@ faults-append h k = ap length (filter-append (λ e. is_faulted e.1) h k) ∙ len
 pub one_where : Bool → ℕ
 one_where b = if b then 1 else 0
 
+pub no_fault : one_where false ≡ 0
+unfolding one_where
+no_fault = refl
+
 one_more : (e : Entry × End) (h : History) (b : Bool) → length (if b then e ∷ filter (λ f. is_faulted f.1) h else filter (λ f. is_faulted f.1) h) ≡ one_where b + faults_of h
 unfolding one_where
 one_more e h true = omega arith
@@ -39,7 +43,7 @@ few true false = omega arith
 few false stop = omega arith
 
 -- an entry counts apart once at most
-apart-cons : (e : Entry × End) (h : History) → faults_apart (e ∷ h) ≤ one_where (is_faulted e.1) + faults_apart h
+pub apart-cons : (e : Entry × End) (h : History) → faults_apart (e ∷ h) ≤ one_where (is_faulted e.1) + faults_apart h
 unfolding one_where
 apart-cons e [] = omega arith
 apart-cons e (f ∷ h) = omega (arith, few (is_faulted e.1) (is_stop f.0.act))

@@ -20,7 +20,8 @@ use Rattle.floor_rooms.specs.declared.hall.Hall.{Hall}
 use Rattle.floor_rooms.specs.Standing.{HoldsFor}
 use Rattle.floor_rooms.specs.declared.room.Room.{Room}
 use Rattle.floor_moves.specs.Pending.{IsBusyAt}
-use Rattle.floor_stub.specs.Any.{HasRoomAt, OwesNext, TakesNext}
+use Rattle.floor_payments.specs.Taking.{HasRoomAt, TakesNext}
+use Rattle.floor_payments.specs.Copying.{OwesNext}
 use Rattle.floor_moves.specs.declared.made.Made.{Made}
 use Rattle.floor_moves.specs.declared.made.Made.TheVariants as made
 use Rattle.floor_moves.specs.Moves.{IsKeptOff, IsMade, Keeps, Moves, NothingNoted, Notes, RoseBy, Sight, sight}

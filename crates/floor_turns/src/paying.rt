@@ -10,8 +10,8 @@ ghost use Rattle.floor_turns.specs.Paying.{MovesNext, Pays, ended};
 
 use broker_history::Entry;
 use floor_moves::{Made, Place, find_due, find_pending, move_due};
+use floor_payments::{copy_message, take_message};
 use floor_rooms::{Hall, Room};
-use floor_stub::{copy_message, take_message};
 use nsq_base::Steps;
 use nsq_outside::{Folder, Journal};
 use std::sync::ledger::Ledger;

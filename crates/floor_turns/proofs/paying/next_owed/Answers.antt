@@ -1,13 +1,15 @@
 use Rattle.std.proofs.Common.{ap}
 use Rattle.floor_rooms.specs.declared.hall.Hall.{Hall}
+use Rattle.broker_history.specs.declared.entry.Act.TheVariants.{Copied}
 use Rattle.floor_moves.proofs.Keeping.{keeps_on}
+use Rattle.floor_payments.specs.Taking.{taking}
 use Rattle.floor_turns.proofs.Owing.{moved_on, owes_at, takes_at}
 use Rattle.floor_turns.proofs.paying.next_owed.Goals as goal
 
 pub returns-then-has_taken-clause-moves : goal.returns-then-has_taken-clause-moves
 returns-then-has_taken-clause-moves g c =
     moved_on g.J.Journal.tells_notes g.F.Folder.tells_files c.args.hall.now c.find_pending.new.hall (g.J.Journal.notes c.args.journal.now) (g.F.Folder.files c.args.folder.now) (g.F.Folder.folder_faults c.args.folder.now) _ c.find_pending.ensures.unlists.stands
-    c.copy_message.ensures.moves.move c.copy_message.result c.ended.result c.ended.ensures c.find_pending.ensures.keeps.moment c.copy_message.ensures.moves.moves
+    (Copied c.copy_message.ensures.moves.owed.topic c.copy_message.ensures.moves.owed.channel c.copy_message.ensures.moves.is.taken.message) c.copy_message.result c.ended.result c.ended.ensures c.find_pending.ensures.keeps.moment c.copy_message.ensures.moves.moves
 
 pub returns-then-has_taken-clause-keeps : goal.returns-then-has_taken-clause-keeps
 returns-then-has_taken-clause-keeps g c = keeps_on c.args.hall.now c.find_pending.new.hall c.copy_message.new.hall c.find_pending.ensures.keeps c.copy_message.ensures.keeps
@@ -15,7 +17,7 @@ returns-then-has_taken-clause-keeps g c = keeps_on c.args.hall.now c.find_pendin
 pub returns-clause-moves : goal.returns-clause-moves
 returns-clause-moves g c =
     moved_on g.J.Journal.tells_notes g.F.Folder.tells_files c.args.hall.now c.find_pending.new.hall (g.J.Journal.notes c.args.journal.now) (g.F.Folder.files c.args.folder.now) (g.F.Folder.folder_faults c.args.folder.now) _ c.find_pending.ensures.unlists.stands
-    c.take_message.ensures.moves.move c.take_message.result c.ended-2.result c.ended-2.ensures c.find_pending.ensures.keeps.moment c.take_message.ensures.moves.moves
+    (taking c.take_message.ensures.moves.room c.take_message.ensures.moves.message c.take_message.result) c.take_message.result c.ended-2.result c.ended-2.ensures c.find_pending.ensures.keeps.moment c.take_message.ensures.moves.moves
 
 pub returns-clause-keeps : goal.returns-clause-keeps
 returns-clause-keeps g c = keeps_on c.args.hall.now c.find_pending.new.hall c.take_message.new.hall c.find_pending.ensures.keeps c.take_message.ensures.keeps

@@ -1,0 +1,46 @@
+//! What happens, as entries of the broker's history.
+
+use broker_history::{Act, Ask, Entry, Said};
+use broker_plain::{Phase, reply};
+use nsq_base::{Memory, Options};
+use std::alloc::Global;
+use v2_frame::Command;
+
+// The connection that asks over HTTP.
+const ASKING: u64 = 9;
+
+/// An act of the daemon.
+pub fn of_daemon(at: u64, act: Act) -> Entry {
+    Entry { conn: 0, at, act }
+}
+
+/// An act of a client.
+pub fn of_client(conn: u64, at: u64, act: Act) -> Entry {
+    Entry { conn, at, act }
+}
+
+/// Something that is asked and done.
+pub fn asked(at: u64, ask: Ask) -> Entry {
+    Entry {
+        conn: ASKING,
+        at,
+        act: Act::Asked(ask, Said::Done),
+    }
+}
+
+/// A command of a client that has subscribed, with its reply: the message that the command names is in flight with it or isn't.
+pub fn commanded(
+    alloc: Global,
+    options: &Options,
+    conn: u64,
+    at: u64,
+    command: Command,
+    flies: bool,
+) -> Result<Entry, Memory> {
+    let given = reply(alloc, options, 0, Phase::Subscribed, flies, &command)?;
+    Ok(Entry {
+        conn,
+        at,
+        act: Act::Did(command, given),
+    })
+}

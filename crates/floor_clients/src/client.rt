@@ -1,4 +1,4 @@
-ghost use Rattle.std.specs.Prelude.{◌≡◌, ◌≤◌, ◌^◌, ℕ, Bool, true, IfOk, option_map};
+ghost use Rattle.std.specs.Prelude.{◌≡◌, ◌≤◌, ◌^◌, ℕ, Bool, None, true, IfOk, option_map};
 ghost use Rattle.broker_history.specs.State.{Closing, counted, is_fresh, is_lost, is_subscribed};
 ghost use Rattle.broker_history.specs.Identify.{Identity};
 ghost use Rattle.broker_history.specs.Credit.{has_passed, is_beat_due, is_silent};
@@ -112,6 +112,13 @@ impl Client {
         ensures { result ≡ is_lost self.now.phase }
     {
         self.standing.is_lost()
+    }
+
+    /// A client that has no channel yet has the names of none: for callers' proofs, since it does nothing.
+    pub fn fresh_has_none(&self)
+        ensures { is_fresh self.now.phase ≡ true → held_channel self.now.phase self.now.route ≡ None }
+    {
+        self.standing.fresh_has_none();
     }
 
     /// The names of the topic and the channel that it has: None where it has none yet, or none any more.

@@ -1,4 +1,4 @@
-ghost use Rattle.std.specs.Prelude.{◌≡◌, true, option_map};
+ghost use Rattle.std.specs.Prelude.{◌≡◌, None, true, option_map};
 ghost use Rattle.broker_history.specs.State.{Closing, is_fresh, is_lost, is_subscribed};
 ghost use Rattle.floor_clients.specs.Seen.{channel_of, phase_of, route_of, route_named};
 
@@ -47,6 +47,16 @@ impl Standing {
         match self {
             Standing::Subscribed(topic, channel) => Standing::Closing(topic, channel),
             Standing::Fresh | Standing::Closing(_, _) | Standing::Lost(_, _) => self,
+        }
+    }
+
+    // A client that has no channel yet has the names of none.
+    pub(crate) fn fresh_has_none(self)
+        ensures { is_fresh (phase_of self) ≡ true → channel_of self ≡ None }
+    {
+        match self {
+            Standing::Fresh => {}
+            Standing::Subscribed(_, _) | Standing::Closing(_, _) | Standing::Lost(_, _) => {}
         }
     }
 

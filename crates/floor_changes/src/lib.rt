@@ -11,3 +11,4 @@ pub use going::{delete_room, drop_room, forget_room};
 pub use losing::lose_stall;
 pub use lost::Lost;
 pub use seating::{part, take_seat};
+pub use seats::seat_in;

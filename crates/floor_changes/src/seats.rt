@@ -7,8 +7,9 @@ ghost use Rattle.floor_changes.specs.Seating.{AreAscending, IsNumberPlace, SameS
 use floor_rooms::Stall;
 use nsq_base::Memory;
 
-// The client of this number is one of the channel's from now on, and asks for no copy yet. After Memory nothing changed of it.
-pub(crate) fn seat_in(stall: &mut Stall, number: u64, timeout: u64) -> Result<(), Memory>
+/// The client of this number is one of the channel's from now on, and asks for no copy yet. After Memory, the only error, it has the clients that it had.
+/// Requires that the client isn't one of them, and a timeout, in nanoseconds, that is at most 2^62.
+pub fn seat_in(stall: &mut Stall, number: u64, timeout: u64) -> Result<(), Memory>
     requires new { client_of stall.old.channel.clients number ≡ None }
     requires absent { list_any (nat_eq number) stall.old.members.items ≡ false }
     requires order { AreAscending stall.old.members.items }

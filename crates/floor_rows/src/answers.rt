@@ -1,7 +1,7 @@
 //! Answers as text, as a turn gives them, and as the act that it noted tells them.
 
 use crate::stats::put_stats;
-use crate::texts::{put, put_message, put_names, put_number};
+use crate::texts::{put, put_names, put_number, put_sent};
 use broker_history::{Act, Said};
 use desk::Turned;
 use nsq_base::Memory;
@@ -17,7 +17,7 @@ pub fn put_answer(alloc: Global, out: &mut Vec<u8>, answer: &Turned) -> Result<(
         Turned::Quiet => put(out, b"quiet"),
         Turned::Deleted => put(out, b"deleted"),
         Turned::Stopping => put(out, b"stopping"),
-        Turned::Send(frame) => put_sent(alloc, out, frame),
+        Turned::Send(frame) => put_push(alloc, out, frame),
         Turned::Idle => put(out, b"idle"),
         Turned::Silent => put(out, b"silent"),
         Turned::Ended => put(out, b"ended"),
@@ -45,11 +45,11 @@ fn put_reply(out: &mut Vec<u8>, frame: &Frame, closes: bool) -> Result<(), Memor
     Ok(())
 }
 
-fn put_sent(alloc: Global, out: &mut Vec<u8>, frame: &Frame) -> Result<(), Memory> {
+fn put_push(alloc: Global, out: &mut Vec<u8>, frame: &Frame) -> Result<(), Memory> {
     put(out, b"sends ")?;
     match frame.kind {
         FrameKind::Message => match Message::take(alloc, frame.body.bytes()) {
-            Taken::Whole(message) => put_message(out, &message),
+            Taken::Whole(message) => put_sent(out, &message),
             Taken::Short => put(out, b"too little"),
             Taken::Memory => Err(Memory),
         },
@@ -77,7 +77,7 @@ pub fn put_told(out: &mut Vec<u8>, act: &Act, at: u64, end: End) -> Result<(), M
         Act::Refused(_, frame) => put_frame(out, frame),
         Act::Sent(message) => {
             put(out, b"sends ")?;
-            put_undelayed(out, message)
+            put_sent(out, message)
         }
         Act::Beat => put(out, b"sends _heartbeat_"),
         Act::Idle | Act::Stuck(_, Some(_)) => put(out, b"idle"),
@@ -97,17 +97,6 @@ pub fn put_told(out: &mut Vec<u8>, act: &Act, at: u64, end: End) -> Result<(), M
         Act::Stop => put(out, b"stopping"),
         _ => Ok(()),
     }
-}
-
-// A message as it is sent: its delay isn't.
-fn put_undelayed(out: &mut Vec<u8>, message: &Message) -> Result<(), Memory> {
-    let before = out.len();
-    put_message(out, message)?;
-    if message.delay != 0 {
-        out.truncate(before);
-        return put(out, b"a message with a delay");
-    }
-    Ok(())
 }
 
 // What the client of a command is answered.

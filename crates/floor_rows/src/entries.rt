@@ -1,6 +1,6 @@
 //! Entries as text, and whether they are those of a turn.
 
-use crate::texts::{put, put_channels, put_id, put_message, put_number, put_place};
+use crate::texts::{put, put_channels, put_id, put_message, put_number, put_place, put_sent};
 use broker_history::{Act, Ask, Entry};
 use desk::Call;
 use nsq_base::{Bodies, Body, Chan, Memory, MsgId, Names, Topic};
@@ -27,7 +27,7 @@ fn put_act(out: &mut Vec<u8>, act: &Act) -> Result<(), Memory> {
         Act::Refused(_, _) => put(out, b"refused"),
         Act::Sent(message) => {
             put(out, b"sent ")?;
-            put_message(out, message)
+            put_sent(out, message)
         }
         Act::Beat => put(out, b"beat"),
         Act::Idle => put(out, b"idle"),

@@ -10,11 +10,15 @@ mod answers;
 #[cfg(test)]
 mod calls;
 #[cfg(test)]
+mod dice;
+#[cfg(test)]
 mod entries;
 #[cfg(test)]
 mod outside;
 #[cfg(test)]
 mod plain;
+#[cfg(test)]
+mod random;
 #[cfg(test)]
 mod rows;
 #[cfg(test)]

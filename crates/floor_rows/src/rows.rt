@@ -42,8 +42,8 @@ pub struct Row {
     /// Which calls of the folder fail.
     pub fails: &'static [Failing],
     pub lines: &'static str,
-    /// Files that stand in the folder in the end, where these are asked.
-    pub leaves: &'static [File],
+    /// Files in the end, where these are asked: None for one that isn't there.
+    pub leaves: &'static [(&'static str, Option<&'static [u8]>)],
 }
 
 /// A row's start with no failing calls, which asks for no files.
@@ -119,7 +119,7 @@ fn compared(
         return said(alloc, "", b"isn't legal");
     }
     for (name, bytes) in row.leaves {
-        if left.folder.file(name) != Some(*bytes) {
+        if left.folder.file(name) != *bytes {
             return said(
                 alloc,
                 name,
@@ -186,24 +186,31 @@ fn wrong_in(alloc: Global, row: &Row) -> Result<Vec<u8>, Memory> {
     }
 }
 
-// The first row that doesn't hold, with what differs in it.
-fn wrong(alloc: Global) -> Result<Option<(&'static str, String)>, Memory> {
+// The names of the rows that don't hold, each with what differs in it.
+fn wrong(alloc: Global) -> Result<String, Memory> {
+    let mut wrong = Vec::new(alloc);
     for table in tables() {
         for row in table {
-            let differs = wrong_in(alloc, row)?;
-            if !differs.is_empty() {
-                return Ok(Some((row.name, String::from_utf8_lossy(alloc, &differs)?)));
-            }
+            put_wrong(alloc, &mut wrong, row)?;
         }
     }
-    Ok(None)
+    Ok(String::from_utf8_lossy(alloc, &wrong)?)
+}
+
+fn put_wrong(alloc: Global, wrong: &mut Vec<u8>, row: &Row) -> Result<(), Memory> {
+    let differs = wrong_in(alloc, row)?;
+    if differs.is_empty() {
+        return Ok(());
+    }
+    put(wrong, b"\n")?;
+    put(wrong, row.name.as_bytes())?;
+    put(wrong, b"\n  ")?;
+    put(wrong, &differs)
 }
 
 #[test]
 fn transcripts(rt: HostRuntime) -> Result<(), Memory> {
-    match wrong(rt.alloc())? {
-        Some((name, differs)) => assert!(rt; false, "{name}: {differs}"),
-        None => {}
-    }
+    let wrong = wrong(rt.alloc())?;
+    assert!(rt; wrong.is_empty(), "{wrong}");
     Ok(())
 }

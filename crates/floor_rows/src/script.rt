@@ -1,7 +1,7 @@
 //! Transcripts: how their lines are run, and whether what happened is what they say.
 //!
 //! A line `NUMBER CALL => ANSWER | ACT; ACT` is a turn of this number with its answer and the entries that it notes. A line `at MOMENT` sets the
-//! clock, in nanoseconds or, with an s behind it, in seconds.
+//! clock, in nanoseconds or, with an s behind it, in seconds. A line `floor CALL => ANSWER` is another call of the floor.
 
 ghost use Rattle.std.specs.Prelude.{IfOk};
 ghost use Rattle.nsq_base.specs.Options.{IsInRange};
@@ -10,10 +10,12 @@ use crate::answers::{put_answer, put_told};
 use crate::calls::{call_of, parted};
 use crate::entries::{is_move, is_of, put_entry};
 use crate::outside::{Counted, Shown};
-use crate::texts::put;
+use crate::texts::{put, put_count, put_flag, put_names, put_number};
+use backlog::Flushed;
 use broker_floor::Floor;
 use broker_history::Entry;
 use desk::{Call, Turned};
+use floor_words::KeptTopic;
 use nsq_base::{Memory, Options};
 use nsq_fakes::MemFolder;
 use nsq_outside::{End, Kit};
@@ -21,6 +23,9 @@ use std::alloc::Global;
 use std::sync::atomic::{AtomicU64, Ordering};
 
 const SECOND: u64 = 1_000_000_000;
+
+// So many entries of a turn are written out; of more its moves are counted.
+const FEW: usize = 10;
 
 // The latest moment.
 const LATEST: u64 = 1 << 62;
@@ -172,14 +177,58 @@ impl<'a> Bench<'a> {
     /// Makes what a line says. Whether it says something.
     pub fn line(&mut self, line: &str) -> Result<bool, Memory> {
         let (first, rest) = parted(line);
-        if first == "at" {
-            return Ok(self.set_clock(rest));
+        match first.as_bytes() {
+            b"at" => return Ok(self.set_clock(rest)),
+            b"floor" => return self.ask(behind_number(line).0),
+            _ => {}
         }
         let (call, _) = behind_number(line);
         match first.parse::<u64>() {
             Ok(number) => self.turn(number, call),
             Err(_) => Ok(false),
         }
+    }
+
+    // Makes another call of the floor than a turn. Whether there is such a call.
+    fn ask(&mut self, call: &str) -> Result<bool, Memory> {
+        let mut told = Vec::new(self.alloc);
+        if !self.put_told(&mut told, call)? {
+            return Ok(false);
+        }
+        let noted = self.dials.noted();
+        self.done.push(Done {
+            number: 0,
+            call: String::new(self.alloc),
+            at: self.moment,
+            answer: told,
+            before: noted,
+            between: noted,
+            after: noted,
+        })?;
+        Ok(true)
+    }
+
+    fn put_told(&mut self, told: &mut Vec<u8>, call: &str) -> Result<bool, Memory> {
+        match call.as_bytes() {
+            b"changed" => put(told, if self.floor.changed() { b"yes" } else { b"no" })?,
+            b"saved" => {
+                self.floor.saved();
+                put(told, b"done")?;
+            }
+            b"kept" => put_kept(told, &self.floor.kept(self.alloc)?)?,
+            b"names" => {
+                put(told, b"names")?;
+                put_names(told, &self.floor.names(self.alloc)?)?;
+            }
+            b"epoch" => put_number(told, u128::from(self.floor.epoch()))?,
+            b"began" => put_number(told, u128::from(self.floor.began()))?,
+            b"flush" => match self.floor.flush() {
+                Flushed::Done => put(told, b"done")?,
+                Flushed::Fault => put(told, b"fault")?,
+            },
+            _ => return Ok(false),
+        }
+        Ok(true)
     }
 
     fn set_clock(&mut self, moment: &str) -> bool {
@@ -194,6 +243,11 @@ impl<'a> Bench<'a> {
             }
             Err(_) => false,
         }
+    }
+
+    /// What was done last.
+    pub fn last(&self) -> Option<&Done> {
+        self.done.last()
     }
 
     /// What was done, and what the floor left.
@@ -221,6 +275,9 @@ pub fn behind_number(line: &str) -> (&str, &str) {
 /// Whether the entries of a turn are in order: those of its first try are moves; all are its own or the daemon's, of its moment, and the last one
 /// tells the answer.
 pub fn is_in_order(alloc: Global, done: &Done, entries: &[(Entry, End)]) -> Result<bool, Memory> {
+    if done.call.is_empty() {
+        return Ok(true);
+    }
     let Some(call) = call_of(alloc, &done.call)? else {
         return Ok(false);
     };
@@ -269,14 +326,55 @@ fn is_told(alloc: Global, entries: &[(Entry, End)], done: &Done) -> Result<bool,
     Ok(told.as_slice() == done.answer.as_slice())
 }
 
-/// The answer of a turn and its entries, as they stand behind a line's arrow.
+/// The answer of a turn and its entries, as they stand behind a line's arrow. Of many moves their number stands there.
 pub fn put_turn(out: &mut Vec<u8>, done: &Done, entries: &[(Entry, End)]) -> Result<(), Memory> {
     put(out, done.answer.as_slice())?;
+    let entries = entries.get(done.before..done.after).unwrap_or(&[]);
+    let many = if entries.len() > FEW {
+        done_moves(entries)
+    } else {
+        0
+    };
     let mut before: &[u8] = b" | ";
-    for (entry, end) in entries.get(done.before..done.after).unwrap_or(&[]) {
+    if many > 0 {
+        put_count(out, b"|", many as u128)?;
+        put(out, b" moves")?;
+        before = b"; ";
+    }
+    for (entry, end) in entries.get(many..).unwrap_or(&[]) {
         put(out, before)?;
         put_entry(out, &entry.act, *end)?;
         before = b"; ";
+    }
+    Ok(())
+}
+
+// How many moves stand in front that were made.
+fn done_moves(entries: &[(Entry, End)]) -> usize {
+    let mut count: usize = 0;
+    for (entry, end) in entries {
+        if !is_move(&entry.act) || *end != End::Done {
+            return count;
+        }
+        count = count.saturating_add(1);
+    }
+    count
+}
+
+// Topics with their channels, each with its pause.
+fn put_kept(out: &mut Vec<u8>, kept: &[KeptTopic]) -> Result<(), Memory> {
+    put(out, b"kept")?;
+    for topic in kept {
+        put(out, b" ")?;
+        put(out, topic.topic.bytes())?;
+        put_flag(out, b"paused", topic.paused)?;
+        put(out, b" [")?;
+        for channel in &topic.channels {
+            put(out, b" ")?;
+            put(out, channel.channel.bytes())?;
+            put_flag(out, b"paused", channel.paused)?;
+        }
+        put(out, b" ]")?;
     }
     Ok(())
 }

@@ -47,15 +47,20 @@ pub fn put_id(out: &mut Vec<u8>, id: &MsgId) -> Result<(), Memory> {
     put(out, bytes.get(15..).unwrap_or(b"?"))
 }
 
-/// A message: its id, its attempts where it has some, its body, and its delay where it has one.
-pub fn put_message(out: &mut Vec<u8>, message: &Message) -> Result<(), Memory> {
+/// A message as it is sent: its id, its attempts where it has some, and its body.
+pub fn put_sent(out: &mut Vec<u8>, message: &Message) -> Result<(), Memory> {
     put_id(out, &message.id)?;
     if message.attempts != 0 {
         put(out, b"*")?;
         put_number(out, u128::from(message.attempts))?;
     }
     put(out, b" ")?;
-    put(out, message.body.bytes())?;
+    put(out, message.body.bytes())
+}
+
+/// The same, and its delay where it has one.
+pub fn put_message(out: &mut Vec<u8>, message: &Message) -> Result<(), Memory> {
+    put_sent(out, message)?;
     put_count(out, b"in", u128::from(message.delay))
 }
 

@@ -154,7 +154,8 @@ fn sent(alloc: Global, text: &str) -> Result<Option<Call>, Memory>
     Ok(match reader.next() {
         Got::Whole(command) => Some(Call::Command(command)),
         Got::Fault(fault) => Some(Call::Bad(fault)),
-        Got::More | Got::Memory => None,
+        Got::More => None,
+        Got::Memory => return Err(Memory),
     })
 }
 

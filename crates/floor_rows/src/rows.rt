@@ -178,7 +178,8 @@ fn said(alloc: Global, line: &str, what: &[u8]) -> Result<Vec<u8>, Memory> {
     Ok(text)
 }
 
-// What differs in a row. One that ends for want of memory, or in which the folder found none, begins once more.
+// What differs in a row. One that ends for want of memory outside of its turns, or in which the folder found none, begins once more; so the rows hold
+// too where one allocation fails, whichever it is: `rt try --test --fail-alloc N`.
 fn wrong_in(alloc: Global, row: &Row) -> Result<Vec<u8>, Memory> {
     match differs(alloc, row) {
         Ok(differs) if differs.is_empty() => Ok(differs),

@@ -6,6 +6,7 @@ mod deletions;
 mod ephemeral;
 mod faults;
 mod identities;
+mod kinds;
 mod moments;
 mod refusals;
 mod statistics;
@@ -15,7 +16,7 @@ mod turns;
 
 use crate::rows::Row;
 
-pub fn tables() -> [&'static [Row]; 12] {
+pub fn tables() -> [&'static [Row]; 13] {
     [
         turns::rows(),
         statistics::rows(),
@@ -29,5 +30,6 @@ pub fn tables() -> [&'static [Row]; 12] {
         moments::rows(),
         faults::rows(),
         copies::rows(),
+        kinds::rows(),
     ]
 }

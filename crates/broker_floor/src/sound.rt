@@ -1,0 +1,101 @@
+ghost use Rattle.std.specs.Prelude.{◌≡◌, ◌^◌, ◌≤◌, max, min, IsTrue, false, length};
+ghost use Rattle.nsq_outside.specs.Files.{Files};
+ghost use Rattle.broker_history.specs.State.{State};
+ghost use Rattle.desk.specs.Calls.{CanCall};
+ghost use Rattle.floor_rooms.specs.Changes.{OnlyQueueFiles};
+ghost use Rattle.floor_rooms.specs.Sound.{IsSound};
+ghost use Rattle.floor_rooms.specs.Standing.{HoldsFor};
+ghost use Rattle.floor_moves.specs.Moves.{sight};
+ghost use Rattle.floor_turns.specs.Turning.{TakesTurn};
+
+use broker_history::Entry;
+use desk::{Call, Turned};
+use floor_rooms::Hall;
+use crate::serving::turn_at;
+use nsq_base::Steps;
+use nsq_outside::{Folder, Journal};
+use std::alloc::Global;
+use std::marker::Model;
+use std::sync::ledger::Ledger;
+
+// A hall that is sound.
+#[derive(Drop)]
+pub(crate) struct SoundHall {
+    hall: Hall,
+}
+
+impl Model for SoundHall {
+    ghost use Rattle.floor_rooms.specs.Sound.{IsSound};
+    ghost use Rattle.floor_rooms.specs.declared.hall.Hall.{Hall as Holding};
+
+    ghost Value = { Holding };
+
+    ghost view = { λ s. s.hall };
+
+    ghost invariant = { λ s. IsSound s.hall };
+}
+
+impl SoundHall {
+    // This hall.
+    pub(crate) fn new(hall: Hall) -> SoundHall
+        requires { IsSound hall }
+        ensures { result ≡ hall }
+    {
+        SoundHall { hall }
+    }
+
+    // The hall.
+    pub(crate) fn get(&self) -> &Hall
+        ensures same { result.now ≡ self.now }
+        ensures sound { IsSound result.now }
+    {
+        &self.hall
+    }
+
+    // The clock was read.
+    pub(crate) fn pass(&mut self, reading: u64)
+        ensures is { self.new ≡ record self.old { moment = max self.old.moment (min reading (2 ^ 62)) } }
+        ensures bounded { self.new.moment ≤ 2 ^ 62 }
+        ensures stands { (files : Files) (s : State) → HoldsFor self.old files s → HoldsFor self.new files s }
+    {
+        self.hall.pass(reading);
+    }
+
+    // The durable names and pauses were saved as they are.
+    pub(crate) fn saved(&mut self)
+        ensures is { self.new ≡ record self.old { unsaved_names = false } }
+        ensures stands { (files : Files) (s : State) → HoldsFor self.old files s → HoldsFor self.new files s }
+    {
+        self.hall.unsaved_names = false;
+    }
+
+    // Takes a turn of this number at the hall's moment.
+    pub(crate) fn turn<F: Folder, J: Journal<Entry>, L: Ledger>(
+        &mut self,
+        alloc: Global,
+        number: u64,
+        call: Call,
+        folder: &mut F,
+        scratch: &mut [u8],
+        journal: &mut J,
+        steps: &mut Steps<L>,
+    ) -> Turned
+        requires can { CanCall call }
+        requires calm { J.is_aside journal.old ≡ false }
+        requires scratch { 16777242 ≤ length scratch.old }
+        ensures turn { TakesTurn J.tells_notes F.tells_files number call result (sight self.old (J.notes journal.old) (F.files folder.old) (F.folder_faults folder.old)) (sight self.new (J.notes journal.new) (F.files folder.new) (F.folder_faults folder.new)) }
+        ensures calm { J.is_aside journal.new ≡ false }
+        ensures files { IsTrue F.tells_files → OnlyQueueFiles (F.files folder.old) (F.files folder.new) }
+    {
+        turn_at(
+            &mut self.hall,
+            alloc,
+            number,
+            call,
+            folder,
+            scratch,
+            journal,
+            steps,
+        )
+    }
+}

@@ -1,0 +1,50 @@
+ghost use Rattle.std.specs.Prelude.{◌≡◌, ◌<◌, IsTrue};
+ghost use Rattle.broker_history.specs.Entries.{own};
+ghost use Rattle.desk.specs.Calls.{CanCall, MayCall};
+ghost use Rattle.floor_turns.specs.Scenes.{scene};
+ghost use Rattle.floor_turns.specs.Turns.{IsTurn};
+
+use crate::Floor;
+use broker_history::Entry;
+use desk::{Call, Turned};
+use nsq_base::Steps;
+use nsq_outside::{Clock, Folder, Journal};
+use std::alloc::Global;
+use std::marker::Brand;
+use std::sync::ledger::{Blank, Ledger};
+
+impl<F: Folder, C: Clock, J: Journal<Entry>> Floor<F, C, J> {
+    /// Takes a turn of this number: it reads the clock once, moves what is due, 64 moves at most unless a Stop is called for, and makes the act of the call,
+    /// which its answer tells. A call that doesn't fit its number is Strange, and one that a Stop keeps off is answered Stopping: neither moves anything. After
+    /// Memory the moves that were made stand, and no act was made.
+    pub fn turn(&mut self, alloc: Global, number: u64, call: Call) -> Turned
+        requires can { CanCall call }
+        requires may { IsTrue J.tells_notes → MayCall number (own number (J.notes self.old.journal)) call }
+        ensures turn { IsTurn J.tells_notes F.tells_files C.tells_readings number call result (scene self.old.hall (J.notes self.old.journal) (F.files self.old.folder) (F.folder_faults self.old.folder) (C.coming self.old.clock)) (scene self.new.hall (J.notes self.new.journal) (F.files self.new.folder) (F.folder_faults self.new.folder) (C.coming self.new.clock)) }
+    {
+        self.turn_in::<Brand>(Blank::new(1), alloc, number, call)
+    }
+
+    // The same, with steps of heaps counted in a ledger.
+    fn turn_in<L: Ledger>(&mut self, blank: Blank, alloc: Global, number: u64, call: Call) -> Turned
+        requires name { blank.name ≡ L.name }
+        requires parts { blank.parts ≡ L.parts }
+        requires some { 0 < L.parts }
+        requires can { CanCall call }
+        requires may { IsTrue J.tells_notes → MayCall number (own number (J.notes self.old.journal)) call }
+        ensures turn { IsTurn J.tells_notes F.tells_files C.tells_readings number call result (scene self.old.hall (J.notes self.old.journal) (F.files self.old.folder) (F.folder_faults self.old.folder) (C.coming self.old.clock)) (scene self.new.hall (J.notes self.new.journal) (F.files self.new.folder) (F.folder_faults self.new.folder) (C.coming self.new.clock)) }
+    {
+        let mut steps: Steps<L> = Steps::new(blank);
+        let reading = self.clock.now();
+        self.hall.pass(reading);
+        self.hall.turn(
+            alloc,
+            number,
+            call,
+            &mut self.folder,
+            &mut self.scratch,
+            &mut self.journal,
+            &mut steps,
+        )
+    }
+}

@@ -20,8 +20,9 @@ use Rattle.floor_words.specs.Plans.{is_strange}
 use Rattle.floor_moves.specs.Moves.{Sight}
 use Rattle.turn_laws.proofs.Laying.{laid_adds}
 use Rattle.floor_turns.specs.Acting.{ActsBy, ClientsBy}
-use Rattle.floor_turns.specs.Scenes.{IsTied, is_here}
+use Rattle.floor_turns.specs.Scenes.{IsTied, Scene, is_here}
 use Rattle.floor_turns.specs.Turning.{IsAnswered, IsServed, IsStopped, IsTurnedAway, TakesTurn}
+use Rattle.floor_turns.specs.Turns.{IsTurn, seen, seen_at}
 
 -- a connection that may make a call fits it
 may_fit : (c : Call) (number : ℕ) (own : History) → MayCall number own c → is_strange c (is_here own) ≡ false
@@ -157,3 +158,20 @@ module _ (tells_notes tells_files : Bool) (number : ℕ) (c : Call) (answer : Tu
       by_why (inl away) = subst (IsAnswerTo c) (sym away.answered) (strange_is c _ away.strange)
       by_why (inr (inl stopped)) = subst (IsAnswerTo c) (sym stopped.answered) (stopping_is c stopped.ends)
       by_why (inr (inr served)) = served_is old.hall.moment number c answer t.laid.acts served.act
+
+-- so it is of a floor's turn
+module _ {tells_notes tells_files tells_readings : Bool} {number : ℕ} {c : Call} {answer : Turned} {old new : Scene} (t : IsTurn tells_notes tells_files tells_readings number c answer old new) where
+  pub scene_grows : IsTrue tells_notes → Grows old.notes new.notes
+  scene_grows told = turn_grows tells_notes tells_files number c answer (seen_at old new.hall.moment) (seen new) t.takes told
+
+  pub scene_adds : IsTrue tells_notes → Adds number (own number old.notes) (own number new.notes) c answer
+  scene_adds told = turn_adds tells_notes tells_files number c answer (seen_at old new.hall.moment) (seen new) t.takes told
+
+  pub scene_stopping : IsTied new.hall new.notes → StopsSeen new.notes answer
+  scene_stopping tied = turn_stopping tells_notes tells_files number c answer (seen_at old new.hall.moment) (seen new) t.takes tied
+
+  pub scene_told : IsTied old.hall old.notes → MayCall number (own number old.notes) c → answer ≢ turned.Strange
+  scene_told tied may = turn_told tells_notes tells_files number c answer (seen_at old new.hall.moment) (seen new) t.takes (record { clients = tied.clients; begun = tied.begun; stopped = tied.stopped }) may
+
+  pub scene_answers : IsAnswerTo c answer
+  scene_answers = turn_answers tells_notes tells_files number c answer (seen_at old new.hall.moment) (seen new) t.takes

@@ -1,14 +1,17 @@
 -- What a floor's calls leave of its hall.
 use Rattle.std.proofs.Common.{◌≡◌, ◌≢◌, ◌≤◌, ◌<◌, ◌^◌, ℕ, ◌+◌, Bool, true, false, List, [], Option, Some, None, is_some, refl, sym, ap, subst, ◌∙◌, arith}
 use Rattle.std.specs.Prelude.{IsTrue, max, min}
+use Rattle.std.proofs.lemmas.Bool.{false≢true}
 use Rattle.std.proofs.lemmas.List.Elements.{All-weaker}
 use Rattle.nsq_outside.specs.Files.{Files}
-use Rattle.broker_history.specs.State.{State}
-use Rattle.broker_history.specs.Entries.{History, own}
+use Rattle.nsq_base.specs.declared.options.Options.{Options}
+use Rattle.broker_history.specs.State.{Client, State}
+use Rattle.broker_history.specs.Entries.{History, has_stop, own}
 use Rattle.desk.specs.declared.call.Call.{Call}
 use Rattle.desk.specs.declared.turned.Turned.{Turned}
-use Rattle.desk.specs.Calls.{MayCall}
+use Rattle.desk.specs.Calls.{MayCall, is_over}
 use Rattle.floor_rooms.specs.declared.hall.Hall.{Hall}
+use Rattle.floor_rooms.specs.Made.{IsEmptyHall}
 use Rattle.floor_rooms.specs.Rooms.{client_in}
 use Rattle.floor_rooms.specs.Sound.{IsRoomSound, IsSound}
 use Rattle.floor_rooms.specs.Standing.{HoldsFor}
@@ -16,7 +19,7 @@ use Rattle.floor_rooms.specs.Changes.{OnlyQueueFiles}
 use Rattle.floor_rooms.proofs.Holding.{holds_same}
 use Rattle.floor_rooms.proofs.Sounding.{Lowers, room_lowered}
 use Rattle.floor_moves.specs.Moves.{sight}
-use Rattle.floor_turns.specs.Scenes.{IsTied, scene}
+use Rattle.floor_turns.specs.Scenes.{IsTied, is_here, scene}
 use Rattle.floor_turns.specs.Turning.{TakesTurn}
 use Rattle.floor_turns.specs.Turns.{IsTurn, hall_at}
 use Rattle.floor_turns.proofs.Tying.{turn_ties}
@@ -51,6 +54,14 @@ holds_saved h h' files s is holds =
       stopped = ap (λ (x : Hall). x.stopped) is;
       clients = ap (λ (x : Hall). x.clients.items) is;
     }) (ap (λ (x : Hall). x.rooms.items) is) holds
+
+-- a hall with no client and no history
+pub tied_new : (options : Options) (epoch at : ℕ) (h : Hall) (notes : History) → IsEmptyHall options epoch at h → notes ≡ [] → IsTied h notes
+tied_new options epoch at h notes empty none = record {
+  clients = λ n. ap (λ (cs : List Client). is_some (client_in cs n)) empty.clients ∙ sym (ap (λ (x : History). is_here (own n x)) none);
+  begun = λ n over. absurd (false≢true (ap (λ (x : History). is_over (own n x)) (sym none) ∙ over));
+  stopped = empty.stopped ∙ sym (ap has_stop none);
+}
 
 -- a turn whose clock was read
 module _ (tells_notes tells_files tells_readings : Bool) (number : ℕ) (c : Call) (answer : Turned) (h mid h' : Hall) (n n' : History) (f f' : Files) (k k' : ℕ) (coming coming' : ℕ → ℕ) (reading : ℕ) (passed : mid ≡ record h { moment = max h.moment (min reading (2 ^ 62)) }) (bounded : mid.moment ≤ 2 ^ 62) where

@@ -1,3 +1,5 @@
+pub mod Ending
 pub mod Holding
 pub mod Settling
+pub mod Storing
 pub mod Answering

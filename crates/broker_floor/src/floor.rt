@@ -9,7 +9,7 @@ ghost use Rattle.broker_history.specs.Moments.{moment_of};
 ghost use Rattle.floor_rooms.specs.Kept.{hall_kept};
 ghost use Rattle.floor_rooms.specs.Made.{IsEmptyHall, IsUnused, empty_state};
 ghost use Rattle.floor_rooms.specs.Rooms.{hall_names};
-ghost use Rattle.floor_rooms.specs.Standing.{HoldsFor};
+ghost use Rattle.floor_rooms.specs.Standing.{HoldsFor, StandsFor};
 ghost use Rattle.floor_turns.specs.Scenes.{IsTied};
 
 use crate::sound::SoundHall;
@@ -53,6 +53,7 @@ impl<F: Folder, C: Clock, J: Journal<Entry>> Floor<F, C, J> {
         requires aside { J.is_aside kit.journal ≡ false }
         requires empty { IsTrue J.tells_notes → J.notes kit.journal ≡ [] }
         ensures hall { IfOk result (λ floor. IsEmptyHall options.now epoch floor.hall.moment floor.hall) }
+        ensures opens { (files : Files) → IfOk result (λ floor. StandsFor floor.hall files (empty_state options.now epoch floor.hall.moment)) }
         ensures stands { (files : Files) → IsUnused files → IfOk result (λ floor. HoldsFor floor.hall files (empty_state options.now epoch floor.hall.moment)) }
         ensures moment { IfOk result (λ floor. IsTrue C.tells_readings → floor.hall.moment ≡ moment_of (C.coming kit.clock) 1) }
         ensures coming { IfOk result (λ floor. IsTrue C.tells_readings → ((n : ℕ) → C.coming floor.clock n ≡ C.coming kit.clock (n + 1))) }
@@ -143,6 +144,7 @@ impl<F: Folder, C: Clock, J: Journal<Entry>> Floor<F, C, J> {
         ensures faults { F.folder_faults self.old.folder ≤ F.folder_faults self.new.folder }
         ensures cause { DidFails (F.folder_faults self.old.folder) (F.folder_faults self.new.folder) result }
     {
+        let _hall = self.hall.get();
         replace_file(&mut self.folder, name, temp, bytes)
     }
 

@@ -208,7 +208,8 @@ fn settle<F: Folder>(hall: &mut Hall, ticking: bool, paid: Paid, answer: &Turned
     ensures files { IsTrue F.tells_files → OnlyQueueFiles (F.files folder.old) (F.files folder.new) }
 {
     hall.stuck = is_stuck_stop(hall.stuck, paid, answer);
-    if is_saving(ticking, answer) {
-        sync_all(hall, folder);
+    if !is_saving(ticking, answer) {
+        return;
     }
+    sync_all(hall, folder);
 }

@@ -1,17 +1,22 @@
 ghost use Rattle.std.specs.Prelude.{◌≡◌, ◌^◌, ◌≤◌, max, min, IsTrue, false, length};
 ghost use Rattle.nsq_outside.specs.Files.{Files};
+ghost use Rattle.backlog.specs.Answers.{FlushFails};
 ghost use Rattle.broker_history.specs.State.{State};
 ghost use Rattle.desk.specs.Calls.{CanCall};
 ghost use Rattle.floor_rooms.specs.Changes.{OnlyQueueFiles};
+ghost use Rattle.floor_rooms.specs.Kept.{hall_kept};
 ghost use Rattle.floor_rooms.specs.Sound.{IsSound};
 ghost use Rattle.floor_rooms.specs.Standing.{HoldsFor};
 ghost use Rattle.floor_moves.specs.Moves.{sight};
+ghost use Rattle.floor_saving.specs.Flushing.{LeavesWhere};
 ghost use Rattle.floor_turns.specs.Turning.{TakesTurn};
 
+use crate::serving::turn_at;
+use backlog::Flushed;
 use broker_history::Entry;
 use desk::{Call, Turned};
 use floor_rooms::Hall;
-use crate::serving::turn_at;
+use floor_saving::flush_all;
 use nsq_base::Steps;
 use nsq_outside::{Folder, Journal};
 use std::alloc::Global;
@@ -97,5 +102,23 @@ impl SoundHall {
             journal,
             steps,
         )
+    }
+
+    // Writes all that durable topics and channels have in memory behind what is on disk.
+    pub(crate) fn flush<F: Folder, L: Ledger>(
+        &mut self,
+        folder: &mut F,
+        scratch: &mut [u8],
+        steps: &mut Steps<L>,
+    ) -> Flushed
+        requires { 16777242 ≤ length scratch.old }
+        ensures left { IsTrue F.tells_files → (s : State) → HoldsFor self.old (F.files folder.old) s → LeavesWhere result s (F.files folder.new) }
+        ensures kept { hall_kept self.new ≡ hall_kept self.old }
+        ensures rest { self.new ≡ record self.old { rooms = self.new.rooms } }
+        ensures files { IsTrue F.tells_files → OnlyQueueFiles (F.files folder.old) (F.files folder.new) }
+        ensures faults { F.folder_faults folder.old ≤ F.folder_faults folder.new }
+        ensures cause { FlushFails (F.folder_faults folder.old) (F.folder_faults folder.new) result }
+    {
+        flush_all(&mut self.hall, folder, scratch, steps)
     }
 }

@@ -1,0 +1,18 @@
+use Rattle.broker_floor.proofs.Holding.{tied_in, turn_in}
+use Rattle.broker_floor.proofs.turning.Floor.turn_in.Goals as goal
+
+pub returns-clause-turn : goal.returns-clause-turn
+returns-clause-turn g c =
+    turn_in g.J.Journal.tells_notes g.F.Folder.tells_files g.C.Clock.tells_readings c.args.number c.args.call c.turn.result c.args.self.now.hall c.pass.new.self c.turn.new.self (g.J.Journal.notes c.args.self.now.journal) (g.J.Journal.notes c.turn.new.journal) (g.F.Folder.files c.args.self.now.folder) (g.F.Folder.files c.turn.new.folder)
+    (g.F.Folder.folder_faults c.args.self.now.folder) (g.F.Folder.folder_faults c.turn.new.folder) (g.C.Clock.coming c.args.self.now.clock) (g.C.Clock.coming c.now-reading.new.self) c.now-reading.result c.pass.ensures.is c.pass.ensures.bounded c.now-reading.ensures.reading c.now-reading.ensures.coming c.pass.ensures.stands c.turn.ensures.turn
+    c.turn.ensures.files
+
+pub invariant_of-self : goal.invariant_of-self
+invariant_of-self g c = record {
+  calm = c.turn.ensures.calm;
+  tied =
+      tied_in g.J.Journal.tells_notes g.F.Folder.tells_files g.C.Clock.tells_readings c.args.number c.args.call c.turn.result c.args.self.now.hall c.pass.new.self c.turn.new.self (g.J.Journal.notes c.args.self.now.journal) (g.J.Journal.notes c.turn.new.journal) (g.F.Folder.files c.args.self.now.folder)
+      (g.F.Folder.files c.turn.new.folder) (g.F.Folder.folder_faults c.args.self.now.folder) (g.F.Folder.folder_faults c.turn.new.folder) (g.C.Clock.coming c.args.self.now.clock) (g.C.Clock.coming c.now-reading.new.self) c.now-reading.result c.pass.ensures.is c.pass.ensures.bounded c.args.self.now.tied c.requires.may
+      c.turn.ensures.turn;
+  room = c.args.self.now.room;
+}

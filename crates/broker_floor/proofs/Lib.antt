@@ -1,4 +1,4 @@
-pub mod Ending
+pub mod Flushing
 pub mod Holding
 pub mod Settling
 pub mod Storing

@@ -9,6 +9,7 @@ ghost use Rattle.v2_frame.specs.declared.message.Message.{Message};
 ghost use Rattle.history.specs.Found.{HasMessages};
 ghost use Rattle.backlog.specs.Lists.{OpenRefused};
 ghost use Rattle.broker_history.specs.Found.{started_channel};
+ghost use Rattle.topic_core.specs.Kept.{IsNamed};
 ghost use Rattle.channel_core.specs.Seen.{queue_name};
 ghost use Rattle.floor_rooms.specs.Rooms.{channel_name, put_stall, stall_in};
 ghost use Rattle.floor_rooms.specs.Standing.{IsStallOf};
@@ -33,6 +34,7 @@ pub fn open_channels<F: Folder>(
     requires durable { is_ephemeral topic ≡ false }
     requires channels { All (λ c. is_ephemeral c.0 ≡ false) channels.now }
     requires apart { AreApart channels.now }
+    requires named { IsNamed topic room.old.queue.backlog }
     requires empty { room.old.stalls.items ≡ [] }
     ensures opened { OnOk result (HasOpened F.tells_files hall.now.options topic channels.now (F.files folder.old) (F.files folder.new) (F.folder_faults folder.old) (F.folder_faults folder.new) room.old room.new) }
     ensures refused { IsTrue F.tells_files → IfErr result (λ e. RefusesChannel topic channels.now (F.files folder.old) (F.files folder.new) e) }
@@ -40,6 +42,7 @@ pub fn open_channels<F: Folder>(
     ensures faults { F.folder_faults folder.old ≤ F.folder_faults folder.new }
     ensures cause { IfErr result (λ e. OpenFails (F.folder_faults folder.old) (F.folder_faults folder.new) e) }
 {
+    let _ = topic.bytes();
     'channels: for item in channels {
         let (channel, paused) = *item;
         let stall = open_stall(hall, topic, channel, paused, folder)?;

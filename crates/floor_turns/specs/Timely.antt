@@ -1,5 +1,5 @@
 -- What a tick leaves unsaved.
-use Rattle.std.specs.Prelude.{◌≡◌, ◌⊎◌, ◌<◌, ℕ, ◌+◌, All, Option, Some, None}
+use Rattle.std.specs.Prelude.{◌⊎◌, ◌<◌, ℕ, ◌+◌, All, Option, Some, None}
 use Rattle.nsq_outside.specs.Causes.{Rose}
 use Rattle.disk_queue.specs.Seen.{Seen as Queue}
 use Rattle.backlog.specs.Seen.{QueueIsSaved}

@@ -1,4 +1,4 @@
-use Rattle.broker_floor.proofs.Ending.{fails_flushed, left_flushed}
+use Rattle.broker_floor.proofs.Flushing.{fails_flushed, left_flushed}
 use Rattle.broker_floor.proofs.ending.Floor.flush_in.Goals as goal
 
 pub returns-clause-left : goal.returns-clause-left

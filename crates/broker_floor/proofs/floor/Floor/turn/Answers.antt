@@ -1,5 +1,5 @@
 use Rattle.broker_floor.proofs.Answering.{scene_adds, scene_answers, scene_grows, scene_stopping, scene_told}
-use Rattle.broker_floor.proofs.turning.Floor.turn.Goals as goal
+use Rattle.broker_floor.proofs.floor.Floor.turn.Goals as goal
 
 pub returns-clause-timely : goal.returns-clause-timely
 returns-clause-timely g c = c.turn_in.ensures.turn.takes.timely

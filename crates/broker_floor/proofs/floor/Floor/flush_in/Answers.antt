@@ -1,5 +1,5 @@
 use Rattle.broker_floor.proofs.Flushing.{fails_flushed, left_flushed}
-use Rattle.broker_floor.proofs.ending.Floor.flush_in.Goals as goal
+use Rattle.broker_floor.proofs.floor.Floor.flush_in.Goals as goal
 
 pub returns-clause-left : goal.returns-clause-left
 returns-clause-left g c = λ told s holds. left_flushed c.args.self.now.hall.stuck c.flush-flushed.result c.flushed_at.result s (g.F.Folder.files c.flush-flushed.new.folder) c.flushed_at.ensures (c.flush-flushed.ensures.left told s holds)

@@ -1,5 +1,5 @@
 use Rattle.broker_floor.proofs.Holding.{tied_in, turn_in}
-use Rattle.broker_floor.proofs.turning.Floor.turn_in.Goals as goal
+use Rattle.broker_floor.proofs.floor.Floor.turn_in.Goals as goal
 
 pub returns-clause-turn : goal.returns-clause-turn
 returns-clause-turn g c =

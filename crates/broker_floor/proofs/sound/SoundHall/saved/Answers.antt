@@ -1,7 +1,8 @@
-use Rattle.std.proofs.Common.{refl}
+use Rattle.std.proofs.Common.{false, refl, subst, sym}
 use Rattle.floor_rooms.specs.declared.hall.Hall.{Hall}
-use Rattle.broker_floor.proofs.Holding.{holds_saved, sound_saved}
+use Rattle.floor_rooms.specs.Standing.{HoldsFor}
+use Rattle.broker_floor.proofs.Holding.{holds_saved}
 use Rattle.broker_floor.proofs.sound.SoundHall.saved.Goals as goal
 
 pub returns-clause-stands : goal.returns-clause-stands
-returns-clause-stands g c = λ files s holds. holds_saved c.args.self.now (record (c.args.self.now) { unsaved_names = false }) files s refl holds
+returns-clause-stands c = λ files s holds. holds_saved c.self.inside.hall (record (c.self.inside.hall) { unsaved_names = false }) files s refl (subst (λ (h : Hall). HoldsFor h files s) (sym c.self.view_is) holds)

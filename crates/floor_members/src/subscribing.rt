@@ -52,8 +52,8 @@ fn join(hall: &mut Hall, k: usize, topic: Topic, channel: Chan) -> Result<(), Me
 {
     match hall.place_of(topic) {
         Ok(i) => match hall.rooms[i].place_of(channel) {
-            Ok(j) => join_stall(hall, k, (i, j), topic, channel),
-            Err(j) => join_room(hall, k, (i, j), topic, channel),
+            Ok(j) => join_stall(hall, k, i, j, topic, channel),
+            Err(j) => join_room(hall, k, i, j, topic, channel),
         },
         Err(i) => join_hall(hall, k, i, topic, channel),
     }
@@ -63,15 +63,16 @@ fn join(hall: &mut Hall, k: usize, topic: Topic, channel: Chan) -> Result<(), Me
 fn join_stall(
     hall: &mut Hall,
     k: usize,
-    places: (usize, usize),
+    i: usize,
+    j: usize,
     topic: Topic,
     channel: Chan,
 ) -> Result<(), Memory>
     requires sound { IsSound hall.old }
     requires client { k < length hall.old.clients.items }
     requires free { HoldsAt IsFree hall.old.clients.items k }
-    requires there { StandsAt topic_name hall.old.rooms.items topic places.0 }
-    requires stall { HoldsAt (λ r. StandsAt channel_name r.stalls.items channel places.1) hall.old.rooms.items places.0 }
+    requires there { StandsAt topic_name hall.old.rooms.items topic i }
+    requires stall { HoldsAt (λ r. StandsAt channel_name r.stalls.items channel j) hall.old.rooms.items i }
     ensures rest { hall.new ≡ record hall.old { rooms = hall.new.rooms; clients = hall.new.clients; pending = hall.new.pending; unsaved_names = hall.new.unsaved_names } }
     ensures joins { OnOk result (HoldsAt (Joins topic channel k hall.old hall.new) hall.old.clients.items k) }
     ensures remains { OnErr result (Remains hall.old hall.new) }
@@ -79,9 +80,9 @@ fn join_stall(
     hall.pending.reserve(1)?;
     let number = hall.clients[k].number();
     let timeout = hall.clients[k].timeout();
-    seat_in(&mut hall.rooms[places.0].stalls[places.1], number, timeout)?;
+    seat_in(&mut hall.rooms[i].stalls[j], number, timeout)?;
     hall.clients[k].subscribe(topic, channel);
-    hall.list_room(places.0);
+    hall.list_room(i);
     Ok(())
 }
 
@@ -89,22 +90,23 @@ fn join_stall(
 fn join_room(
     hall: &mut Hall,
     k: usize,
-    places: (usize, usize),
+    i: usize,
+    j: usize,
     topic: Topic,
     channel: Chan,
 ) -> Result<(), Memory>
     requires sound { IsSound hall.old }
     requires client { k < length hall.old.clients.items }
     requires free { HoldsAt IsFree hall.old.clients.items k }
-    requires there { StandsAt topic_name hall.old.rooms.items topic places.0 }
-    requires place { HoldsAt (λ r. BelongsAt channel_name r.stalls.items channel places.1) hall.old.rooms.items places.0 }
+    requires there { StandsAt topic_name hall.old.rooms.items topic i }
+    requires place { HoldsAt (λ r. BelongsAt channel_name r.stalls.items channel j) hall.old.rooms.items i }
     ensures rest { hall.new ≡ record hall.old { rooms = hall.new.rooms; clients = hall.new.clients; pending = hall.new.pending; unsaved_names = hall.new.unsaved_names } }
     ensures joins { OnOk result (HoldsAt (Joins topic channel k hall.old hall.new) hall.old.clients.items k) }
     ensures remains { OnErr result (Remains hall.old hall.new) }
 {
-    hall.reserve_stall(places.0)?;
+    hall.reserve_stall(i)?;
     let stall = seated_stall(hall, k, topic, channel)?;
-    hall.add_stall(places.0, places.1, stall);
+    hall.add_stall(i, j, stall);
     hall.clients[k].subscribe(topic, channel);
     Ok(())
 }

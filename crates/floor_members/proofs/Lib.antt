@@ -1,3 +1,4 @@
-pub mod Places
-pub mod Empties
+pub mod Exchanged
+pub mod Bare
 pub mod Joining
+pub mod Speaking

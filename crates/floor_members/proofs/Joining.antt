@@ -7,6 +7,7 @@ use Rattle.std.proofs.lemmas.List.Elements.{All-cons, All-nil}
 use Rattle.std.proofs.lemmas.Option.{get_or_from_slice_get}
 use Rattle.nsq_base.specs.Name.{IsName, is_ephemeral}
 use Rattle.nsq_base.specs.Places.{BelongsAt, StandsAt}
+use Rattle.nsq_base.specs.declared.options.Options.{Options}
 use Rattle.nsq_outside.specs.Files.{Files}
 use Rattle.broker_history.specs.State.{Client, State, is_ephemeral_channel, new_channel, new_topic, with_channel}
 use Rattle.broker_history.specs.Changes.{made_channel}
@@ -23,6 +24,7 @@ use Rattle.floor_rooms.specs.Changes.{AtRoom, AtStall, KeepsRooms, KeepsSince}
 use Rattle.floor_rooms.specs.Kept.{NamesTold}
 use Rattle.floor_rooms.specs.Made.{AddsStall, BeginsIdle, ChannelBeginsIdle, IsRoomWith, SameStalls}
 use Rattle.floor_rooms.proofs.Placing.{none_belonging}
+use Rattle.floor_rooms.proofs.Forming.{some_at}
 use Rattle.floor_rooms.proofs.Marked.{IsElse, ListsRoom}
 use Rattle.floor_rooms.proofs.Dating.{keeps_equal, keeps_lists, keeps_reserved, since_then_kept}
 use Rattle.floor_rooms.proofs.Naming.{names_kept, names_then}
@@ -33,6 +35,26 @@ use Rattle.floor_changes.proofs.SeatPlaces.{Sits, sits_names, sits_since, sits_s
 use Rattle.floor_members.specs.Subscribing.{IsAsItWas, IsPeopled, IsSeated, Joins, Remains}
 use Rattle.floor_members.proofs.Exchanged.{put_there, set_itself, set_put, set_there}
 use Rattle.floor_members.proofs.Bare.{bare_hall, bare_room, is_listed, joined_hall, seated_stands, sits_down}
+
+-- a channel that is made has its name, and so has its topic
+pub seated_named : (topic channel : List ℕ) (options : Options) (stall : Stall) (clients : List Client) (k : ℕ) → k < length clients → HoldsAt (IsSeated topic channel options stall) clients k → channel_name stall ≡ channel
+seated_named topic channel options stall clients k within seated =
+    let one : IsSeated topic channel options stall (get_or clients k (some_at clients k within).0) = seated (some_at clients k within).0 in
+    ap channel_name one.seats.is ∙ ap (λ (v : ChannelSeen). v.about.name) one.fresh.channel.is
+
+pub peopled_named : (topic channel : List ℕ) (options : Options) (room : Room) (clients : List Client) (k : ℕ) → k < length clients → HoldsAt (IsPeopled topic channel options room) clients k → topic_name room ≡ topic
+peopled_named topic channel options room clients k within peopled =
+    let one : IsPeopled topic channel options room (get_or clients k (some_at clients k within).0) = peopled (some_at clients k within).0 in
+    ap topic_name one.is ∙ ap (λ (q : TopicSeen). q.name) one.fresh.queue
+
+pub peopled_place : (topic channel : List ℕ) (options : Options) (room : Room) (clients : List Client) (k : ℕ) → k < length clients → HoldsAt (IsPeopled topic channel options room) clients k → (old rooms : List Room) (i : ℕ) → rooms ≡ old → BelongsAt topic_name old topic i
+    → BelongsAt topic_name rooms (topic_name room) i
+peopled_place topic channel options room clients k within peopled old rooms i same place =
+    subst (λ (xs : List Room). BelongsAt topic_name xs (topic_name room) i) (sym same) (subst (λ (n : List ℕ). BelongsAt topic_name old n i) (sym (peopled_named topic channel options room clients k within peopled)) place)
+
+-- what stands at a place of a topic that was read
+pub stall_within : (rooms : List Room) (i j : ℕ) (room : Room) (channel : List ℕ) → room ≡ get_or rooms i room → HoldsAt (λ (r : Room). StandsAt channel_name r.stalls.items channel j) rooms i → StandsAt channel_name room.stalls.items channel j
+stall_within rooms i j room channel e all = subst (λ (r : Room). StandsAt channel_name r.stalls.items channel j) (sym e) (all room)
 
 -- what changed of a hall's list of those that may have something to do is only how much room it has
 module _ (h h' : Hall) (i : ℕ) (room : Room) (at : slice_get h.rooms.items i ≡ Some room) (rest : h' ≡ record h { pending = h'.pending }) (pending : h'.pending.items ≡ h.pending.items) where

@@ -112,13 +112,7 @@ fn join_room(
 }
 
 // The same of a channel that is made with its topic.
-fn join_hall(
-    hall: &mut Hall,
-    k: usize,
-    i: usize,
-    topic: Topic,
-    channel: Chan,
-) -> Result<(), Memory>
+fn join_hall(hall: &mut Hall, k: usize, i: usize, topic: Topic, channel: Chan) -> Result<(), Memory>
     requires sound { IsSound hall.old }
     requires client { k < length hall.old.clients.items }
     requires free { HoldsAt IsFree hall.old.clients.items k }

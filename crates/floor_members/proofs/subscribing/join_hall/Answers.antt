@@ -1,4 +1,4 @@
-use Rattle.std.proofs.Common.{◌≡◌, ◌∙◌, ◌<◌, ℕ, List, Some, length, get_or, sym, ap, subst}
+use Rattle.std.proofs.Common.{◌≡◌, ◌∙◌, ◌<◌, ℕ, List, Some, length, get_or, sym, ap, subst, arith}
 use Rattle.std.specs.List.{slice_get}
 use Rattle.std.proofs.lemmas.Option.{slice_get-get_or, slice_get_within}
 use Rattle.nsq_base.specs.Places.{BelongsAt}
@@ -8,6 +8,7 @@ use Rattle.floor_rooms.specs.declared.hall.Hall.{Hall}
 use Rattle.floor_rooms.specs.declared.room.Room.{Room}
 use Rattle.floor_rooms.specs.Rooms.{topic_name}
 use Rattle.floor_changes.proofs.LostPlaces.{read_same}
+use Rattle.floor_changes.proofs.SeatPlaces.{on_err}
 use Rattle.floor_members.specs.Subscribing.{IsPeopled}
 use Rattle.floor_members.proofs.Joining.{joins_hall, peopled_named, peopled_place, remains_alike}
 use Rattle.floor_members.proofs.Exchanged.{put_there}
@@ -23,7 +24,9 @@ add_room-requires-clause-place c =
     peopled_place c.args.topic c.args.channel h1.options c.in_ok-room.room h1.clients.items c.args.k within c.in_ok-room.ensures c.args.hall.now.rooms.items h1.rooms.items c.args.i c.reserve_room.ensures.rooms c.requires.place
 
 pub index_mut-requires : goal.index_mut-requires
-index_mut-requires c = subst (λ (x : Hall). c.args.k < length x.clients.items) (sym c.add_room.ensures.rest) (subst (λ (x : Hall). c.args.k < length x.clients.items) (sym c.reserve_room.ensures.rest) c.requires.client)
+index_mut-requires c =
+    let l : c.args.k < length c.add_room.new.self.clients.items = subst (λ (x : Hall). c.args.k < length x.clients.items) (sym c.add_room.ensures.rest) (subst (λ (x : Hall). c.args.k < length x.clients.items) (sym c.reserve_room.ensures.rest) c.requires.client) in
+    omega (arith, l, c.add_room.new.self.clients.ok.0)
 
 pub list_room-requires-clause-room : goal.list_room-requires-clause-room
 list_room-requires-clause-room c =
@@ -36,11 +39,11 @@ list_room-requires-clause-room c =
 
 pub returns-in_err-reserve_room-clause-remains : goal.returns-in_err-reserve_room-clause-remains
 returns-in_err-reserve_room-clause-remains c =
-    remains_alike c.args.hall.now c.reserve_room.new.self c.reserve_room.ensures.rest c.reserve_room.ensures.rooms c.reserve_room.ensures.pending (c.reserve_room.ensures.sound c.requires.sound) c.reserve_room.ensures.stands
+    on_err _ _ (remains_alike c.args.hall.now c.reserve_room.new.self c.reserve_room.ensures.rest c.reserve_room.ensures.rooms c.reserve_room.ensures.pending (c.reserve_room.ensures.sound c.requires.sound) c.reserve_room.ensures.stands)
 
 pub returns-in_err-room-clause-remains : goal.returns-in_err-room-clause-remains
 returns-in_err-room-clause-remains c =
-    remains_alike c.args.hall.now c.reserve_room.new.self c.reserve_room.ensures.rest c.reserve_room.ensures.rooms c.reserve_room.ensures.pending (c.reserve_room.ensures.sound c.requires.sound) c.reserve_room.ensures.stands
+    on_err _ _ (remains_alike c.args.hall.now c.reserve_room.new.self c.reserve_room.ensures.rest c.reserve_room.ensures.rooms c.reserve_room.ensures.pending (c.reserve_room.ensures.sound c.requires.sound) c.reserve_room.ensures.stands)
 
 pub returns-clause-joins : goal.returns-clause-joins
 returns-clause-joins c = λ d.

@@ -1,4 +1,4 @@
-use Rattle.std.proofs.Common.{◌≡◌, ◌∙◌, ◌<◌, ℕ, List, Some, length, get_or, sym, ap, subst}
+use Rattle.std.proofs.Common.{◌≡◌, ◌∙◌, ◌<◌, ℕ, List, Some, length, get_or, sym, ap, subst, arith}
 use Rattle.std.specs.Prelude.{HoldsAt}
 use Rattle.std.specs.List.{slice_get}
 use Rattle.std.proofs.lemmas.Option.{slice_get-get_or}
@@ -10,6 +10,7 @@ use Rattle.floor_rooms.specs.declared.room.Room.{Room}
 use Rattle.floor_rooms.specs.Rooms.{channel_name}
 use Rattle.floor_rooms.proofs.Growing.{reserved_place}
 use Rattle.floor_changes.proofs.LostPlaces.{read_same}
+use Rattle.floor_changes.proofs.SeatPlaces.{on_err}
 use Rattle.floor_members.specs.Subscribing.{IsSeated}
 use Rattle.floor_members.proofs.Joining.{joins_room, remains_reserved, seated_named}
 use Rattle.floor_members.proofs.subscribing.join_room.Goals as goal
@@ -25,15 +26,17 @@ add_stall-requires-clause-place c =
     (sym (seated_named c.args.topic c.args.channel h1.options c.in_ok-stall.stall h1.clients.items c.args.k within c.in_ok-stall.ensures)) (reserved_place c.args.hall.now.rooms.items h1.rooms.items c.args.i c.args.j c.args.channel c.reserve_stall.ensures.room c.requires.place)
 
 pub index_mut-requires : goal.index_mut-requires
-index_mut-requires c = subst (λ (x : Hall). c.args.k < length x.clients.items) (sym c.add_stall.ensures.rest) (subst (λ (x : Hall). c.args.k < length x.clients.items) (sym c.reserve_stall.ensures.rest) c.requires.client)
+index_mut-requires c =
+    let l : c.args.k < length c.add_stall.new.self.clients.items = subst (λ (x : Hall). c.args.k < length x.clients.items) (sym c.add_stall.ensures.rest) (subst (λ (x : Hall). c.args.k < length x.clients.items) (sym c.reserve_stall.ensures.rest) c.requires.client) in
+    omega (arith, l, c.add_stall.new.self.clients.ok.0)
 
 pub returns-in_err-reserve_stall-clause-remains : goal.returns-in_err-reserve_stall-clause-remains
 returns-in_err-reserve_stall-clause-remains c =
-    remains_reserved c.args.hall.now c.reserve_stall.new.self c.args.i c.reserve_stall.ensures.rest c.reserve_stall.ensures.room c.reserve_stall.ensures.pending (c.reserve_stall.ensures.sound c.requires.sound) c.reserve_stall.ensures.stands
+    on_err _ _ (remains_reserved c.args.hall.now c.reserve_stall.new.self c.args.i c.reserve_stall.ensures.rest c.reserve_stall.ensures.room c.reserve_stall.ensures.pending (c.reserve_stall.ensures.sound c.requires.sound) c.reserve_stall.ensures.stands)
 
 pub returns-in_err-stall-clause-remains : goal.returns-in_err-stall-clause-remains
 returns-in_err-stall-clause-remains c =
-    remains_reserved c.args.hall.now c.reserve_stall.new.self c.args.i c.reserve_stall.ensures.rest c.reserve_stall.ensures.room c.reserve_stall.ensures.pending (c.reserve_stall.ensures.sound c.requires.sound) c.reserve_stall.ensures.stands
+    on_err _ _ (remains_reserved c.args.hall.now c.reserve_stall.new.self c.args.i c.reserve_stall.ensures.rest c.reserve_stall.ensures.room c.reserve_stall.ensures.pending (c.reserve_stall.ensures.sound c.requires.sound) c.reserve_stall.ensures.stands)
 
 pub returns-clause-joins : goal.returns-clause-joins
 returns-clause-joins c = λ d.

@@ -12,14 +12,11 @@ use Rattle.floor_rooms.proofs.Forming.{some_at}
 use Rattle.floor_rooms.proofs.Placing.{at_place}
 use Rattle.floor_changes.specs.Seating.{IsFree, SameSeats, Seats}
 use Rattle.floor_changes.proofs.LostPlaces.{read_same}
-use Rattle.floor_changes.proofs.SeatPlaces.{Sits, seat_absent, seat_new}
+use Rattle.floor_changes.proofs.SeatPlaces.{Sits, on_err, seat_absent, seat_new}
 use Rattle.floor_acts.proofs.Putting.{holds_read, read_holds}
 use Rattle.floor_members.specs.Subscribing.{Joins}
 use Rattle.floor_members.proofs.Joining.{joins_stall, stall_within, unseated, waits}
 use Rattle.floor_members.proofs.subscribing.join_stall.Goals as goal
-
-pub index_mut-2-requires : goal.index_mut-2-requires
-index_mut-2-requires c = (stall_within c.args.hall.now.rooms.items c.args.i c.args.j c.index_mut.result.now c.args.channel c.index_mut.ensures.value c.requires.stall).in_range
 
 pub seat_in-requires-clause-new : goal.seat_in-requires-clause-new
 seat_in-requires-clause-new c =
@@ -49,7 +46,7 @@ pub returns-in_err-reserve-clause-remains : goal.returns-in_err-reserve-clause-r
 returns-in_err-reserve-clause-remains c =
     let h = c.args.hall.now in
     let room = some_at h.rooms.items c.args.i c.requires.there.in_range in
-    waits h (record h { pending = c.reserve.new.self }) c.args.i room.0 room.1 refl c.reserve.ensures.items c.requires.sound
+    on_err _ _ (waits h (record h { pending = c.reserve.new.self }) c.args.i room.0 room.1 refl c.reserve.ensures.items c.requires.sound)
 
 pub returns-in_err-seat_in-clause-remains : goal.returns-in_err-seat_in-clause-remains
 returns-in_err-seat_in-clause-remains c =
@@ -67,7 +64,7 @@ returns-in_err-seat_in-clause-remains c =
       is = refl;
       does = record { stall = stall; after = c.seat_in.new.stall; there = at_place room.stalls.items j stall within.in_range c.index_mut-2.ensures.value; is = refl; stalls = refl; does = c.in_err-seat_in.ensures.refused };
     } in
-    unseated h h1 i j c.requires.sound refl refl refl refl refl c.reserve.ensures.items back
+    on_err _ _ (unseated h h1 i j c.requires.sound refl refl refl refl refl c.reserve.ensures.items back)
 
 pub returns-clause-joins : goal.returns-clause-joins
 returns-clause-joins c =

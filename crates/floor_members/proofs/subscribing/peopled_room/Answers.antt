@@ -2,8 +2,8 @@ use Rattle.std.proofs.Common.{◌∙◌, [], ◌∷◌, ◌++◌, List, refl, ap
 use Rattle.floor_rooms.specs.declared.stall.Stall.{Stall}
 use Rattle.floor_members.proofs.subscribing.peopled_room.Goals as goal
 
-pub returns-clause : goal.returns-clause
-returns-clause c = λ d. record {
+pub returns : goal.returns
+returns c = λ d. record {
   bare = c.in_ok-room.room;
   fresh = c.in_ok-room.ensures.room;
   is_topic = c.in_ok-room.ensures.stands;

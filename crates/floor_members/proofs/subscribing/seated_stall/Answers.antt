@@ -20,8 +20,8 @@ seat_in-requires-clause-absent c = ap (list_any (nat_eq c.number-number.result))
 pub seat_in-requires-clause-order : goal.seat_in-requires-clause-order
 seat_in-requires-clause-order c = subst AreAscending (sym c.in_ok-stall.ensures.stall.members) (none_of_none (λ (a b : ℕ). a < b))
 
-pub returns-clause : goal.returns-clause
-returns-clause c =
+pub returns : goal.returns
+returns c =
     let clients = c.args.hall.now.clients.items in
     let client = c.index.result.now in
     let timeout : c.timeout-timeout.result ≡ client.timeout = c.timeout-timeout.ensures.value ∙ ap (λ (d : Client). d.timeout) (read_same clients c.args.k client c.index-2.result.now (at_place clients c.args.k client c.requires.client c.index.ensures) c.index-2.ensures) in

@@ -1,3 +1,5 @@
+use Rattle.v2_frame.specs.declared.command.Command.TheVariants.{Nop}
+use Rattle.floor_changes.proofs.SeatPlaces.{on_err}
 use Rattle.floor_members.proofs.Speaking.{joined_range, joined_sound, not_joined_names, not_joined_since, not_joined_stands, said_clients, said_listed, said_names, said_since, said_told}
 use Rattle.floor_members.proofs.subscribing.subscribe.Goals as goal
 
@@ -9,7 +11,7 @@ speak-requires-clause-client c = joined_range c.args.hall.now c.join.new.hall c.
 
 pub returns-clause-told : goal.returns-clause-told
 returns-clause-told c = λ files.
-    said_told c.args.hall.now c.join.new.hall c.speak.new.hall c.args.k c.args.topic c.args.channel c.requires.client c.join.ensures.rest c.in_ok-join.ensures.joins c.speak.ensures.rest files (c.speak.ensures.told files _)
+    said_told c.args.hall.now c.join.new.hall c.speak.new.hall c.args.k c.args.topic c.args.channel c.requires.client c.join.ensures.rest c.in_ok-join.ensures.joins c.speak.ensures.rest files (c.speak.ensures.told files Nop)
 
 pub returns-clause-clients : goal.returns-clause-clients
 returns-clause-clients c =
@@ -25,10 +27,10 @@ pub returns-clause-since : goal.returns-clause-since
 returns-clause-since c = said_since c.args.hall.now c.join.new.hall c.speak.new.hall c.args.k c.args.topic c.args.channel c.requires.client c.join.ensures.rest c.in_ok-join.ensures.joins c.speak.ensures.rest
 
 pub returns-in_err-join-clause-stays : goal.returns-in_err-join-clause-stays
-returns-in_err-join-clause-stays c = λ files. not_joined_stands c.args.hall.now c.join.new.hall files c.in_err-join.ensures.remains
+returns-in_err-join-clause-stays c = λ files. on_err _ _ (not_joined_stands c.args.hall.now c.join.new.hall files c.in_err-join.ensures.remains)
 
 pub returns-in_err-join-clause-unchanged : goal.returns-in_err-join-clause-unchanged
-returns-in_err-join-clause-unchanged c = c.in_err-join.ensures.remains.same
+returns-in_err-join-clause-unchanged c = on_err _ _ c.in_err-join.ensures.remains.same
 
 pub returns-in_err-join-clause-sound : goal.returns-in_err-join-clause-sound
 returns-in_err-join-clause-sound c = c.in_err-join.ensures.remains.sound

@@ -1,5 +1,5 @@
 -- A hall of which one channel has a client, and the hall that it would be if the channel didn't have it yet.
-use Rattle.std.proofs.Common.{◌≡◌, ℕ, set, true, List, Some, refl, sym, ap, subst, ◌∙◌}
+use Rattle.std.proofs.Common.{◌≡◌, ℕ, set, true, List, Some, refl, sym, ap, subst}
 use Rattle.std.specs.List.{Contains, slice_get}
 use Rattle.std.specs.Vec.{with_item}
 use Rattle.nsq_outside.specs.Files.{Files}

@@ -1,11 +1,11 @@
 -- A client joins a channel that is there, one that is made for it in its topic, or one that is made with its topic.
-use Rattle.std.proofs.Common.{◌≡◌, ◌<◌, ℕ, set, true, not, ◌||◌, List, [], ◌∷◌, length, get_or, Some, None, set-set, refl, sym, ap, subst, ◌∙◌}
+use Rattle.std.proofs.Common.{◌≡◌, ◌<◌, ℕ, set, not, ◌||◌, List, [], ◌∷◌, length, get_or, Some, None, set-set, refl, sym, ap, subst, ◌∙◌}
 use Rattle.std.specs.Prelude.{HoldsAt}
 use Rattle.std.specs.List.{All, Contains, slice_get}
 use Rattle.std.specs.Vec.{with_item}
 use Rattle.std.proofs.lemmas.List.Elements.{All-cons, All-nil}
 use Rattle.std.proofs.lemmas.Option.{get_or_from_slice_get}
-use Rattle.nsq_base.specs.Name.{IsName, is_ephemeral}
+use Rattle.nsq_base.specs.Name.{is_ephemeral}
 use Rattle.nsq_base.specs.Places.{BelongsAt, StandsAt}
 use Rattle.nsq_base.specs.declared.options.Options.{Options}
 use Rattle.nsq_outside.specs.Files.{Files}
@@ -32,7 +32,7 @@ use Rattle.floor_rooms.proofs.Growing.{added_stall_sound, added_stall_stands, bo
 use Rattle.floor_rooms.proofs.Coming.{came_names, came_since, grew_names, grew_since}
 use Rattle.floor_changes.specs.Seating.{IsFree, SameSeats}
 use Rattle.floor_changes.proofs.SeatPlaces.{Sits, sits_names, sits_since, sits_sound, unseated_keeps, unseated_sound, unseated_stands}
-use Rattle.floor_members.specs.Subscribing.{IsAsItWas, IsPeopled, IsSeated, Joins, Remains}
+use Rattle.floor_members.specs.Subscribing.{IsPeopled, IsSeated, Joins, Remains}
 use Rattle.floor_members.proofs.Exchanged.{put_there, set_itself, set_put, set_there}
 use Rattle.floor_members.proofs.Bare.{bare_hall, bare_room, is_listed, joined_hall, seated_stands, sits_down}
 

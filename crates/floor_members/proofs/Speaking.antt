@@ -1,7 +1,7 @@
 -- A client that joined speaks last, while the definitions let it speak first.
 use Rattle.std.proofs.Common.{◌≡◌, ◌<◌, ℕ, Bool, true, false, nat_lt, List, [], ◌∷◌, ◌++◌, length, get_or, append_assoc, append-nil, refl, sym, ap, subst, ◌∙◌, arith}
 use Rattle.std.specs.Prelude.{HoldsAt}
-use Rattle.std.specs.List.{All, Contains, filter}
+use Rattle.std.specs.List.{Contains, filter}
 use Rattle.std.proofs.lemmas.Bool.{le-ltb, ltb-true}
 use Rattle.std.proofs.lemmas.List.Elements.{All-cons, All-nil, All-weaker, filter_passes}
 use Rattle.nsq_base.proofs.PutBy.{filter-three, filter_all, filter_none}
@@ -10,9 +10,8 @@ use Rattle.v2_frame.specs.declared.command.Command.TheVariants.{Nop, Sub}
 use Rattle.broker_history.specs.State.{Client, State, put_client, with_client}
 use Rattle.broker_history.specs.Changes.{made_channel}
 use Rattle.broker_history.specs.Step.{spoke, subscribed}
-use Rattle.floor_rooms.specs.declared.room.Room.{Room}
 use Rattle.floor_rooms.specs.declared.hall.Hall.{Hall}
-use Rattle.floor_rooms.specs.Standing.{Carries, HoldsFor}
+use Rattle.floor_rooms.specs.Standing.{Carries}
 use Rattle.floor_rooms.specs.Changes.{KeepsSince}
 use Rattle.floor_rooms.specs.Kept.{NamesTold}
 use Rattle.floor_rooms.specs.Sound.{IsSound}

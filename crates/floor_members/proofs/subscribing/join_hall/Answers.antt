@@ -1,4 +1,4 @@
-use Rattle.std.proofs.Common.{◌≡◌, ◌∙◌, ◌<◌, ℕ, List, Some, length, get_or, sym, ap, subst, arith}
+use Rattle.std.proofs.Common.{◌≡◌, ◌∙◌, ◌<◌, List, Some, length, get_or, sym, ap, subst, arith}
 use Rattle.std.specs.List.{slice_get}
 use Rattle.std.proofs.lemmas.Option.{slice_get-get_or, slice_get_within}
 use Rattle.nsq_base.specs.Places.{BelongsAt}
@@ -10,7 +10,7 @@ use Rattle.floor_rooms.specs.Rooms.{topic_name}
 use Rattle.floor_changes.proofs.LostPlaces.{read_same}
 use Rattle.floor_changes.proofs.SeatPlaces.{on_err}
 use Rattle.floor_members.specs.Subscribing.{IsPeopled}
-use Rattle.floor_members.proofs.Joining.{joins_hall, peopled_named, peopled_place, remains_alike}
+use Rattle.floor_members.proofs.Joining.{joins_hall, peopled_place, remains_alike}
 use Rattle.floor_members.proofs.Exchanged.{put_there}
 use Rattle.floor_members.proofs.subscribing.join_hall.Goals as goal
 

@@ -5,7 +5,6 @@ use Rattle.nsq_base.specs.Places.{StandsAt}
 use Rattle.broker_history.specs.State.{Client}
 use Rattle.broker_history.specs.Step.{subscribed}
 use Rattle.channel_copies.specs.Clients.{client_of}
-use Rattle.floor_rooms.specs.declared.room.Room.{Room}
 use Rattle.floor_rooms.specs.Rooms.{channel_name, topic_name}
 use Rattle.floor_rooms.specs.Changes.{AtStall}
 use Rattle.floor_rooms.proofs.Forming.{some_at}

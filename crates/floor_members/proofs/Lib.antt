@@ -1,0 +1,2 @@
+pub mod Deserted
+pub mod Leaving

@@ -10,7 +10,7 @@ ghost use Rattle.floor_rooms.specs.Rooms.{channel_name, topic_name};
 ghost use Rattle.floor_rooms.specs.Sound.{IsSound};
 ghost use Rattle.floor_rooms.specs.Standing.{Carries};
 ghost use Rattle.floor_topics.specs.Deleting.{GoesEmpty, without_empty};
-ghost use Rattle.floor_members.specs.Going.{is_deserted};
+ghost use Rattle.floor_members.specs.Going.{NoneComes, is_deserted};
 
 use floor_changes::{Lost, forget_room, lose_stall, part};
 use floor_rooms::{Hall, Room};
@@ -72,6 +72,7 @@ fn forget_deserted<F: Folder>(hall: &mut Hall, topic: Topic, channel: Chan, fold
     ensures rest { hall.new ≡ record hall.old { clients = hall.new.clients; rooms = hall.new.rooms; unsaved_from = hall.new.unsaved_from } }
     ensures sound { IsSound hall.new }
     ensures names { NamesTold hall.old hall.new }
+    ensures comes { NoneComes hall.old.rooms.items hall.new.rooms.items }
     ensures since { KeepsSince hall.old.moment hall.old.rooms.items hall.new.rooms.items }
     ensures files { IsTrue F.tells_files → OnlyQueueFiles (F.files folder.old) (F.files folder.new) }
     ensures faults { F.folder_faults folder.old ≤ F.folder_faults folder.new }
@@ -111,6 +112,7 @@ fn forget_channel<F: Folder>(hall: &mut Hall, i: usize, j: usize, folder: &mut F
     ensures rest { hall.new ≡ record hall.old { clients = hall.new.clients; rooms = hall.new.rooms; unsaved_from = hall.new.unsaved_from } }
     ensures sound { IsSound hall.new }
     ensures names { NamesTold hall.old hall.new }
+    ensures comes { NoneComes hall.old.rooms.items hall.new.rooms.items }
     ensures since { KeepsSince hall.old.moment hall.old.rooms.items hall.new.rooms.items }
     ensures files { IsTrue F.tells_files → OnlyQueueFiles (F.files folder.old) (F.files folder.new) }
     ensures faults { F.folder_faults folder.old ≤ F.folder_faults folder.new }

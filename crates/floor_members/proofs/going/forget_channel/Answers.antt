@@ -9,8 +9,8 @@ use Rattle.floor_topics.proofs.Losing.{lost_room, lost_since, lost_told, lost_wi
 use Rattle.floor_members.proofs.Leaving.{clients_stay, deserted_ephemeral, forgot_rest, none_came}
 use Rattle.floor_members.proofs.going.forget_channel.Goals as goal
 
-pub unreachable : goal.unreachable
-unreachable g c =
+pub unreachable-requires : goal.unreachable-requires
+unreachable-requires g c =
     let d = (some_at c.args.hall.now.rooms.items c.args.i c.requires.room).0 in
     let x = (some_at (get_or c.args.hall.now.rooms.items c.args.i d).stalls.items c.args.j (c.requires.stall d)).0 in
     let topic = topic_name (get_or c.args.hall.now.rooms.items c.args.i d) in

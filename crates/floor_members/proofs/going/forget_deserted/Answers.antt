@@ -21,8 +21,8 @@ is_deserted-requires g c =
     let room = c.index.result.now in
     subst (λ (r : Room). c.in-Some-stall_place.j < length r.stalls.items) (sym c.index.ensures) (c.in-Some-stall_place.ensures room).stands.in_range
 
-pub returns-in-true-clause-told : goal.returns-in-true-clause-told
-returns-in-true-clause-told g c = λ told s holds.
+pub returns-then-not-is_deserted-clause-told : goal.returns-then-not-is_deserted-clause-told
+returns-then-not-is_deserted-clause-told g c = λ told s holds.
     let h = c.args.hall.now in
     let rooms = h.rooms.items in
     let i = c.in-Some.i in

@@ -1,12 +1,12 @@
 -- A channel that has no client, in a hall and in the states that it stands for.
 use Rattle.std.proofs.Common.{◌≡◌, ◌<◌, ◌==◌, ℕ, suc, Bool, true, false, ◌&&◌, ◌||◌, nat_eq, if◌then◌else◌, List, [], ◌∷◌, map, length, get_or, Option, Some, None, refl, sym, ap, subst, ◌∙◌, arith}
 use Rattle.std.specs.Prelude.{is_some}
-use Rattle.std.specs.List.{All, filter, find, list_any, slice_get}
-use Rattle.std.proofs.lemmas.Bool.{false≢true}
+use Rattle.std.specs.List.{All, filter, find, list_any}
+use Rattle.std.proofs.lemmas.Bool.{eq-eqb, false≢true}
 use Rattle.std.proofs.lemmas.Option.{get_or_from_slice_get}
 use Rattle.nsq_base.proofs.PutBy.{filter_none}
 use Rattle.nsq_outside.specs.Files.{Files}
-use Rattle.broker_history.specs.State.{Client, Lost, Route, State, clients_of, has_channel, is_empty, is_ephemeral_channel}
+use Rattle.broker_history.specs.State.{Client, Lost, State, clients_of, has_channel, is_empty, is_ephemeral_channel}
 use Rattle.broker_history.specs.Changes.{deleted_channel, left_channel, lost}
 use Rattle.floor_rooms.specs.declared.stall.Stall.{Stall}
 use Rattle.floor_rooms.specs.declared.hall.Hall.{Hall}
@@ -28,7 +28,7 @@ either_same true x y e = e
 either_same false x y e = refl
 
 number_same : (n : ℕ) → nat_eq n n ≡ true
-number_same n = grind arith
+number_same n = eq-eqb n n refl
 
 -- one that is found and passes a test is among those that do
 with_more : {X : Type 0} (b : Bool) (x : X) (xs : List X) → is_empty xs ≡ false → is_empty (if b then x ∷ xs else xs) ≡ false
@@ -44,7 +44,7 @@ found_among p q [] x e passes = absurd (let no : ⊥ = cc in no)
 found_among p q (y ∷ ys) x e passes = found_where q y x ys (find p ys) (p y) e passes (λ more. found_among p q ys x more passes)
 
 -- clients none of which has the channel lose nothing
-none_lost : (topic channel : List ℕ) (cs : List Client) → All (λ c. has_channel topic channel c ≡ false) cs → map (lost topic channel) cs ≡ cs
+pub none_lost : (topic channel : List ℕ) (cs : List Client) → All (λ c. has_channel topic channel c ≡ false) cs → map (lost topic channel) cs ≡ cs
 none_lost topic channel [] none = refl
 none_lost topic channel (c ∷ cs) none =
     ap (λ b. (if b then record c { phase = Lost } else c) ∷ map (lost topic channel) cs) (none 0 c (omega arith)) ∙ ap (λ ds. c ∷ ds) (none_lost topic channel cs (λ i d l. none (suc i) d (omega (arith, l))))
@@ -82,10 +82,10 @@ module _ (h : Hall) (topic : List ℕ) (x : Stall) (sound : IsSound h) (mine : A
 
   -- it stays where it isn't deserted, and else goes
   pub stays_there : (files : Files) (s : State) → HoldsFor h files s → is_deserted topic x ≡ false → s ≡ left_channel s (record { topic = topic; channel = channel_name x })
-  stays_there files s holds no = ap (λ b. if b then deleted_channel s topic (channel_name x) else s) (sym (sym (deserted_so files s holds) ∙ no))
+  stays_there files s holds kept = ap (λ b. if b then deleted_channel s topic (channel_name x) else s) (sym (sym (deserted_so files s holds) ∙ kept))
 
   pub goes_there : (files : Files) (s : State) → HoldsFor h files s → is_deserted topic x ≡ true → deleted_channel s topic (channel_name x) ≡ left_channel s (record { topic = topic; channel = channel_name x })
-  goes_there files s holds yes_so = ap (λ b. if b then deleted_channel s topic (channel_name x) else s) (sym (sym (deserted_so files s holds) ∙ yes_so))
+  goes_there files s holds left = ap (λ b. if b then deleted_channel s topic (channel_name x) else s) (sym (sym (deserted_so files s holds) ∙ left))
 
 -- what isn't there doesn't go
 pub absent_left : (s : State) (topic channel : List ℕ) → s ≡ deleted_channel s topic channel → s ≡ left_channel s (record { topic = topic; channel = channel })

@@ -1,8 +1,7 @@
 -- A client that goes, and what goes with it.
-use Rattle.std.proofs.Common.{◌≡◌, ◌<◌, ◌==◌, ℕ, Bool, true, false, not, ◌&&◌, List, [], ◌∷◌, map, length, get_or, Option, Some, None, refl, sym, ap, subst, ◌∙◌, arith}
-use Rattle.std.specs.List.{All, slice_get}
+use Rattle.std.proofs.Common.{◌≡◌, ◌<◌, ℕ, Bool, true, false, ◌&&◌, List, [], ◌∷◌, map, length, get_or, Option, Some, None, refl, sym, ap, subst, ◌∙◌}
+use Rattle.std.specs.List.{slice_get}
 use Rattle.std.proofs.lemmas.Bool.{false≢true}
-use Rattle.std.proofs.lemmas.List.Elements.{All-weaker}
 use Rattle.std.proofs.lemmas.Option.{get_or_from_slice_get}
 use Rattle.nsq_outside.specs.Files.{Files}
 use Rattle.broker_history.specs.State.{Client, Closing, Fresh, Lost, Phase, Route, State, Subscribed, client_of, is_empty, is_ephemeral_channel, without_client}
@@ -12,7 +11,7 @@ use Rattle.floor_rooms.specs.declared.stall.Stall.{Stall}
 use Rattle.floor_rooms.specs.declared.room.Room.{Room}
 use Rattle.floor_rooms.specs.declared.hall.Hall.{Hall}
 use Rattle.floor_rooms.specs.Rooms.{channel_name, topic_name, client_in}
-use Rattle.floor_rooms.specs.Sound.{AreMembers, IsRoomSound, IsSound}
+use Rattle.floor_rooms.specs.Sound.{AreMembers, IsSound}
 use Rattle.floor_rooms.specs.Standing.{HoldsFor}
 use Rattle.floor_rooms.specs.Changes.{AtRoom, KeepsSince}
 use Rattle.floor_rooms.proofs.Placing.{at_place}
@@ -57,8 +56,11 @@ module _ (h : Hall) (i j : ℕ) (d : Room) (x : Stall) (sound : IsSound h) (room
   members_there = sound.members i d room j x stall
 
   -- nobody loses it that nobody has
-  pub clients_stay : is_deserted T X ≡ true → map (lost T (channel_name X)) h.clients.items ≡ h.clients.items
+  clients_stay : is_deserted T X ≡ true → map (lost T (channel_name X)) h.clients.items ≡ h.clients.items
   clients_stay e = none_lost T (channel_name X) h.clients.items (none_has h T X sound members_there (deserted_none T X e))
+
+  pub forgot_all : (h1 h2 : Hall) → is_deserted T X ≡ true → h1.clients.items ≡ map (lost T (channel_name X)) h.clients.items → h2 ≡ record h1 { rooms = h2.rooms } → h2.clients.items ≡ h.clients.items
+  forgot_all h1 h2 e lost_so rest = ap (λ (y : Hall). y.clients.items) rest ∙ lost_so ∙ clients_stay e
 
   module _ (topic channel : List ℕ) (called : T ≡ topic) (named : channel_name X ≡ channel) (files : Files) (s : State) (holds : HoldsFor h files s) where
     same_left : left_channel s (record { topic = T; channel = channel_name X }) ≡ left_channel s (record { topic = topic; channel = channel })
@@ -90,6 +92,12 @@ pub since_then_none : (at at' : ℕ) (a b c : List Room) → at' ≡ at → None
 since_then_none at at' a b c same none x y = since_shrunk at a b c (record { topics = none.topics; channels = none.channels }) x (subst (λ n. KeepsSince n b c) same y)
 
 -- what else stays
+pub lost_moment : (h0 h1 : Hall) → h1 ≡ record h0 { rooms = h1.rooms; clients = h1.clients; unsaved_names = h1.unsaved_names; unsaved_from = h1.unsaved_from } → h1.moment ≡ h0.moment
+lost_moment h0 h1 e = ap (λ (h : Hall). h.moment) e
+
+pub left_moment : (h0 h1 : Hall) → h1 ≡ record h0 { rooms = h1.rooms; clients = h1.clients; pending = h1.pending } → h1.moment ≡ h0.moment
+left_moment h0 h1 e = ap (λ (h : Hall). h.moment) e
+
 pub forgot_rest : (h0 h1 h2 : Hall) → h1 ≡ record h0 { rooms = h1.rooms; clients = h1.clients; unsaved_names = h1.unsaved_names; unsaved_from = h1.unsaved_from } → h1.unsaved_names ≡ h0.unsaved_names → h2 ≡ record h1 { rooms = h2.rooms }
     → h2 ≡ record h0 { clients = h2.clients; rooms = h2.rooms; unsaved_from = h2.unsaved_from }
 forgot_rest h0 h1 h2 e1 unsaved e2 =

@@ -1,12 +1,11 @@
-use Rattle.std.proofs.Common.{◌≡◌, true, get_or, ap, ◌∙◌}
+use Rattle.std.proofs.Common.{◌≡◌, true, get_or}
 use Rattle.std.proofs.lemmas.Bool.{MatchBool-at_true}
 use Rattle.broker_history.specs.State.{is_ephemeral_channel}
-use Rattle.floor_rooms.specs.declared.hall.Hall.{Hall}
 use Rattle.floor_rooms.specs.Rooms.{channel_name, topic_name}
 use Rattle.floor_rooms.proofs.Forming.{some_at}
 use Rattle.floor_rooms.proofs.Naming.{names_then}
 use Rattle.floor_topics.proofs.Losing.{lost_room, lost_since, lost_told, lost_within}
-use Rattle.floor_members.proofs.Leaving.{clients_stay, deserted_ephemeral, forgot_rest, none_came}
+use Rattle.floor_members.proofs.Leaving.{deserted_ephemeral, forgot_all, forgot_rest, lost_moment, none_came}
 use Rattle.floor_members.proofs.going.forget_channel.Goals as goal
 
 pub unreachable-requires : goal.unreachable-requires
@@ -45,7 +44,7 @@ returns-clause-clients g c =
     let h0 = c.args.hall.now in
     let d = (some_at h0.rooms.items c.args.i c.requires.room).0 in
     let x = (some_at (get_or h0.rooms.items c.args.i d).stalls.items c.args.j (c.requires.stall d)).0 in
-    ap (λ (h : Hall). h.clients.items) c.forget_empty.ensures.rest ∙ c.in-Done.ensures.clients d x ∙ clients_stay h0 c.args.i c.args.j d x c.requires.sound c.requires.room (c.requires.stall d) (c.requires.deserted d x)
+    forgot_all h0 c.args.i c.args.j d x c.requires.sound c.requires.room (c.requires.stall d) c.lose_stall.new.hall c.forget_empty.new.hall (c.requires.deserted d x) (c.in-Done.ensures.clients d x) c.forget_empty.ensures.rest
 
 pub returns-clause-rest : goal.returns-clause-rest
 returns-clause-rest g c =
@@ -71,4 +70,4 @@ returns-clause-comes g c =
 pub returns-clause-since : goal.returns-clause-since
 returns-clause-since g c =
     let d = (some_at c.args.hall.now.rooms.items c.args.i c.requires.room).0 in
-    lost_since c.args.hall.now.moment c.lose_stall.new.hall.moment (get_or c.lose_stall.new.hall.rooms.items c.args.i d) c.args.hall.now.rooms.items c.lose_stall.new.hall.rooms.items c.forget_empty.new.hall.rooms.items (ap (λ (h : Hall). h.moment) c.lose_stall.ensures.rest) (c.forget_empty.ensures.rooms d) c.lose_stall.ensures.since c.forget_empty.ensures.since
+    lost_since c.args.hall.now.moment c.lose_stall.new.hall.moment (get_or c.lose_stall.new.hall.rooms.items c.args.i d) c.args.hall.now.rooms.items c.lose_stall.new.hall.rooms.items c.forget_empty.new.hall.rooms.items (lost_moment c.args.hall.now c.lose_stall.new.hall c.lose_stall.ensures.rest) (c.forget_empty.ensures.rooms d) c.lose_stall.ensures.since c.forget_empty.ensures.since

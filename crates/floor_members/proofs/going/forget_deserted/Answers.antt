@@ -1,6 +1,5 @@
-use Rattle.std.proofs.Common.{◌≡◌, ◌<◌, length, get_or, sym, ap, subst, ◌∙◌}
+use Rattle.std.proofs.Common.{◌<◌, length, get_or, sym, subst, ◌∙◌}
 use Rattle.floor_rooms.specs.declared.room.Room.{Room}
-use Rattle.floor_rooms.specs.Rooms.{channel_name, topic_name}
 use Rattle.floor_rooms.proofs.Forming.{some_at}
 use Rattle.floor_topics.proofs.Losing.{no_channel_deleted, no_topic_deleted}
 use Rattle.floor_members.proofs.Deserted.{absent_left}

@@ -1,4 +1,6 @@
-pub mod Exchanged
 pub mod Bare
+pub mod Deserted
+pub mod Exchanged
 pub mod Joining
+pub mod Leaving
 pub mod Speaking

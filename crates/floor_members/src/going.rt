@@ -1,19 +1,18 @@
-ghost use Rattle.std.specs.Prelude.{◌≡◌, ◌≤◌, ◌<◌, ◌&&◌, true, HoldsAt, IsTrue, OnErr, OnOk, length};
+ghost use Rattle.std.specs.Prelude.{◌≡◌, ◌≤◌, ◌<◌, true, HoldsAt, IsTrue, OnErr, OnOk, length};
 ghost use Rattle.std.specs.VecDeque.{deque_capacity, deque_len};
-ghost use Rattle.nsq_base.specs.Name.{is_ephemeral};
 ghost use Rattle.nsq_outside.specs.Files.{Files};
 ghost use Rattle.broker_history.specs.Changes.{deleted_channel, gone, left_channel};
-ghost use Rattle.broker_history.specs.State.{is_empty, without_client};
+ghost use Rattle.broker_history.specs.State.{without_client};
 ghost use Rattle.floor_rooms.specs.Changes.{KeepsSince, OnlyQueueFiles};
 ghost use Rattle.floor_rooms.specs.Kept.{NamesTold};
 ghost use Rattle.floor_rooms.specs.Rooms.{channel_name, topic_name};
 ghost use Rattle.floor_rooms.specs.Sound.{IsSound};
 ghost use Rattle.floor_rooms.specs.Standing.{Carries};
-ghost use Rattle.floor_topics.specs.Deleting.{GoesEmpty, without_empty};
 ghost use Rattle.floor_members.specs.Going.{NoneComes, is_deserted};
 
-use floor_changes::{Lost, forget_room, lose_stall, part};
+use floor_changes::{Lost, lose_stall, part};
 use floor_rooms::{Hall, Room};
+use floor_topics::forget_empty;
 use nsq_base::{Chan, Memory, Topic};
 use nsq_outside::Folder;
 
@@ -121,31 +120,4 @@ fn forget_channel<F: Folder>(hall: &mut Hall, i: usize, j: usize, folder: &mut F
         unreachable!()
     };
     forget_empty(hall, i);
-}
-
-// An ephemeral topic goes that has no channel.
-fn forget_empty(hall: &mut Hall, i: usize)
-    requires sound { IsSound hall.old }
-    requires room { i < length hall.old.rooms.items }
-    ensures rest { hall.new ≡ record hall.old { rooms = hall.new.rooms } }
-    ensures stands { HoldsAt (λ r. (files : Files) → Carries hall.old files hall.new files (λ s t. t ≡ without_empty r s)) hall.old.rooms.items i }
-    ensures rooms { HoldsAt (λ r. GoesEmpty r hall.old.rooms.items hall.new.rooms.items) hall.old.rooms.items i }
-    ensures sound { IsSound hall.new }
-    ensures names { NamesTold hall.old hall.new }
-    ensures since { KeepsSince hall.old.moment hall.old.rooms.items hall.new.rooms.items }
-{
-    if !is_left_empty(&hall.rooms[i]) {
-        return;
-    }
-    forget_room(hall, i);
-}
-
-// Whether a topic goes because it is ephemeral and has no channel.
-fn is_left_empty(room: &Room) -> bool
-    ensures { result ≡ (is_ephemeral (topic_name room.now) && is_empty room.now.stalls.items) }
-{
-    if !room.stalls.is_empty() {
-        return false;
-    }
-    room.name().ephemeral()
 }

@@ -1,0 +1,5 @@
+pub mod Marking
+pub mod Clearing
+pub mod Syncing
+pub mod Beginning
+pub mod Raising

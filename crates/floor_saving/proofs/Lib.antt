@@ -3,3 +3,4 @@ pub mod Clearing
 pub mod Syncing
 pub mod Beginning
 pub mod Raising
+pub mod Leaving

@@ -114,7 +114,7 @@ pub record RoomSoFar (tells : Bool) (i j count : ℕ) (h h' : Hall) (old new : F
   pub synced : Synced tells h h' old new before now
   pub room : AtRoom i (λ a b. IsRoomBegun h.moment h.options.sync_timeout least before now j b) h.rooms.items h'.rooms.items
   pub soon : IsSoon h.moment h.options.sync_timeout least before now
-  pub count : count ≡ length room.after.stalls.items
+  pub counted : count ≡ length room.after.stalls.items
 
 -- a moment comes before the greatest number
 pub early_moment : (h : Hall) → IsSound h → h.moment < 2 ^ 64 - 1
@@ -132,8 +132,8 @@ room_begins tells i count h h' old new before now least sound rest x counts = re
     is = x.is;
     does = record { queue = topic_done tells h h' old new before now h.moment h.options.sync_timeout least i sound rest x; stalls = λ k d from below. absurd (let no : ⊥ = omega (arith, below) in no) };
   };
-  soon = queue_soon h.moment h.options.sync_timeout least before now x.room.since x.after.since x.room.queue.backlog.queue x.after.queue.backlog.queue (early_moment h sound) x.does.mark x.does.least;
-  count = counts;
+  soon = queue_soon h.moment h.options.sync_timeout least before now x.room.since x.after.since x.room.queue.backlog.queue x.after.queue.backlog.queue (early_moment h sound) x.does.mark x.does.left;
+  counted = counts;
 }
 
 -- then each channel's
@@ -143,7 +143,7 @@ module _ (tells : Bool) (i j count : ℕ) (h h1 h2 : Hall) (f0 f1 f2 : Files) (n
   step_synced = channel_synced tells h1 h2 f1 f2 n1 n2 h1.moment h1.options.sync_timeout left i j so.synced.sound rest x
 
   same_room : x.room ≡ so.room.after
-  same_room = after_at i (λ a b. IsRoomBegun h.moment h.options.sync_timeout a n0 n1 j b) h.rooms.items h1.rooms.items so.room x.room x.there
+  same_room = after_at i (λ r s. IsRoomBegun h.moment h.options.sync_timeout a n0 n1 j s) h.rooms.items h1.rooms.items so.room x.room x.there
 
   step_stall : IsQueueDone h.moment h.options.sync_timeout left n1 n2 x.does.after.since x.does.after.channel.backlog.queue
   step_stall =
@@ -155,7 +155,7 @@ module _ (tells : Bool) (i j count : ℕ) (h h1 h2 : Hall) (f0 f1 f2 : Files) (n
   step_soon =
       subst (λ t. IsSoon h.moment t left n1 n2) (timeout_same h h1 so.synced.rest)
       (subst (λ m. IsSoon m h1.options.sync_timeout left n1 n2) (moment_same h h1 so.synced.rest)
-      (queue_soon h1.moment h1.options.sync_timeout left n1 n2 x.does.stall.since x.does.after.since x.does.stall.channel.backlog.queue x.does.after.channel.backlog.queue (early_moment h1 so.synced.sound) x.does.does.mark x.does.does.least))
+      (queue_soon h1.moment h1.options.sync_timeout left n1 n2 x.does.stall.since x.does.after.since x.does.stall.channel.backlog.queue x.does.after.channel.backlog.queue (early_moment h1 so.synced.sound) x.does.does.mark x.does.does.left))
 
   step_done : IsRoomBegun h.moment h.options.sync_timeout least n0 n2 (j + 1) x.after
   step_done =
@@ -184,14 +184,14 @@ module _ (tells : Bool) (i j count : ℕ) (h h1 h2 : Hall) (f0 f1 f2 : Files) (n
       does = step_done;
     };
     soon = soon_both h.moment h.options.sync_timeout a left least n0 n1 n2 is so.synced.faults step_synced.faults so.soon step_soon;
-    count = so.count ∙ ap (λ (r : Room). length r.stalls.items) (sym same_room) ∙ sym (ap length x.does.stalls ∙ length_put x.room.stalls.items j x.does.after);
+    counted = so.counted ∙ ap (λ (r : Room). length r.stalls.items) (sym same_room) ∙ sym (ap length x.does.stalls ∙ length_put x.room.stalls.items j x.does.after);
   }
 
 -- until all are done
 pub room_ends : (tells : Bool) (i j count : ℕ) (h h' : Hall) (old new : Files) (before now least : ℕ) → count ≤ j → RoomSoFar tells i j count h h' old new before now least
     → AtRoom i (λ a b. IsRoomDone h.moment h.options.sync_timeout least before now b) h.rooms.items h'.rooms.items
 room_ends tells i j count h h' old new before now least past so =
-    let counts = so.count in
+    let counts = so.counted in
     record {
       room = so.room.room;
       after = so.room.after;
@@ -205,7 +205,7 @@ pub record RoomsSoFar (tells : Bool) (i count : ℕ) (h h' : Hall) (old new : Fi
   pub synced : Synced tells h h' old new before now
   pub done : AllWithin (IsRoomDone h.moment h.options.sync_timeout least before now) h'.rooms.items 0 i
   pub soon : IsSoon h.moment h.options.sync_timeout least before now
-  pub count : count ≡ length h'.rooms.items
+  pub counted : count ≡ length h'.rooms.items
 
 pub rooms_begin : (tells : Bool) (count : ℕ) (h : Hall) (files : Files) (faults least : ℕ) → IsSound h → least ≡ 2 ^ 64 - 1 → count ≡ length h.rooms.items → RoomsSoFar tells 0 count h h files files faults faults least
 rooms_begin tells count h files faults least sound is counts =
@@ -214,7 +214,7 @@ rooms_begin tells count h files faults least sound is counts =
       synced = synced_same tells h files faults sound;
       done = λ k d from below. absurd (let no : ⊥ = omega (arith, below) in no);
       soon = inl (omega (arith, early, is));
-      count = counts;
+      counted = counts;
     }
 
 pub rooms_go_on : (tells : Bool) (i count : ℕ) (h h1 h2 : Hall) (f0 f1 f2 : Files) (n0 n1 n2 a left least : ℕ) → RoomsSoFar tells i count h h1 f0 f1 n0 n1 a → Synced tells h1 h2 f1 f2 n1 n2
@@ -233,17 +233,17 @@ rooms_go_on tells i count h h1 h2 f0 f1 f2 n0 n1 n2 a left least so step x soon 
           (within_put (IsRoomDone at timeout a n0 n1) (IsRoomDone at timeout least n0 n2) h1.rooms.items i x.after (slice_get_within h1.rooms.items i x.room x.there)
           (λ r d. room_wider at timeout a least n0 n0 n1 n2 r (omega (arith, is)) (omega arith) second d) (room_wider at timeout left least n0 n1 n2 n2 x.after (omega (arith, is)) first (omega arith) here) so.done);
       soon = soon_both at timeout a left least n0 n1 n2 is first second so.soon now_soon;
-      count = so.count ∙ sym (ap length x.is ∙ length_put h1.rooms.items i x.after);
+      counted = so.counted ∙ sym (ap length x.is ∙ length_put h1.rooms.items i x.after);
     }
 
 pub rooms_end : (tells : Bool) (i count : ℕ) (h h' : Hall) (old new : Files) (before now least : ℕ) → count ≤ i → RoomsSoFar tells i count h h' old new before now least → All (IsRoomDone h.moment h.options.sync_timeout least before now) h'.rooms.items
-rooms_end tells i count h h' old new before now least past so = let counts = so.count in λ k d below. so.done k d (omega arith) (omega (arith, below, counts, past))
+rooms_end tells i count h h' old new before now least past so = let counts = so.counted in λ k d below. so.done k d (omega arith) (omega (arith, below, counts, past))
 
 -- a channel's place that was counted is there
 pub place_there : (tells : Bool) (i j count : ℕ) (h h' : Hall) (old new : Files) (before now least : ℕ) → j < count → RoomSoFar tells i j count h h' old new before now least → HoldsAt (λ (r : Room). j < length r.stalls.items) h'.rooms.items i
 place_there tells i j count h h' old new before now least below so =
     λ d.
-    let counts = so.count in
+    let counts = so.counted in
     let within : j < length so.room.after.stalls.items = omega (arith, below, counts) in
     subst (λ (r : Room). j < length r.stalls.items) (sym (read_after i (λ a b. IsRoomBegun h.moment h.options.sync_timeout least before now j b) h.rooms.items h'.rooms.items so.room d)) within
 

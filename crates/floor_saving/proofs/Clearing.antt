@@ -32,7 +32,7 @@ queue_then (Some a) (Some b) (Some c) x y = record { name = y.name ∙ x.name; o
 pub clears_stall_same : (s : Stall) → ClearsStall s s
 clears_stall_same s = record { same = refl; queue = same_queue s.channel.backlog.queue; since = goes_same s.since }
 
-stall_like : Stall → Stall → Stall
+abbrev stall_like : Stall → Stall → Stall
 stall_like a c = record a { channel = record (a.channel) { backlog = record (a.channel.backlog) { queue = c.channel.backlog.queue } }; since = c.since }
 
 pub clears_stall_then : (a b c : Stall) → ClearsStall a b → ClearsStall b c → ClearsStall a c
@@ -46,7 +46,7 @@ clears_stall_then a b c x y = record {
 pub clears_room_same : (r : Room) → ClearsRoom r r
 clears_room_same r = record { same = refl; queue = same_queue r.queue.backlog.queue; since = goes_same r.since; stalls = pairs_same ClearsStall clears_stall_same r.stalls.items }
 
-room_like : Room → Room → Room
+abbrev room_like : Room → Room → Room
 room_like a c = record a { queue = record (a.queue) { backlog = record (a.queue.backlog) { queue = c.queue.backlog.queue } }; since = c.since; stalls = c.stalls }
 
 pub clears_room_then : (a b c : Room) → ClearsRoom a b → ClearsRoom b c → ClearsRoom a c

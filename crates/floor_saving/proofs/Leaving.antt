@@ -159,7 +159,7 @@ channel_found topic s c Fault missed f1 f2 is of leaves lasts = inl (missed_here
 module _ (topic : List ℕ) (xs : List Stall) (j : ℕ) (s : Stall) (answer b : Flushed) (f0 f1 f2 : Files) (n0 n1 n2 : ℕ) (up : IsAscendingBy channel_name xs) (named : IsName topic) (can : CanFlushStall topic s) (there : slice_get xs j ≡ Some s)
     (low : n0 ≤ n1) (high : n1 ≤ n2) (cause : FlushFails n1 n2 b) (leaves : (disk : List Message) → OnDisk s.channel.backlog.queue f1 disk → Stands s.channel.backlog.queue f1 → FlushLeaves (left_in_channel (seen_channel s.channel disk)) s.channel.about f2 b)
     (change : DiskChanges s.channel.backlog.queue f1 f2) (so : StallsLeft answer n0 n1 j topic xs f0 f1) where
-  own : List ℕ
+  abbrev own : List ℕ
   own = queue_name topic (channel_name s)
 
   others : OthersStay own f1 f2
@@ -174,7 +174,7 @@ module _ (topic : List ℕ) (xs : List Stall) (j : ℕ) (s : Stall) (answer b : 
   own_stays : OwnFilesStay own f0 f1
   own_stays = so.stays own (λ k x below at e. apart_channel k x (less_apart k j below) at (sym e))
 
-  missed_now : List (List ℕ)
+  abbrev missed_now : List (List ℕ)
   missed_now = missed_with b own so.missed
 
   still_found : (x : Stall) (c : Channel) → queue_name topic (channel_name x) ≢ own → Contains so.missed (queue_name topic (channel_name x)) ⊎ FindsAll (left_in_channel c) (queue_name topic (channel_name x)) f1

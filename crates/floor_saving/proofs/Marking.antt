@@ -1,5 +1,5 @@
 -- What a save makes of a queue and of its mark.
-use Rattle.std.proofs.Common.{◌≡◌, ◌⊎◌, inl, inr, ◌≤◌, ◌<◌, ◌+◌, ◌-◌, ◌^◌, ℕ, min, Bool, true, false, Option, Some, None, refl, sym, ap, subst, ◌∙◌, arith}
+use Rattle.std.proofs.Common.{◌≡◌, ◌⊎◌, inl, inr, ◌≤◌, ◌<◌, ◌+◌, ◌-◌, ◌^◌, ℕ, min, Bool, true, false, List, Option, Some, None, refl, sym, ap, subst, ◌∙◌, arith}
 use Rattle.std.specs.Prelude.{IfSome, IsTrue, not, is_some}
 use Rattle.std.proofs.lemmas.Bool.{false≢true}
 use Rattle.nsq_outside.specs.Causes.{Rose}
@@ -78,7 +78,7 @@ room_left tells at timeout least files faults r lately is = record {
   queue = same_queue r.queue.backlog.queue;
   depth = refl;
   mark = stays refl refl lately;
-  least = is;
+  left = is;
   row = λ told t of. of;
   stands = λ told stands. stands;
   others = λ told. same_disk r.queue.backlog.queue files;
@@ -90,7 +90,7 @@ pub stall_left : (tells : Bool) (at timeout least : ℕ) (files : Files) (faults
 stall_left tells at timeout least files faults s lately is = record {
   same = refl;
   mark = stays refl refl lately;
-  least = is;
+  left = is;
   list = λ told disk on. on;
   disk = record { queue = same_queue s.channel.backlog.queue; stands = λ told stands. stands; others = λ told. same_disk s.channel.backlog.queue files; faults = omega arith };
 }
@@ -112,7 +112,7 @@ room_synced tells at timeout least old new before now a q since answer seen queu
   queue = queue;
   depth = depth_same a.queue.backlog.queue q.backlog.queue answer save;
   mark = mark;
-  least = is;
+  left = is;
   row = row;
   stands = stands;
   others = others;
@@ -127,7 +127,7 @@ pub stall_synced : (tells : Bool) (at timeout least : ℕ) (old new : Files) (be
 stall_synced tells at timeout least old new before now a c since seen list disk mark is = record {
   same = ap (λ (s : ChannelSeen). record a { channel = s; since = since }) seen;
   mark = mark;
-  least = is;
+  left = is;
   list = list;
   disk = disk;
 }

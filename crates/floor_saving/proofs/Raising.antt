@@ -31,7 +31,7 @@ raised_mark : (at timeout u least before now : ℕ) (since : Option ℕ) (q : Op
 raised_mark at timeout u least before now since q m d = record { saved = m.saved; later = d.later }
 
 module _ (at timeout before now : ℕ) (h : Hall) (least : ℕ) (sound : IsSound h) (done : All (IsRoomDone at timeout least before now) h.rooms.items) where
-  raised : Hall
+  abbrev raised : Hall
   raised = record h { unsaved_from = least }
 
   raised_stall : (topic : List ℕ) (s : Stall) → IsStallSound h.options topic h.quiet_until h.unsaved_from s → IsQueueDone at timeout least before now s.since s.channel.backlog.queue → IsStallSound h.options topic h.quiet_until least s
@@ -113,7 +113,7 @@ pub record Walks (tells : Bool) (h h1 : Hall) (old new : Files) (before now leas
   pub soon : IsSoon h.moment h.options.sync_timeout least before now
 
 module _ (tells : Bool) (h h1 : Hall) (old new : Files) (before now least : ℕ) (w : Walks tells h h1 old new before now least) where
-  behind : Hall
+  abbrev behind : Hall
   behind = record h1 { unsaved_from = least }
 
   done_now : All (IsRoomDone h1.moment h1.options.sync_timeout least before now) h1.rooms.items

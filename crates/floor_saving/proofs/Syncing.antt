@@ -57,7 +57,7 @@ rest_keeps h h' sound rest =
 
 -- a topic's own queue
 module _ (tells : Bool) (h h' : Hall) (old new : Files) (before now at timeout least i : ℕ) (sound : IsSound h) (rest : h' ≡ record h { rooms = h'.rooms }) (x : AtRoom i (SavesRoom tells at timeout least old new before now) h.rooms.items h'.rooms.items) where
-  Saves : Room → Room → Type 0
+  abbrev Saves : Room → Room → Type 0
   Saves = SavesRoom tells at timeout least old new before now
 
   topic_keeps : KeepsRest h h'
@@ -75,7 +75,7 @@ module _ (tells : Bool) (h h' : Hall) (old new : Files) (before now at timeout l
   topic_stalls : x.after.stalls.items ≡ x.room.stalls.items
   topic_stalls = ap (λ (r : Room). r.stalls.items) x.does.same
 
-  saved_room : Room
+  abbrev saved_room : Room
   saved_room = record (x.room) { queue = record (x.room.queue) { backlog = record (x.room.queue.backlog) { queue = x.after.queue.backlog.queue } }; since = x.after.since }
 
   topic_rests : rests saved_room ≡ rests x.room
@@ -135,11 +135,11 @@ module _ (tells : Bool) (h h' : Hall) (old new : Files) (before now at timeout l
   }
 
   pub topic_done : IsQueueDone at timeout least before now x.after.since x.after.queue.backlog.queue
-  topic_done = queue_done h.unsaved_from at timeout least before now x.room.since x.after.since x.room.queue.backlog.queue x.after.queue.backlog.queue x.does.mark topic_before.marked x.does.least
+  topic_done = queue_done h.unsaved_from at timeout least before now x.room.since x.after.since x.room.queue.backlog.queue x.after.queue.backlog.queue x.does.mark topic_before.marked x.does.left
 
 -- a channel's queue
 module _ (tells : Bool) (h h' : Hall) (old new : Files) (before now at timeout least i j : ℕ) (sound : IsSound h) (rest : h' ≡ record h { rooms = h'.rooms }) (x : AtStall i j (SavesStall tells at timeout least old new before now) h.rooms.items h'.rooms.items) where
-  SavesOne : Stall → Stall → Type 0
+  abbrev SavesOne : Stall → Stall → Type 0
   SavesOne = SavesStall tells at timeout least old new before now
 
   channel_keeps : KeepsRest h h'
@@ -210,4 +210,4 @@ module _ (tells : Bool) (h h' : Hall) (old new : Files) (before now at timeout l
 
   pub channel_done : IsQueueDone at timeout least before now x.does.after.since x.does.after.channel.backlog.queue
   channel_done =
-      queue_done h.unsaved_from at timeout least before now x.does.stall.since x.does.after.since x.does.stall.channel.backlog.queue x.does.after.channel.backlog.queue x.does.does.mark channel_before.marked x.does.does.least
+      queue_done h.unsaved_from at timeout least before now x.does.stall.since x.does.after.since x.does.stall.channel.backlog.queue x.does.after.channel.backlog.queue x.does.does.mark channel_before.marked x.does.does.left

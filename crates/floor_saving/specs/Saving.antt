@@ -1,5 +1,5 @@
 -- What saving queues makes of a hall.
-use Rattle.std.specs.Prelude.{◌≡◌, ◌⊎◌, ◌≤◌, ◌<◌, ℕ, Bool, true, false, IsTrue, List, Option, Some, None, IfSome, All}
+use Rattle.std.specs.Prelude.{◌≡◌, ◌⊎◌, ◌≤◌, ◌<◌, ◌+◌, ℕ, Bool, true, false, IsTrue, List, Option, Some, None, IfSome, All}
 use Rattle.std.specs.List.{AllWithin}
 use Rattle.nsq_outside.specs.Causes.{Rose}
 use Rattle.nsq_outside.specs.Files.{Files}
@@ -66,7 +66,7 @@ pub record SavesRoom (tells : Bool) (at timeout least : ℕ) (old new : Files) (
   pub queue : SameQueue a.queue.backlog.queue b.queue.backlog.queue
   pub depth : disk_depth b.queue.backlog.queue ≡ disk_depth a.queue.backlog.queue
   pub mark : SavesMark at timeout before now a.since b.since a.queue.backlog.queue b.queue.backlog.queue
-  pub least : least ≡ mark_or_last b.since
+  pub left : least ≡ mark_or_last b.since
   pub row : IsTrue tells → Stays a.queue old b.queue new
   pub stands : IsTrue tells → Stands a.queue.backlog.queue old → Stands b.queue.backlog.queue new
   pub others : IsTrue tells → DiskChanges a.queue.backlog.queue old new
@@ -76,7 +76,7 @@ pub record SavesRoom (tells : Bool) (at timeout least : ℕ) (old new : Files) (
 pub record SavesStall (tells : Bool) (at timeout least : ℕ) (old new : Files) (before now : ℕ) (a b : Stall) : Type 0 where
   pub same : b ≡ record a { channel = record (a.channel) { backlog = record (a.channel.backlog) { queue = b.channel.backlog.queue } }; since = b.since }
   pub mark : SavesMark at timeout before now a.since b.since a.channel.backlog.queue b.channel.backlog.queue
-  pub least : least ≡ mark_or_last b.since
+  pub left : least ≡ mark_or_last b.since
   pub list : IsTrue tells → (disk : List Message) → OnDisk a.channel.backlog.queue old disk → OnDisk b.channel.backlog.queue new disk
   pub disk : KeepsDisk tells (around a.channel.backlog old before) (around b.channel.backlog new now)
 

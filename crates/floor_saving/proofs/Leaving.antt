@@ -48,13 +48,13 @@ use Rattle.floor_rooms.proofs.Filing.{only_of_channel, only_of_topic, only_same,
 use Rattle.floor_saving.specs.Flushing.{CanFlushRoom, CanFlushStall, FlushesRoom, IsOfOther, KeepsRoomNames, KeepsStallNames, LeavesAll, LeavesBut, LeavesChannel, LeavesOthers, LeavesTopic, LeavesTopicBut, LeavesWhere, MissesFew, StallsLeft, StallsSoFar, both_flushed}
 
 -- files that stay, and what an opening finds in them
-own_then : (name : List ℕ) (a b c : Files) → OwnFilesStay name a b → OwnFilesStay name b c → OwnFilesStay name a c
+pub own_then : (name : List ℕ) (a b c : Files) → OwnFilesStay name a b → OwnFilesStay name b c → OwnFilesStay name a c
 own_then name a b c x y = λ file of. y file of ∙ x file of
 
-found_stays : (left : List Message) (name : List ℕ) (old new : Files) → OwnFilesStay name old new → FindsAll left name old → FindsAll left name new
+pub found_stays : (left : List Message) (name : List ℕ) (old new : Files) → OwnFilesStay name old new → FindsAll left name old → FindsAll left name new
 found_stays left name old new stays f = record { messages = f.messages; found = finding_keeps 26 (26 + longest_body) old new name (Records (map message_bytes f.messages) []) stays f.found; same = f.same }
 
-named_disk : (name : List ℕ) (queue : Option Queue) (old new : Files) → IfSome queue (λ q. q.name ≡ name) → OwnFilesStay name old new → DiskStays queue old new
+pub named_disk : (name : List ℕ) (queue : Option Queue) (old new : Files) → IfSome queue (λ q. q.name ≡ name) → OwnFilesStay name old new → DiskStays queue old new
 named_disk name None old new is stays = tt
 named_disk name (Some q) old new is stays = subst (λ (n : List ℕ). OwnFilesStay n old new) (sym is) stays
 
@@ -78,14 +78,14 @@ abbrev pub missed_with : Flushed → (name : List ℕ) → List (List ℕ) → L
 missed_with Done name missed = missed
 missed_with Fault name missed = name ∷ missed
 
-missed_here : (name : List ℕ) (missed : List (List ℕ)) → Contains (name ∷ missed) name
+pub missed_here : (name : List ℕ) (missed : List (List ℕ)) → Contains (name ∷ missed) name
 missed_here name missed = All-head (Contains (name ∷ missed)) name missed (All-contains_itself (name ∷ missed))
 
-missed_still : (b : Flushed) (name : List ℕ) (missed : List (List ℕ)) (x : List ℕ) → Contains missed x → Contains (missed_with b name missed) x
+pub missed_still : (b : Flushed) (name : List ℕ) (missed : List (List ℕ)) (x : List ℕ) → Contains missed x → Contains (missed_with b name missed) x
 missed_still Done name missed x h = h
 missed_still Fault name missed x h = Contains-append_right (name ∷ []) missed x h
 
-few_none : (before now : ℕ) → before ≤ now → MissesFew Done before now []
+pub few_none : (before now : ℕ) → before ≤ now → MissesFew Done before now []
 few_none before now low = record { done = λ e. refl; rose = omega (arith, low) }
 
 rose_more : (n0 n1 n2 k : ℕ) → n0 ≤ n1 → n1 ≤ n2 → min (n0 + k) (2 ^ 64 - 1) ≤ n1 → Rose n1 n2 → min (n0 + suc k) (2 ^ 64 - 1) ≤ n2
@@ -94,14 +94,14 @@ rose_more n0 n1 n2 k low high few rose = omega (arith, low, high, few, rose)
 rose_still : (n0 n1 n2 k : ℕ) → n1 ≤ n2 → min (n0 + k) (2 ^ 64 - 1) ≤ n1 → min (n0 + k) (2 ^ 64 - 1) ≤ n2
 rose_still n0 n1 n2 k high few = omega (arith, high, few)
 
-few_more : (a b : Flushed) (n0 n1 n2 : ℕ) (name : List ℕ) (missed : List (List ℕ)) → n0 ≤ n1 → n1 ≤ n2 → FlushFails n1 n2 b → MissesFew a n0 n1 missed → MissesFew (both_flushed a b) n0 n2 (missed_with b name missed)
+pub few_more : (a b : Flushed) (n0 n1 n2 : ℕ) (name : List ℕ) (missed : List (List ℕ)) → n0 ≤ n1 → n1 ≤ n2 → FlushFails n1 n2 b → MissesFew a n0 n1 missed → MissesFew (both_flushed a b) n0 n2 (missed_with b name missed)
 few_more a Done n0 n1 n2 name missed low high cause few = record { done = λ e. few.done (done_first a Done e); rose = rose_still n0 n1 n2 (length missed) high few.rose }
 few_more a Fault n0 n1 n2 name missed low high cause few = record { done = λ e. absurd (let no : Fault ≡ Done = done_second a Fault e in let never : ⊥ = cc in never); rose = rose_more n0 n1 n2 (length missed) low high few.rose cause }
 
 rose_both : (n0 n1 n2 k m : ℕ) → n0 ≤ n1 → n1 ≤ n2 → min (n0 + k) (2 ^ 64 - 1) ≤ n1 → min (n1 + m) (2 ^ 64 - 1) ≤ n2 → min (n0 + (m + k)) (2 ^ 64 - 1) ≤ n2
 rose_both n0 n1 n2 k m low high first second = omega (arith, low, high, first, second)
 
-few_both : (a b : Flushed) (n0 n1 n2 : ℕ) (missed more : List (List ℕ)) → n0 ≤ n1 → n1 ≤ n2 → MissesFew a n0 n1 missed → MissesFew b n1 n2 more → MissesFew (both_flushed a b) n0 n2 (more ++ missed)
+pub few_both : (a b : Flushed) (n0 n1 n2 : ℕ) (missed more : List (List ℕ)) → n0 ≤ n1 → n1 ≤ n2 → MissesFew a n0 n1 missed → MissesFew b n1 n2 more → MissesFew (both_flushed a b) n0 n2 (more ++ missed)
 few_both a b n0 n1 n2 missed more low high x y = record {
   done = λ e. ap (λ ms. ms ++ missed) (y.done (done_second a b e)) ∙ x.done (done_first a b e);
   rose = subst (λ k. min (n0 + k) (2 ^ 64 - 1) ≤ n2) (sym (length-append more missed)) (rose_both n0 n1 n2 (length missed) (length more) low high x.rose y.rose);
@@ -117,7 +117,7 @@ module _ {X : Type 0} (key : X → List ℕ) where
       let same : is_before (key x) (key x) ≡ true = subst (λ n. is_before (key x) n ≡ true) (sym e) here in
       false≢true (sym (ap is_lt (tied (key x))) ∙ same)
 
-  apart_at : (xs : List X) (i j : ℕ) (x y : X) → IsAscendingBy key xs → slice_get xs i ≡ Some x → slice_get xs j ≡ Some y → i ≢ j → key x ≢ key y
+  pub apart_at : (xs : List X) (i j : ℕ) (x y : X) → IsAscendingBy key xs → slice_get xs i ≡ Some x → slice_get xs j ≡ Some y → i ≢ j → key x ≢ key y
   apart_at xs i j x y up at there apart e =
       elim (nat_le j i) as (λ b. nat_le j i ≡ b → ⊥) [
         | true ↦ λ t. let more : j ≤ i = leb-true j i t in let less : j < i = strictly j i more (λ same. apart (sym same)) in apart_before xs j i y x up there at less (sym e)
@@ -128,18 +128,18 @@ module _ {X : Type 0} (key : X → List ℕ) where
       strictly j i more other = omega (arith, more, other)
 
 -- what stands elsewhere stays
-slice_apart : {X : Type 0} (xs : List X) (i k : ℕ) (y : X) → i < k → slice_get (set xs i y) k ≡ slice_get xs k
+pub slice_apart : {X : Type 0} (xs : List X) (i k : ℕ) (y : X) → i < k → slice_get (set xs i y) k ≡ slice_get xs k
 slice_apart [] i k y l = refl
 slice_apart (x ∷ xs) zero zero y l = absurd (let no : ⊥ = omega (arith, l) in no)
 slice_apart (x ∷ xs) zero (suc k) y l = refl
 slice_apart (x ∷ xs) (suc i) zero y l = absurd (let no : ⊥ = omega (arith, l) in no)
 slice_apart (x ∷ xs) (suc i) (suc k) y l = slice_apart xs i k y (omega (arith, l))
 
-some_same : {X : Type 0} (x y : X) → Some x ≡ Some y → x ≡ y
+pub some_same : {X : Type 0} (x y : X) → Some x ≡ Some y → x ≡ y
 some_same x y e = cc
 
 -- either of the first or the next
-one_more : {A : Type 0} (k j : ℕ) → k < j + 1 → (k < j → A) → (k ≡ j → A) → A
+pub one_more : {A : Type 0} (k j : ℕ) → k < j + 1 → (k < j → A) → (k ≡ j → A) → A
 one_more {A} k j below first here =
     elim (nat_le j k) as (λ b. nat_le j k ≡ b → A) [
       | true ↦ λ t. let more : j ≤ k = leb-true j k t in here (omega (arith, more, below))
@@ -200,10 +200,10 @@ module _ (topic : List ℕ) (xs : List Stall) (j : ℕ) (s : Stall) (answer b : 
   }
 
 -- names stay
-names_same : (s : Stall) → KeepsStallNames s s
+pub names_same : (s : Stall) → KeepsStallNames s s
 names_same s = record { about = refl; paused = refl }
 
-names_then : (a b c : Stall) → KeepsStallNames a b → KeepsStallNames b c → KeepsStallNames a c
+pub names_then : (a b c : Stall) → KeepsStallNames a b → KeepsStallNames b c → KeepsStallNames a c
 names_then a b c x y = record { about = y.about ∙ x.about; paused = y.paused ∙ x.paused }
 
 pub stalls_begin : (tells : Bool) (r : Room) (files : Files) (faults : ℕ) → StallsSoFar tells 0 r r Done files files faults faults
@@ -218,17 +218,17 @@ stalls_begin tells r files faults = record {
 }
 
 pub stalls_go_on : (tells : Bool) (j : ℕ) (a b c : Room) (s : Stall) (v : ChannelSeen) (answer next : Flushed) (f0 f1 f2 : Files) (n0 n1 n2 : ℕ) → CanFlushRoom a → StallsSoFar tells j a b answer f0 f1 n0 n1 → slice_get b.stalls.items j ≡ Some s → c ≡ record b { stalls = c.stalls }
-    → c.stalls.items ≡ set b.stalls.items j (record s { channel = v }) → v.about ≡ s.channel.about → v.paused ≡ s.channel.paused
+    → c.stalls.items ≡ set b.stalls.items j (record s { channel = v }) → v ≡ record (s.channel) { backlog = v.backlog; flights = v.flights; deferred = v.deferred; spare = v.spare; deferred_spare = v.deferred_spare }
     → (IsTrue tells → (disk : List Message) → OnDisk s.channel.backlog.queue f1 disk → Stands s.channel.backlog.queue f1 → FlushLeaves (left_in_channel (seen_channel s.channel disk)) s.channel.about f2 next)
     → (IsTrue tells → DiskChanges s.channel.backlog.queue f1 f2) → n1 ≤ n2 → FlushFails n1 n2 next → StallsSoFar tells (j + 1) a c (both_flushed answer next) f0 f2 n0 n2
-stalls_go_on tells j a b c s v answer next f0 f1 f2 n0 n1 n2 can so at same stalls about paused leaves change high cause =
+stalls_go_on tells j a b c s v answer next f0 f1 f2 n0 n1 n2 can so at same stalls rest leaves change high cause =
     let was : slice_get a.stalls.items j ≡ Some s = sym (so.later j (omega arith)) ∙ at in
     let ready : CanFlushStall (topic_name a) s = subst (CanFlushStall (topic_name a)) (get_or_from_slice_get a.stalls.items j s s was) (can.stalls j s (slice_get_within a.stalls.items j s was)) in
     let low = so.faults in
     record {
       same = same ∙ ap (λ (r : Room). record r { stalls = c.stalls }) so.same;
       keeps = pairs_then KeepsStallNames names_then a.stalls.items b.stalls.items c.stalls.items so.keeps
-          (subst (Pairwise KeepsStallNames b.stalls.items) (sym stalls) (pairs_one KeepsStallNames names_same b.stalls.items j s (record s { channel = v }) at (record { about = about; paused = paused })));
+          (subst (Pairwise KeepsStallNames b.stalls.items) (sym stalls) (pairs_one KeepsStallNames names_same b.stalls.items j s (record s { channel = v }) at (record { about = ap (λ (w : ChannelSeen). w.about) rest; paused = ap (λ (w : ChannelSeen). w.paused) rest })));
       later = λ k from. ap (λ ys. slice_get ys k) stalls ∙ slice_apart b.stalls.items j k (record s { channel = v }) (omega (arith, from)) ∙ so.later k (omega (arith, from));
       left = λ told. stalls_left_more (topic_name a) a.stalls.items j s answer next f0 f1 f2 n0 n1 n2 can.order can.named ready was low high cause (leaves told) (change told) (so.left told);
       files = λ told. only_then f0 f1 f2 (so.files told) (only_of_channel (topic_name a) (channel_name s) s.channel.backlog.queue f1 f2 can.named ready.named ready.queue (change told));

@@ -4,3 +4,4 @@ pub mod Syncing
 pub mod Beginning
 pub mod Raising
 pub mod Leaving
+pub mod Stopping

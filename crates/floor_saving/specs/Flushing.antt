@@ -113,11 +113,28 @@ pub record StallsLeft (answer : Flushed) (before now j : ℕ) (topic : List ℕ)
   pub stays : (name : List ℕ) → ((k : ℕ) (s : Stall) → k < j → slice_get stalls k ≡ Some s → name ≢ queue_name topic (channel_name s)) → OwnFilesStay name old new
 
 -- so many were; the others are as they were
-pub record StallsSoFar (tells : Bool) (j : ℕ) (old new : Room) (answer : Flushed) (files files' : Files) (before now : ℕ) : Type 0 where
+pub record StallsSoFar (tells : Bool) (j : ℕ) (old new : Room) (answer : Flushed) (from to : Files) (before now : ℕ) : Type 0 where
   pub same : new ≡ record old { stalls = new.stalls }
   pub keeps : Pairwise KeepsStallNames old.stalls.items new.stalls.items
   pub later : (k : ℕ) → j ≤ k → slice_get new.stalls.items k ≡ slice_get old.stalls.items k
-  pub left : IsTrue tells → StallsLeft answer before now j (topic_name old) old.stalls.items files files'
-  pub files : IsTrue tells → OnlyQueueFiles files files'
+  pub left : IsTrue tells → StallsLeft answer before now j (topic_name old) old.stalls.items from to
+  pub files : IsTrue tells → OnlyQueueFiles from to
+  pub faults : before ≤ now
+  pub cause : FlushFails before now answer
+
+-- the first topics were flushed: what was left of each durable one is found but for a few queues, and no queue's files changed but theirs
+pub record RoomsLeft (answer : Flushed) (before now i : ℕ) (rooms : List Room) (old new : Files) : Type 0 where
+  pub missed : List (List ℕ)
+  pub few : MissesFew answer before now missed
+  pub left : (k : ℕ) (r : Room) → k < i → slice_get rooms k ≡ Some r → (t : Topic) → IsRoomOf old r t → is_ephemeral t.name ≡ false → LeavesTopicBut missed new t
+  pub stays : (name : List ℕ) → ((k : ℕ) (r : Room) → k < i → slice_get rooms k ≡ Some r → IsOfOther (topic_name r) name) → OwnFilesStay name old new
+
+-- so many were; the others are as they were
+pub record RoomsSoFar (tells : Bool) (i : ℕ) (old new : Hall) (answer : Flushed) (from to : Files) (before now : ℕ) : Type 0 where
+  pub rest : new ≡ record old { rooms = new.rooms }
+  pub keeps : Pairwise KeepsRoomNames old.rooms.items new.rooms.items
+  pub later : (k : ℕ) → i ≤ k → slice_get new.rooms.items k ≡ slice_get old.rooms.items k
+  pub left : IsTrue tells → RoomsLeft answer before now i old.rooms.items from to
+  pub files : IsTrue tells → OnlyQueueFiles from to
   pub faults : before ≤ now
   pub cause : FlushFails before now answer

@@ -1,5 +1,5 @@
 -- What saves leave of a hall's topics and channels, of their marks and of what is kept of their names.
-use Rattle.std.proofs.Common.{◌≡◌, ℕ, set, List, [], ◌∷◌, map, Option, Some, None, refl, sym, ap, subst, ◌∙◌}
+use Rattle.std.proofs.Common.{◌≡◌, ℕ, List, map, Option, Some, None, refl, sym, ap, subst, ◌∙◌}
 use Rattle.std.specs.Prelude.{IfSome, option_and_then}
 use Rattle.std.specs.Str.{bytes_eq}
 use Rattle.disk_queue.specs.Seen.{Seen as Queue}
@@ -9,9 +9,9 @@ use Rattle.history.specs.Found.{Pairwise}
 use Rattle.floor_laws.proofs.Pairs.{IfBoth, pairs_found}
 use Rattle.floor_rooms.specs.declared.stall.Stall.{Stall}
 use Rattle.floor_rooms.specs.declared.room.Room.{Room}
-use Rattle.floor_rooms.specs.Rooms.{channel_name, topic_name, room_in, stall_in, stall_at}
+use Rattle.floor_rooms.specs.Rooms.{channel_name, topic_name, room_in, stall_in}
 use Rattle.floor_rooms.specs.Kept.{room_kept, stall_kept}
-use Rattle.floor_rooms.specs.Changes.{AtRoom, AtStall, InRoom, room_since, stall_since}
+use Rattle.floor_rooms.specs.Changes.{AtRoom, AtStall, InRoom}
 use Rattle.floor_rooms.proofs.Dating.{pairs_one, pairs_same, pairs_then, pairs_weaker}
 use Rattle.floor_rooms.proofs.Naming.{KeptAlike, kept_pairs}
 use Rattle.floor_saving.specs.Saving.{ClearsRoom, ClearsRooms, ClearsStall, MarkGoes, MarksGo}

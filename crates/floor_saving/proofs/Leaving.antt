@@ -1,13 +1,13 @@
 -- What flushes leave of a topic's channels, of a topic and of all topics.
-use Rattle.std.proofs.Common.{◌≡◌, ◌≢◌, ◌⊎◌, inl, inr, ◌≤◌, ◌<◌, ◌+◌, ◌-◌, ◌^◌, ◌||◌, ℕ, suc, zero, set, min, Bool, true, false, not, nat_le, if◌then◌else◌, List, [], ◌∷◌, ◌++◌, length, map, get_or, Option, Some, None, refl, sym, ap, subst, ◌∙◌, arith}
+use Rattle.std.proofs.Common.{◌≡◌, ◌≢◌, ◌⊎◌, inl, inr, ◌≤◌, ◌<◌, ◌+◌, ◌-◌, ◌^◌, ℕ, suc, zero, set, min, Bool, true, false, nat_le, List, [], ◌∷◌, ◌++◌, length, map, get_or, Option, Some, None, refl, sym, ap, subst, ◌∙◌, arith}
 use Rattle.std.specs.Prelude.{IfSome, IsTrue}
-use Rattle.std.specs.List.{All, Contains, slice_get}
+use Rattle.std.specs.List.{Contains, slice_get}
 use Rattle.std.specs.Ordering.{is_lt}
 use Rattle.std.proofs.lemmas.Bool.{false≢true, leb-true, leb-false}
 use Rattle.std.proofs.lemmas.List.{length-append}
-use Rattle.std.proofs.lemmas.List.Elements.{All-cons, All-contains_itself, All-head, All-nil, All-tail, Contains-append_left, Contains-append_right, at_from_Contains}
-use Rattle.std.proofs.lemmas.Option.{get_or_from_slice_get, slice_get-get_or, slice_get_within}
-use Rattle.nsq_base.specs.Name.{IsName, is_ephemeral}
+use Rattle.std.proofs.lemmas.List.Elements.{All-contains_itself, All-head, Contains-append_right}
+use Rattle.std.proofs.lemmas.Option.{get_or_from_slice_get, slice_get_within}
+use Rattle.nsq_base.specs.Name.{IsName}
 use Rattle.nsq_base.specs.Names.{IsAscendingBy, is_before}
 use Rattle.nsq_outside.specs.Causes.{Rose}
 use Rattle.nsq_outside.specs.Files.{Files}
@@ -15,7 +15,6 @@ use Rattle.queue_image.specs.Finds.{Records}
 use Rattle.queue_image.proofs.Keeping.{finding_keeps}
 use Rattle.v2_frame.specs.declared.message.Message.{Message}
 use Rattle.v2_frame.specs.Written.{message_bytes}
-use Rattle.history.specs.Data.{durable}
 use Rattle.history.specs.Found.{Pairwise}
 use Rattle.disk_queue.specs.Seen.{Seen as Queue}
 use Rattle.backlog.specs.Seen.{longest_body}
@@ -23,29 +22,22 @@ use Rattle.backlog.specs.Lists.{DiskChanges, OnDisk, Stands}
 use Rattle.backlog.specs.Answers.{FlushFails}
 use Rattle.backlog.specs.declared.answers.Flushed.{Flushed}
 use Rattle.backlog.specs.declared.answers.Flushed.TheVariants.{Done, Fault}
-use Rattle.broker_history.specs.State.{Channel, State, Topic, is_ephemeral_channel}
-use Rattle.broker_history.specs.Left.{SameMessages, durable_channels, durable_topics, left_in_channel}
+use Rattle.broker_history.specs.State.{Channel, is_ephemeral_channel}
+use Rattle.broker_history.specs.Left.{SameMessages, left_in_channel}
 use Rattle.topic_core.specs.Laws.{DiskStays, OwnFilesStay}
-use Rattle.topic_core.specs.Rows.{FindsLeft, FlushLeaves as TopicLeaves, IsTopicOf}
-use Rattle.topic_core.specs.Seen.{Seen as TopicSeen}
-use Rattle.topic_core.proofs.Keeping.{left_stays, save_stays, topic_stays}
-use Rattle.channel_core.specs.declared.about.About.{About}
 use Rattle.channel_core.specs.Seen.{Seen as ChannelSeen, queue_name, seen_channel}
 use Rattle.channel_core.specs.Storing.{FindsAll, FlushLeaves}
 use Rattle.floor_laws.proofs.Counting.{counts_alike}
-use Rattle.floor_laws.proofs.Pairs.{pairs_become}
 use Rattle.floor_rooms.specs.declared.stall.Stall.{Stall}
 use Rattle.floor_rooms.specs.declared.room.Room.{Room}
-use Rattle.floor_rooms.specs.declared.hall.Hall.{Hall}
 use Rattle.floor_rooms.specs.Rooms.{channel_name, topic_name}
-use Rattle.floor_rooms.specs.Sound.{IsRoomSound, IsSound, IsStallSound}
-use Rattle.floor_rooms.specs.Standing.{HoldsFor, IsRoomOf, IsStallOf}
-use Rattle.floor_rooms.specs.Changes.{OnlyQueueFiles, OthersStay}
-use Rattle.floor_rooms.proofs.Staying.{other_channel, other_topic, others_stay, room_named, stall_named, stall_stays, topic_is_no_channel}
-use Rattle.floor_rooms.proofs.Orders.{pairs_all, tied}
+use Rattle.floor_rooms.specs.Standing.{IsStallOf}
+use Rattle.floor_rooms.specs.Changes.{OthersStay}
+use Rattle.floor_rooms.proofs.Staying.{other_channel, others_stay, stall_stays}
+use Rattle.floor_rooms.proofs.Orders.{tied}
 use Rattle.floor_rooms.proofs.Dating.{pairs_one, pairs_same, pairs_then}
-use Rattle.floor_rooms.proofs.Filing.{only_of_channel, only_of_topic, only_same, only_then}
-use Rattle.floor_saving.specs.Flushing.{CanFlushRoom, CanFlushStall, FlushesRoom, IsOfOther, KeepsRoomNames, KeepsStallNames, LeavesAll, LeavesBut, LeavesChannel, LeavesOthers, LeavesTopic, LeavesTopicBut, LeavesWhere, MissesFew, StallsLeft, StallsSoFar, both_flushed}
+use Rattle.floor_rooms.proofs.Filing.{only_of_channel, only_same, only_then}
+use Rattle.floor_saving.specs.Flushing.{CanFlushRoom, CanFlushStall, KeepsStallNames, MissesFew, StallsLeft, StallsSoFar, both_flushed}
 
 -- files that stay, and what an opening finds in them
 pub own_then : (name : List ℕ) (a b c : Files) → OwnFilesStay name a b → OwnFilesStay name b c → OwnFilesStay name a c
@@ -217,11 +209,11 @@ stalls_begin tells r files faults = record {
   cause = tt;
 }
 
-pub stalls_go_on : (tells : Bool) (j : ℕ) (a b c : Room) (s : Stall) (v : ChannelSeen) (answer next : Flushed) (f0 f1 f2 : Files) (n0 n1 n2 : ℕ) → CanFlushRoom a → StallsSoFar tells j a b answer f0 f1 n0 n1 → slice_get b.stalls.items j ≡ Some s → c ≡ record b { stalls = c.stalls }
+pub stalls_go_on : (tells : Bool) (j : ℕ) (a b c : Room) (s : Stall) (v : ChannelSeen) (answer next both : Flushed) (f0 f1 f2 : Files) (n0 n1 n2 : ℕ) → both ≡ both_flushed answer next → CanFlushRoom a → StallsSoFar tells j a b answer f0 f1 n0 n1 → slice_get b.stalls.items j ≡ Some s → c ≡ record b { stalls = c.stalls }
     → c.stalls.items ≡ set b.stalls.items j (record s { channel = v }) → v ≡ record (s.channel) { backlog = v.backlog; flights = v.flights; deferred = v.deferred; spare = v.spare; deferred_spare = v.deferred_spare }
     → (IsTrue tells → (disk : List Message) → OnDisk s.channel.backlog.queue f1 disk → Stands s.channel.backlog.queue f1 → FlushLeaves (left_in_channel (seen_channel s.channel disk)) s.channel.about f2 next)
-    → (IsTrue tells → DiskChanges s.channel.backlog.queue f1 f2) → n1 ≤ n2 → FlushFails n1 n2 next → StallsSoFar tells (j + 1) a c (both_flushed answer next) f0 f2 n0 n2
-stalls_go_on tells j a b c s v answer next f0 f1 f2 n0 n1 n2 can so at same stalls rest leaves change high cause =
+    → (IsTrue tells → DiskChanges s.channel.backlog.queue f1 f2) → n1 ≤ n2 → FlushFails n1 n2 next → StallsSoFar tells (j + 1) a c both f0 f2 n0 n2
+stalls_go_on tells j a b c s v answer next both f0 f1 f2 n0 n1 n2 is can so at same stalls rest leaves change high cause =
     let was : slice_get a.stalls.items j ≡ Some s = sym (so.later j (omega arith)) ∙ at in
     let ready : CanFlushStall (topic_name a) s = subst (CanFlushStall (topic_name a)) (get_or_from_slice_get a.stalls.items j s s was) (can.stalls j s (slice_get_within a.stalls.items j s was)) in
     let low = so.faults in
@@ -230,8 +222,8 @@ stalls_go_on tells j a b c s v answer next f0 f1 f2 n0 n1 n2 can so at same stal
       keeps = pairs_then KeepsStallNames names_then a.stalls.items b.stalls.items c.stalls.items so.keeps
           (subst (Pairwise KeepsStallNames b.stalls.items) (sym stalls) (pairs_one KeepsStallNames names_same b.stalls.items j s (record s { channel = v }) at (record { about = ap (λ (w : ChannelSeen). w.about) rest; paused = ap (λ (w : ChannelSeen). w.paused) rest })));
       later = λ k from. ap (λ ys. slice_get ys k) stalls ∙ slice_apart b.stalls.items j k (record s { channel = v }) (omega (arith, from)) ∙ so.later k (omega (arith, from));
-      left = λ told. stalls_left_more (topic_name a) a.stalls.items j s answer next f0 f1 f2 n0 n1 n2 can.order can.named ready was low high cause (leaves told) (change told) (so.left told);
+      left = λ told. subst (λ u. StallsLeft u n0 n2 (j + 1) (topic_name a) a.stalls.items f0 f2) (sym is) (stalls_left_more (topic_name a) a.stalls.items j s answer next f0 f1 f2 n0 n1 n2 can.order can.named ready was low high cause (leaves told) (change told) (so.left told));
       files = λ told. only_then f0 f1 f2 (so.files told) (only_of_channel (topic_name a) (channel_name s) s.channel.backlog.queue f1 f2 can.named ready.named ready.queue (change told));
       faults = omega (arith, low, high);
-      cause = fails_both n0 n1 n2 answer next low high so.cause cause;
+      cause = subst (FlushFails n0 n2) (sym is) (fails_both n0 n1 n2 answer next low high so.cause cause);
     }

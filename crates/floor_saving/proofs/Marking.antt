@@ -1,6 +1,6 @@
 -- What a save makes of a queue and of its mark.
-use Rattle.std.proofs.Common.{◌≡◌, ◌⊎◌, inl, inr, ◌≤◌, ◌<◌, ◌+◌, ◌-◌, ◌^◌, ℕ, min, Bool, true, false, List, Option, Some, None, refl, sym, ap, subst, ◌∙◌, arith}
-use Rattle.std.specs.Prelude.{IfSome, IsTrue, not, is_some}
+use Rattle.std.proofs.Common.{◌≡◌, inl, inr, ◌≤◌, ◌<◌, ◌+◌, ◌-◌, ◌^◌, ℕ, Bool, true, false, List, Option, Some, None, refl, sym, ap, subst, ◌∙◌, arith}
+use Rattle.std.specs.Prelude.{IfSome, IsTrue}
 use Rattle.std.proofs.lemmas.Bool.{false≢true}
 use Rattle.nsq_outside.specs.Causes.{Rose}
 use Rattle.nsq_outside.specs.Files.{Files}
@@ -19,7 +19,7 @@ use Rattle.backlog.specs.Lists.{OnDisk}
 use Rattle.floor_rooms.specs.declared.room.Room.{Room}
 use Rattle.floor_rooms.specs.declared.stall.Stall.{Stall}
 use Rattle.floor_rooms.specs.Sound.{IsMarked}
-use Rattle.floor_saving.specs.Timely.{HasFailed, IsMarkedLately, IsQueueTimely, mark_or_last}
+use Rattle.floor_saving.specs.Timely.{HasFailed, IsQueueTimely, mark_or_last}
 use Rattle.floor_saving.specs.Saving.{IsQueueDone, IsSoon, MarkGoes, SavesMark, SavesRoom, SavesStall, is_failed}
 use Rattle.floor_saving.specs.Saving.SavesMark.{stays, saved, failed}
 

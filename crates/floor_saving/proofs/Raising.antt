@@ -1,24 +1,21 @@
 -- The moment since which queues may be unsaved becomes the least mark that is left.
 use Rattle.std.proofs.Common.{◌≡◌, ◌⊎◌, inl, inr, ◌≤◌, ◌<◌, ◌+◌, ◌-◌, ◌^◌, ℕ, min, Bool, true, false, nat_le, List, get_or, Option, Some, None, refl, sym, ap, subst, ◌∙◌, arith}
-use Rattle.std.specs.Prelude.{IfSome, IsTrue}
+use Rattle.std.specs.Prelude.{IsTrue}
 use Rattle.std.specs.List.{All}
 use Rattle.std.proofs.lemmas.Bool.{leb-true, leb-false}
-use Rattle.nsq_base.specs.Options.{IsInRange}
 use Rattle.nsq_outside.specs.Causes.{Rose}
 use Rattle.nsq_outside.specs.Files.{Files}
 use Rattle.disk_queue.specs.Seen.{Seen as Queue}
-use Rattle.broker_history.specs.State.{State}
 use Rattle.floor_rooms.specs.declared.stall.Stall.{Stall}
 use Rattle.floor_rooms.specs.declared.room.Room.{Room}
 use Rattle.floor_rooms.specs.declared.hall.Hall.{Hall}
 use Rattle.floor_rooms.specs.Kept.{NamesTold, hall_kept}
 use Rattle.floor_rooms.specs.Rooms.{topic_name}
 use Rattle.floor_rooms.specs.Sound.{IsMarked, IsRoomSound, IsSound, IsStallSound}
-use Rattle.floor_rooms.specs.Standing.{Carries, HoldsFor}
-use Rattle.floor_rooms.specs.Changes.{OnlyQueueFiles}
+use Rattle.floor_rooms.specs.Standing.{Carries}
 use Rattle.floor_rooms.proofs.Holding.{holds_same}
 use Rattle.floor_saving.specs.Timely.{HasFailed, IsEarly, IsQueueTimely, IsQueueTried, IsRoomTimely, IsRoomTried, IsTimely, IsTried}
-use Rattle.floor_saving.specs.Saving.{ClearsRooms, IsQueueDone, IsRoomDone, IsSoon, MarksGo, Synced}
+use Rattle.floor_saving.specs.Saving.{IsQueueDone, IsRoomDone, IsSoon, MarksGo, Synced}
 use Rattle.floor_saving.proofs.Clearing.{clears_same, kept_cleared, marks_go}
 use Rattle.floor_saving.proofs.Beginning.{moment_same, timeout_same}
 

@@ -1,8 +1,7 @@
 -- What flushes leave of a topic with its channels, and of all topics.
-use Rattle.std.proofs.Common.{◌≡◌, ◌≢◌, ◌⊎◌, inl, inr, ◌≤◌, ◌<◌, ◌+◌, ◌||◌, ℕ, suc, zero, set, Bool, true, false, not, if◌then◌else◌, List, [], ◌∷◌, ◌++◌, length, map, get_or, Option, Some, None, refl, sym, ap, subst, ◌∙◌, arith}
-use Rattle.std.specs.Prelude.{IfSome, IsTrue, MatchBool}
+use Rattle.std.proofs.Common.{◌≡◌, ◌≢◌, ◌⊎◌, inl, inr, ◌≤◌, ◌<◌, ◌+◌, ◌||◌, ℕ, suc, zero, set, Bool, true, false, not, if◌then◌else◌, List, [], ◌∷◌, ◌++◌, length, map, get_or, Some, None, refl, sym, ap, subst, ◌∙◌, arith}
+use Rattle.std.specs.Prelude.{IsTrue, MatchBool}
 use Rattle.std.specs.List.{All, Contains, slice_get}
-use Rattle.std.proofs.lemmas.Bool.{false≢true}
 use Rattle.std.proofs.lemmas.List.Elements.{All-cons, All-head, All-nil, All-tail, All-weaker, Contains-append_left, Contains-append_right}
 use Rattle.std.proofs.lemmas.Option.{get_or_from_slice_get, slice_get-get_or, slice_get_within}
 use Rattle.nsq_base.specs.Name.{IsName, is_ephemeral}
@@ -37,7 +36,7 @@ use Rattle.floor_rooms.proofs.Orders.{pairs_all}
 use Rattle.floor_rooms.proofs.Dating.{pairs_one, pairs_same, pairs_then, pairs_weaker}
 use Rattle.floor_rooms.proofs.Filing.{only_of_topic, only_same, only_then}
 use Rattle.floor_rooms.proofs.Naming.{KeptAlike, kept_pairs}
-use Rattle.floor_saving.specs.Flushing.{CanFlushRoom, CanFlushStall, FlushesRoom, IsOfOther, KeepsRoomNames, KeepsStallNames, LeavesAll, LeavesBut, LeavesChannel, LeavesOthers, LeavesTopic, LeavesTopicBut, LeavesWhere, MissesFew, RoomsLeft, RoomsSoFar, StallsLeft, StallsSoFar, both_flushed}
+use Rattle.floor_saving.specs.Flushing.{CanFlushRoom, CanFlushStall, FlushesRoom, IsOfOther, KeepsRoomNames, KeepsStallNames, LeavesBut, LeavesChannel, LeavesOthers, LeavesTopic, LeavesTopicBut, LeavesWhere, MissesFew, RoomsLeft, RoomsSoFar, StallsLeft, StallsSoFar, both_flushed}
 use Rattle.floor_saving.proofs.Leaving.{apart_at, fails_both, few_both, few_more, few_none, found_stays, missed_here, missed_still, missed_with, named_disk, names_same, names_then, one_more, own_then, slice_apart, some_same}
 
 -- a topic and its channels may be flushed where the hall is sound
@@ -65,14 +64,17 @@ both_last true b e f = e
 both_last false b e f = f
 
 -- a topic whose channels were flushed, and then its own queue
-topic_found : (q : TopicSeen) (t : Topic) (name : List ℕ) (b : Flushed) (missed : List (List ℕ)) (f2 : Files) → t.name ≡ name → TopicLeaves f2 t b → is_ephemeral t.name ≡ false → Contains (missed_with b name missed) t.name ⊎ FindsLeft f2 t
-topic_found q t name Done missed f2 is leaves lasts = inr (leaves lasts)
-topic_found q t name Fault missed f2 is leaves lasts = inl (subst (Contains (name ∷ missed)) (sym is) (missed_here name missed))
+topic_found : (t : Topic) (name : List ℕ) (b : Flushed) (missed : List (List ℕ)) (f2 : Files) → t.name ≡ name → TopicLeaves f2 t b → is_ephemeral t.name ≡ false → Contains (missed_with b name missed) t.name ⊎ FindsLeft f2 t
+topic_found t name Done missed f2 is leaves lasts = inr (leaves lasts)
+topic_found t name Fault missed f2 is leaves lasts = inl (subst (Contains (name ∷ missed)) (sym is) (missed_here name missed))
 
-module _ (a : Room) (queue : TopicSeen) (answer b : Flushed) (f0 f1 f2 : Files) (n0 n1 n2 : ℕ) (can : CanFlushRoom a) (same : queue ≡ a.queue) (so : StallsLeft answer n0 n1 (length a.stalls.items) (topic_name a) a.stalls.items f0 f1)
-    (leaves : (t : Topic) → IsTopicOf queue f1 t → Stands queue.backlog.queue f1 → TopicLeaves f2 t b) (change : DiskChanges queue.backlog.queue f1 f2) (low : n0 ≤ n1) (high : n1 ≤ n2) (cause : FlushFails n1 n2 b) where
+module _ (a after : Room) (answer b both : Flushed) (f0 f1 f2 : Files) (n0 n1 n2 : ℕ) (is : both ≡ both_flushed answer b) (can : CanFlushRoom a) (stays : after ≡ record a { stalls = after.stalls }) (so : StallsLeft answer n0 n1 (length a.stalls.items) (topic_name a) a.stalls.items f0 f1)
+    (leaves : (t : Topic) → IsTopicOf after.queue f1 t → Stands after.queue.backlog.queue f1 → TopicLeaves f2 t b) (change : DiskChanges after.queue.backlog.queue f1 f2) (low : n0 ≤ n1) (high : n1 ≤ n2) (cause : FlushFails n1 n2 b) where
   abbrev missed_then : List (List ℕ)
   missed_then = missed_with b (topic_name a) so.missed
+
+  same : after.queue ≡ a.queue
+  same = ap (λ (r : Room). r.queue) stays
 
   own_others : OthersStay (topic_name a) f1 f2
   own_others = others_stay a.queue.backlog.queue (topic_name a) f1 f2 can.queue (subst (λ (q : TopicSeen). DiskChanges q.backlog.queue f1 f2) same change)
@@ -117,16 +119,16 @@ module _ (a : Room) (queue : TopicSeen) (answer b : Flushed) (f0 f1 f2 : Files) 
       let name : t.name ≡ topic_name a = room_named f0 a t of in
       let durable_name : is_ephemeral (topic_name a) ≡ false = ap is_ephemeral (sym name) ∙ lasts in
       record {
-        own = topic_found queue t (topic_name a) b so.missed f2 name (topic_leaves t of) lasts;
+        own = topic_found t (topic_name a) b so.missed f2 name (topic_leaves t of) lasts;
         channels = subst (λ (n : List ℕ). All (IsFoundChannel n) (durable_channels t)) (sym name)
             (durable_all (λ (c : Channel). c.name) (IsFoundChannel (topic_name a)) t.channels
             (pairs_all (IsStallOf f0) IsFoundStall (λ c. is_ephemeral c.name ≡ false → IsFoundChannel (topic_name a) c) a.stalls.items t.channels (channel_of_stall durable_name) all_stalls of.channels));
       }
 
-  pub room_flushes : FlushesRoom (both_flushed answer b) n0 n2 a f0 f2
+  pub room_flushes : FlushesRoom both n0 n2 a f0 f2
   room_flushes = record {
     missed = missed_then;
-    few = few_more answer b n0 n1 n2 (topic_name a) so.missed low high cause so.few;
+    few = subst (λ u. MissesFew u n0 n2 missed_then) (sym is) (few_more answer b n0 n1 n2 (topic_name a) so.missed low high cause so.few);
     left = topic_left;
     stays = λ name other. own_then name f0 f1 f2 (so.stays name (λ k s below at. other.channels (channel_name s))) (own_others name other.own);
   }
@@ -254,9 +256,9 @@ room_ready tells i h h1 r answer f0 f1 n0 n1 sound so at =
     let was : slice_get h.rooms.items i ≡ Some r = sym (so.later i (omega arith)) ∙ at in
     can_flush h r (subst (IsRoomSound h) (get_or_from_slice_get h.rooms.items i r r was) (sound.rooms i r (slice_get_within h.rooms.items i r was)))
 
-pub rooms_go_on : (tells : Bool) (i : ℕ) (h h1 h2 : Hall) (r after : Room) (answer b : Flushed) (f0 f1 f2 : Files) (n0 n1 n2 : ℕ) → IsSound h → RoomsSoFar tells i h h1 answer f0 f1 n0 n1 → slice_get h1.rooms.items i ≡ Some r → h2 ≡ record h1 { rooms = h2.rooms } → h2.rooms.items ≡ set h1.rooms.items i after
-    → (IsTrue tells → FlushesRoom b n1 n2 r f1 f2) → KeepsRoomNames r after → (IsTrue tells → OnlyQueueFiles f1 f2) → n1 ≤ n2 → FlushFails n1 n2 b → RoomsSoFar tells (i + 1) h h2 (both_flushed answer b) f0 f2 n0 n2
-rooms_go_on tells i h h1 h2 r after answer b f0 f1 f2 n0 n1 n2 sound so at same rooms flushes keeps files high cause =
+pub rooms_go_on : (tells : Bool) (i : ℕ) (h h1 h2 : Hall) (r after : Room) (answer b both : Flushed) (f0 f1 f2 : Files) (n0 n1 n2 : ℕ) → both ≡ both_flushed answer b → IsSound h → RoomsSoFar tells i h h1 answer f0 f1 n0 n1 → slice_get h1.rooms.items i ≡ Some r → h2 ≡ record h1 { rooms = h2.rooms } → h2.rooms.items ≡ set h1.rooms.items i after
+    → (IsTrue tells → FlushesRoom b n1 n2 r f1 f2) → KeepsRoomNames r after → (IsTrue tells → OnlyQueueFiles f1 f2) → n1 ≤ n2 → FlushFails n1 n2 b → RoomsSoFar tells (i + 1) h h2 both f0 f2 n0 n2
+rooms_go_on tells i h h1 h2 r after answer b both f0 f1 f2 n0 n1 n2 is sound so at same rooms flushes keeps files high cause =
     let was : slice_get h.rooms.items i ≡ Some r = sym (so.later i (omega arith)) ∙ at in
     let low = so.faults in
     record {
@@ -264,10 +266,10 @@ rooms_go_on tells i h h1 h2 r after answer b f0 f1 f2 n0 n1 n2 sound so at same 
       keeps = pairs_then KeepsRoomNames room_names_then h.rooms.items h1.rooms.items h2.rooms.items so.keeps
           (subst (Pairwise KeepsRoomNames h1.rooms.items) (sym rooms) (pairs_one KeepsRoomNames room_names_same h1.rooms.items i r after at keeps));
       later = λ k from. ap (λ xs. slice_get xs k) rooms ∙ slice_apart h1.rooms.items i k after (omega (arith, from)) ∙ so.later k (omega (arith, from));
-      left = λ told. rooms_left_more h i r answer b f0 f1 f2 n0 n1 n2 sound was low high (so.left told) (flushes told);
+      left = λ told. subst (λ u. RoomsLeft u n0 n2 (i + 1) h.rooms.items f0 f2) (sym is) (rooms_left_more h i r answer b f0 f1 f2 n0 n1 n2 sound was low high (so.left told) (flushes told));
       files = λ told. only_then f0 f1 f2 (so.files told) (files told);
       faults = omega (arith, low, high);
-      cause = fails_both n0 n1 n2 answer b low high so.cause cause;
+      cause = subst (FlushFails n0 n2) (sym is) (fails_both n0 n1 n2 answer b low high so.cause cause);
     }
 
 -- the end
@@ -355,6 +357,10 @@ pub stall_ready : (tells : Bool) (j : ℕ) (a b : Room) (s : Stall) (answer : Fl
 stall_ready tells j a b s answer f0 f1 n0 n1 can so at =
     let was : slice_get a.stalls.items j ≡ Some s = sym (so.later j (omega arith)) ∙ at in
     subst (CanFlushStall (topic_name a)) (get_or_from_slice_get a.stalls.items j s s was) (can.stalls j s (slice_get_within a.stalls.items j s was))
+
+-- two answers fail with a rise where one of them does
+pub fails_then : (n0 n1 n2 : ℕ) (a b both : Flushed) → both ≡ both_flushed a b → n0 ≤ n1 → n1 ≤ n2 → FlushFails n0 n1 a → FlushFails n1 n2 b → FlushFails n0 n2 both
+fails_then n0 n1 n2 a b both is low high f g = subst (FlushFails n0 n2) (sym is) (fails_both n0 n1 n2 a b low high f g)
 
 -- the topic's own queue is as it was while its channels were flushed
 pub settled_still : (a b : Room) → b ≡ record a { stalls = b.stalls } → IsSettled a.queue → IsSettled b.queue

@@ -1,22 +1,21 @@
 -- One save of a topic's queue, or of a channel's, as it stands in a hall.
-use Rattle.std.proofs.Common.{◌≡◌, ◌≤◌, ◌<◌, ◌+◌, ◌-◌, ◌^◌, ◌==◌, ◌&&◌, ◌||◌, ℕ, Bool, true, not, List, Option, Some, None, refl, sym, ap, subst, ◌∙◌, arith}
+use Rattle.std.proofs.Common.{◌≡◌, ◌≤◌, ◌==◌, ◌&&◌, ◌||◌, ℕ, Bool, List, Option, Some, None, refl, sym, ap, subst, ◌∙◌, arith}
 use Rattle.std.specs.Prelude.{IfSome, IsTrue, is_none, is_some}
 use Rattle.std.specs.List.{Contains}
-use Rattle.nsq_base.specs.Name.{is_ephemeral}
 use Rattle.nsq_outside.specs.Files.{Files}
 use Rattle.disk_queue.specs.Seen.{Seen as Queue}
 use Rattle.backlog.specs.Seen.{SameQueue, ring_depth}
 use Rattle.broker_history.specs.Channels.{IsKept}
-use Rattle.broker_history.specs.State.{State, is_empty, is_ephemeral_channel}
+use Rattle.broker_history.specs.State.{State, is_empty}
 use Rattle.channel_copies.specs.Clients.{client_of}
 use Rattle.channel_core.specs.Seen.{Seen as ChannelSeen, queue_name, seen_channel}
 use Rattle.floor_rooms.specs.declared.stall.Stall.{Stall}
 use Rattle.floor_rooms.specs.declared.room.Room.{Room}
 use Rattle.floor_rooms.specs.declared.hall.Hall.{Hall}
-use Rattle.floor_rooms.specs.Rooms.{channel_name, topic_name, stall_names}
-use Rattle.floor_rooms.specs.Sound.{IsMarked, IsPast, IsQuietUntil, IsRoomSound, IsSound, IsStallSound, rests}
+use Rattle.floor_rooms.specs.Rooms.{channel_name, topic_name}
+use Rattle.floor_rooms.specs.Sound.{IsRoomSound, IsSound, IsStallSound, rests}
 use Rattle.floor_rooms.specs.Standing.{HoldsFor}
-use Rattle.floor_rooms.specs.Changes.{AtRoom, AtStall, OnlyQueueFiles, StallChange}
+use Rattle.floor_rooms.specs.Changes.{AtRoom, AtStall, StallChange}
 use Rattle.floor_rooms.specs.RoomChanges.{RoomChange}
 use Rattle.floor_rooms.proofs.Staying.{others_stay}
 use Rattle.floor_rooms.proofs.Orders.{room_as_before, stall_as_before}
@@ -25,7 +24,7 @@ use Rattle.floor_rooms.proofs.Marked.{IsElse, else_keeps, else_stays}
 use Rattle.floor_rooms.proofs.Turning.{room_change, stall_change}
 use Rattle.floor_rooms.proofs.Filing.{only_of_channel, only_of_topic}
 use Rattle.history.specs.Found.{Pairwise}
-use Rattle.floor_saving.specs.Saving.{ClearsRoom, ClearsRooms, ClearsStall, IsQueueDone, MarkGoes, SavesRoom, SavesStall, Synced}
+use Rattle.floor_saving.specs.Saving.{ClearsRoom, ClearsStall, IsQueueDone, MarkGoes, SavesRoom, SavesStall, Synced}
 use Rattle.floor_saving.proofs.Marking.{goes_still, mark_goes, mark_kept, queue_done}
 use Rattle.floor_saving.proofs.Clearing.{clears_at_room, clears_at_stall}
 use Rattle.floor_rooms.proofs.Dating.{pairs_same}

@@ -20,7 +20,7 @@ use Rattle.floor_rooms.specs.Rooms.{room_in, stall_at}
 use Rattle.floor_rooms.specs.Changes.{OnlyQueueFiles, room_since, stall_since}
 use Rattle.floor_rooms.specs.Sound.{IsSound}
 use Rattle.floor_rooms.specs.Standing.{HoldsFor}
-use Rattle.floor_saving.specs.Timely.{HasFailed, IsMarkedLately, IsQueueTimely, mark_or_last}
+use Rattle.floor_saving.specs.Timely.{HasFailed, IsQueueTimely, mark_or_last}
 
 -- a mark stays as it is, or goes
 abbrev pub MarkGoes : (old new : Option ℕ) → Type 0

@@ -1,10 +1,8 @@
-use Rattle.std.proofs.Common.{◌≡◌, ◌<◌, ◌≤◌, ◌+◌, length, Some, refl, sym, subst, arith}
+use Rattle.std.proofs.Common.{◌≡◌, length, Some, refl, arith}
 use Rattle.std.specs.List.{slice_get}
 use Rattle.std.specs.Vec.{with_item}
-use Rattle.backlog.specs.declared.answers.Flushed.{Flushed}
 use Rattle.floor_rooms.specs.declared.hall.Hall.{Hall}
 use Rattle.floor_rooms.proofs.Placing.{at_place}
-use Rattle.floor_saving.specs.Flushing.{RoomsSoFar}
 use Rattle.floor_saving.proofs.Stopping.{kept_flushed, left_where, others_left, room_ready, rooms_begin, rooms_go_on, rooms_long}
 use Rattle.floor_saving.proofs.flushing.flush_all.Goals as goal
 
@@ -41,9 +39,8 @@ loop-i-preserved g c =
     let long = rooms_long g.F.Folder.tells_files c.loop-i.i c.args.hall.now c.loop-i.hall c.loop-i.done f0 f1 n0 n1 c.loop-i.invariant in
     let at : slice_get c.loop-i.hall.rooms.items c.loop-i.i ≡ Some room = at_place c.loop-i.hall.rooms.items c.loop-i.i room (omega (arith, below, counted, long)) c.index_mut.ensures.value in
     let after : Hall = record (c.loop-i.hall) { rooms = with_item c.loop-i.hall.rooms c.loop-i.i c.flush_room-room.new.room } in
-    subst (λ (answer : Flushed). RoomsSoFar g.F.Folder.tells_files (c.loop-i.i + 1) c.args.hall.now after answer f0 f2 n0 n2) (sym c.both_flushed-done.ensures)
-    (rooms_go_on g.F.Folder.tells_files c.loop-i.i c.args.hall.now c.loop-i.hall after room c.flush_room-room.new.room c.loop-i.done c.flush_room-room.result f0 f1 f2 n0 n1 n2 c.requires.sound c.loop-i.invariant at refl refl
-    flush.flushes flush.keeps flush.files flush.faults flush.cause)
+    rooms_go_on g.F.Folder.tells_files c.loop-i.i c.args.hall.now c.loop-i.hall after room c.flush_room-room.new.room c.loop-i.done c.flush_room-room.result c.both_flushed-done.result f0 f1 f2 n0 n1 n2 c.both_flushed-done.ensures c.requires.sound c.loop-i.invariant at refl refl
+    flush.flushes flush.keeps flush.files flush.faults flush.cause
 
 pub returns-clause-left : goal.returns-clause-left
 returns-clause-left g c = λ told s holds.

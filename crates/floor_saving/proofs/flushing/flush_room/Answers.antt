@@ -1,10 +1,4 @@
-use Rattle.std.proofs.Common.{◌≡◌, refl, sym, ap, subst, ◌∙◌}
-use Rattle.backlog.specs.Answers.{FlushFails}
-use Rattle.backlog.specs.declared.answers.Flushed.{Flushed}
-use Rattle.floor_rooms.specs.declared.room.Room.{Room}
-use Rattle.floor_saving.specs.Flushing.{FlushesRoom}
-use Rattle.floor_saving.proofs.Leaving.{fails_both}
-use Rattle.floor_saving.proofs.Stopping.{flushed_names, own_only, room_flushes, settled_still}
+use Rattle.floor_saving.proofs.Stopping.{fails_then, flushed_names, own_only, room_flushes, settled_still}
 use Rattle.floor_saving.proofs.flushing.flush_room.Goals as goal
 
 pub flush-own-requires-clause-settled : goal.flush-own-requires-clause-settled
@@ -20,8 +14,7 @@ returns-clause-flushes g c = λ told.
     let n2 = g.F.Folder.folder_faults c.flush-own.new.folder in
     let stalls = c.flush_stalls-stalls.ensures.flushes in
     let own = c.flush-own.ensures in
-    subst (λ (answer : Flushed). FlushesRoom answer n0 n2 c.args.room.now f0 f2) (sym c.both_flushed.ensures)
-    (room_flushes c.args.room.now c.flush_stalls-stalls.new.room.queue c.flush_stalls-stalls.result c.flush-own.result f0 f1 f2 n0 n1 n2 c.requires.ready (ap (λ (r : Room). r.queue) stalls.same) (stalls.left told) (own.row told) (own.others told) stalls.faults own.faults own.cause)
+    room_flushes c.args.room.now c.flush_stalls-stalls.new.room c.flush_stalls-stalls.result c.flush-own.result c.both_flushed.result f0 f1 f2 n0 n1 n2 c.both_flushed.ensures c.requires.ready stalls.same (stalls.left told) (own.row told) (own.others told) stalls.faults own.faults own.cause
 
 pub returns-clause-keeps : goal.returns-clause-keeps
 returns-clause-keeps g c = flushed_names c.args.room.now c.flush_stalls-stalls.new.room c.flush-own.new.self c.flush-own.result c.flush_stalls-stalls.ensures.flushes.same c.flush_stalls-stalls.ensures.flushes.keeps c.flush-own.ensures.seen
@@ -36,4 +29,4 @@ returns-clause-cause g c =
     let n0 = g.F.Folder.folder_faults c.args.folder.now in
     let n1 = g.F.Folder.folder_faults c.flush_stalls-stalls.new.folder in
     let n2 = g.F.Folder.folder_faults c.flush-own.new.folder in
-    subst (FlushFails n0 n2) (sym c.both_flushed.ensures) (fails_both n0 n1 n2 c.flush_stalls-stalls.result c.flush-own.result c.flush_stalls-stalls.ensures.flushes.faults c.flush-own.ensures.faults c.flush_stalls-stalls.ensures.flushes.cause c.flush-own.ensures.cause)
+    fails_then n0 n1 n2 c.flush_stalls-stalls.result c.flush-own.result c.both_flushed.result c.both_flushed.ensures c.flush_stalls-stalls.ensures.flushes.faults c.flush-own.ensures.faults c.flush_stalls-stalls.ensures.flushes.cause c.flush-own.ensures.cause

@@ -1,10 +1,8 @@
-use Rattle.std.proofs.Common.{◌≡◌, ◌<◌, ◌≤◌, ◌+◌, length, Some, refl, sym, subst, arith}
+use Rattle.std.proofs.Common.{◌≡◌, length, Some, refl, arith}
 use Rattle.std.specs.List.{slice_get}
 use Rattle.std.specs.Vec.{with_item}
-use Rattle.backlog.specs.declared.answers.Flushed.{Flushed}
 use Rattle.floor_rooms.specs.declared.room.Room.{Room}
 use Rattle.floor_rooms.proofs.Placing.{at_place}
-use Rattle.floor_saving.specs.Flushing.{StallsSoFar}
 use Rattle.floor_saving.proofs.Leaving.{stalls_begin, stalls_go_on}
 use Rattle.floor_saving.proofs.Stopping.{stall_ready, stalls_end, stalls_long}
 use Rattle.floor_saving.proofs.flushing.flush_stalls.Goals as goal
@@ -42,9 +40,8 @@ loop-j-preserved g c =
     let long = stalls_long g.F.Folder.tells_files c.loop-j.j c.args.room.now c.loop-j.room c.loop-j.done f0 f1 n0 n1 c.loop-j.invariant in
     let at : slice_get c.loop-j.room.stalls.items c.loop-j.j ≡ Some stall = at_place c.loop-j.room.stalls.items c.loop-j.j stall (omega (arith, below, counted, long)) c.index_mut.ensures.value in
     let after : Room = record (c.loop-j.room) { stalls = with_item c.loop-j.room.stalls c.loop-j.j (record stall { channel = c.flush-stall.new.self }) } in
-    subst (λ (answer : Flushed). StallsSoFar g.F.Folder.tells_files (c.loop-j.j + 1) c.args.room.now after answer f0 f2 n0 n2) (sym c.both_flushed-done.ensures)
-    (stalls_go_on g.F.Folder.tells_files c.loop-j.j c.args.room.now c.loop-j.room after stall c.flush-stall.new.self c.loop-j.done c.flush-stall.result f0 f1 f2 n0 n1 n2 c.requires.ready c.loop-j.invariant at refl refl
-    flush.rest flush.found flush.disk.others flush.disk.faults flush.cause)
+    stalls_go_on g.F.Folder.tells_files c.loop-j.j c.args.room.now c.loop-j.room after stall c.flush-stall.new.self c.loop-j.done c.flush-stall.result c.both_flushed-done.result f0 f1 f2 n0 n1 n2 c.both_flushed-done.ensures c.requires.ready c.loop-j.invariant at refl refl
+    flush.rest flush.found flush.disk.others flush.disk.faults flush.cause
 
 pub returns : goal.returns
 returns g c =

@@ -1,4 +1,4 @@
-use Rattle.std.proofs.Common.{◌≡◌, true, refl, sym, ap, ◌∙◌}
+use Rattle.std.proofs.Common.{◌≡◌, true, sym, ap, ◌∙◌}
 use Rattle.floor_saving.specs.Saving.{is_failed}
 use Rattle.floor_saving.specs.Timely.{mark_or_last}
 use Rattle.floor_saving.proofs.Marking.{mark_failed, stall_synced}

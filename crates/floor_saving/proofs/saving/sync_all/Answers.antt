@@ -1,7 +1,6 @@
-use Rattle.std.proofs.Common.{◌≡◌, ◌<◌, ◌≤◌, ◌+◌, inl, refl, true, arith}
-use Rattle.floor_saving.specs.Timely.{IsEarly}
+use Rattle.std.proofs.Common.{inl, refl, arith}
 use Rattle.floor_saving.proofs.Clearing.{clears_same}
-use Rattle.floor_saving.proofs.Raising.{Walks, early_timely, same_marks, same_names, some_timeout, timely_tried, walk_kept, walk_marks, walk_names, walk_rest, walk_soon, walk_sound, walk_timely, walk_told, walk_tried}
+use Rattle.floor_saving.proofs.Raising.{early_timely, same_marks, same_names, some_timeout, timely_tried, walk_kept, walk_marks, walk_names, walk_rest, walk_soon, walk_sound, walk_timely, walk_told, walk_tried}
 use Rattle.floor_saving.proofs.saving.sync_all.Goals as goal
 
 pub is_lately-requires : goal.is_lately-requires

@@ -1,4 +1,4 @@
-use Rattle.std.proofs.Common.{◌<◌, length, refl, arith}
+use Rattle.std.proofs.Common.{refl, arith}
 use Rattle.floor_saving.proofs.Beginning.{rooms_begin, rooms_end, rooms_go_on}
 use Rattle.floor_saving.proofs.saving.sync_rooms.Goals as goal
 

@@ -15,14 +15,21 @@ use Rattle.floor_rooms.specs.Sound.{IsSound}
 use Rattle.floor_rooms.specs.Changes.{AtRoom, AtStall}
 use Rattle.floor_rooms.proofs.Filing.{only_then}
 use Rattle.floor_saving.specs.Timely.{HasFailed, IsQueueTimely}
-use Rattle.floor_saving.specs.Saving.{IsQueueDone, IsRoomBegun, IsRoomDone, IsSoon, SavesRoom, SavesStall, Synced}
+use Rattle.floor_saving.specs.Saving.{ClearsRooms, IsQueueDone, IsRoomBegun, IsRoomDone, IsSoon, SavesRoom, SavesStall, Synced}
 use Rattle.floor_saving.proofs.Marking.{queue_soon}
 use Rattle.floor_saving.proofs.Clearing.{clears_same, clears_then}
 use Rattle.floor_saving.proofs.Syncing.{channel_done, channel_synced, topic_done, topic_synced}
 
+-- the moment and the timeout stay
+pub moment_same : (h h' : Hall) → h' ≡ record h { rooms = h'.rooms } → h'.moment ≡ h.moment
+moment_same h h' rest = ap (λ (x : Hall). x.moment) rest
+
+pub timeout_same : (h h' : Hall) → h' ≡ record h { rooms = h'.rooms } → h'.options.sync_timeout ≡ h.options.sync_timeout
+timeout_same h h' rest = ap (λ (x : Hall). x.options.sync_timeout) rest
+
 -- saves, and then others
 pub synced_same : (tells : Bool) (h : Hall) (files : Files) (faults : ℕ) → IsSound h → Synced tells h h files files faults faults
-synced_same tells h files faults sound = record { rest = refl; rooms = clears_same h.rooms.items; sound = sound; told = λ told s holds. holds; files = λ told file other. refl; faults = omega arith }
+synced_same tells h files faults sound = record { rest = refl; rooms = clears_same h.moment h.options.sync_timeout h.rooms.items; sound = sound; told = λ told s holds. holds; files = λ told file other. refl; faults = omega arith }
 
 pub synced_then : (tells : Bool) (a b c : Hall) (f0 f1 f2 : Files) (n0 n1 n2 : ℕ) → Synced tells a b f0 f1 n0 n1 → Synced tells b c f1 f2 n1 n2 → Synced tells a c f0 f2 n0 n2
 synced_then tells a b c f0 f1 f2 n0 n1 n2 x y =
@@ -30,18 +37,13 @@ synced_then tells a b c f0 f1 f2 n0 n1 n2 x y =
     let second = y.faults in
     record {
       rest = y.rest ∙ ap (λ (h : Hall). record h { rooms = c.rooms }) x.rest;
-      rooms = clears_then a.rooms.items b.rooms.items c.rooms.items x.rooms y.rooms;
+      rooms = clears_then a.moment a.options.sync_timeout a.rooms.items b.rooms.items c.rooms.items x.rooms
+          (subst (λ m. ClearsRooms m a.options.sync_timeout b.rooms.items c.rooms.items) (moment_same a b x.rest) (subst (λ t. ClearsRooms b.moment t b.rooms.items c.rooms.items) (timeout_same a b x.rest) y.rooms));
       sound = y.sound;
       told = λ told s holds. y.told told s (x.told told s holds);
       files = λ told. only_then f0 f1 f2 (x.files told) (y.files told);
       faults = omega (arith, first, second);
     }
-
-pub moment_same : (h h' : Hall) → h' ≡ record h { rooms = h'.rooms } → h'.moment ≡ h.moment
-moment_same h h' rest = ap (λ (x : Hall). x.moment) rest
-
-pub timeout_same : (h h' : Hall) → h' ≡ record h { rooms = h'.rooms } → h'.options.sync_timeout ≡ h.options.sync_timeout
-timeout_same h h' rest = ap (λ (x : Hall). x.options.sync_timeout) rest
 
 -- a rise in some of the calls is one in all
 pub rose_wider : (n0 n1 n2 n3 : ℕ) → n0 ≤ n1 → n2 ≤ n3 → Rose n1 n2 → Rose n0 n3
@@ -121,7 +123,7 @@ early_moment h sound = let low = sound.moment in omega (arith, low)
 pub room_begins : (tells : Bool) (i count : ℕ) (h h' : Hall) (old new : Files) (before now least : ℕ) → IsSound h → h' ≡ record h { rooms = h'.rooms }
     → (x : AtRoom i (SavesRoom tells h.moment h.options.sync_timeout least old new before now) h.rooms.items h'.rooms.items) → count ≡ length x.after.stalls.items → RoomSoFar tells i 0 count h h' old new before now least
 room_begins tells i count h h' old new before now least sound rest x counts = record {
-  synced = topic_synced tells h h' old new before now h.moment h.options.sync_timeout least i sound rest x;
+  synced = topic_synced tells h h' old new before now h.moment h.options.sync_timeout least i sound rest x refl refl;
   room = record {
     room = x.room;
     after = x.after;
@@ -137,7 +139,7 @@ room_begins tells i count h h' old new before now least sound rest x counts = re
 module _ (tells : Bool) (i j count : ℕ) (h h1 h2 : Hall) (f0 f1 f2 : Files) (n0 n1 n2 a left least : ℕ) (sound : IsSound h) (so : RoomSoFar tells i j count h h1 f0 f1 n0 n1 a) (rest : h2 ≡ record h1 { rooms = h2.rooms })
     (x : AtStall i j (SavesStall tells h1.moment h1.options.sync_timeout left f1 f2 n1 n2) h1.rooms.items h2.rooms.items) (is : least ≡ min a left) where
   step_synced : Synced tells h1 h2 f1 f2 n1 n2
-  step_synced = channel_synced tells h1 h2 f1 f2 n1 n2 h1.moment h1.options.sync_timeout left i j so.synced.sound rest x
+  step_synced = channel_synced tells h1 h2 f1 f2 n1 n2 h1.moment h1.options.sync_timeout left i j so.synced.sound rest x refl refl
 
   same_room : x.room ≡ so.room.after
   same_room = after_at i (λ r s. IsRoomBegun h.moment h.options.sync_timeout a n0 n1 j s) h.rooms.items h1.rooms.items so.room x.room x.there

@@ -20,7 +20,7 @@ use Rattle.floor_rooms.specs.declared.room.Room.{Room}
 use Rattle.floor_rooms.specs.declared.stall.Stall.{Stall}
 use Rattle.floor_rooms.specs.Sound.{IsMarked}
 use Rattle.floor_saving.specs.Timely.{HasFailed, IsQueueTimely, mark_or_last}
-use Rattle.floor_saving.specs.Saving.{IsQueueDone, IsSoon, MarkGoes, SavesMark, SavesRoom, SavesStall, is_failed}
+use Rattle.floor_saving.specs.Saving.{IsNotDue, IsQueueDone, IsSoon, MarkGoes, SavesMark, SavesRoom, SavesStall, is_failed}
 use Rattle.floor_saving.specs.Saving.SavesMark.{stays, saved, failed}
 
 -- after a save that didn't fail nothing is unsaved
@@ -64,12 +64,12 @@ pub same_disk : (q : Option Queue) (files : Files) → DiskChanges q files files
 same_disk None files = λ file. refl
 same_disk (Some q) files = λ file apart. refl
 
--- the mark after a save
-pub mark_saved : (at timeout before now : ℕ) (since : Option ℕ) (q r : Option Queue) (answer : Sync) → SyncSeen q r answer → is_failed answer ≡ false → SavesMark at timeout before now since None q r
-mark_saved at timeout before now since q r answer seen e = saved refl (saved_now q r answer seen e)
+-- the mark after a save that was due
+pub mark_saved : (at timeout before now moment : ℕ) (since : Option ℕ) (q r : Option Queue) (answer : Sync) → since ≡ Some moment → moment + timeout ≤ at → SyncSeen q r answer → is_failed answer ≡ false → SavesMark at timeout before now since None q r
+mark_saved at timeout before now moment since q r answer is due seen e = saved moment is due refl (saved_now q r answer seen e)
 
-pub mark_failed : (at timeout before now moment : ℕ) (since : Option ℕ) (q r : Option Queue) (answer : Sync) → since ≡ Some moment → SyncSeen q r answer → SyncFails before now answer → is_failed answer ≡ true → SavesMark at timeout before now since since q r
-mark_failed at timeout before now moment since q r answer is seen cause e = failed moment is refl (failed_now q r answer seen e) (rose_now before now answer cause e)
+pub mark_failed : (at timeout before now moment : ℕ) (since : Option ℕ) (q r : Option Queue) (answer : Sync) → since ≡ Some moment → moment + timeout ≤ at → SyncSeen q r answer → SyncFails before now answer → is_failed answer ≡ true → SavesMark at timeout before now since since q r
+mark_failed at timeout before now moment since q r answer is due seen cause e = failed moment is due refl (failed_now q r answer seen e) (rose_now before now answer cause e)
 
 -- a topic whose queue isn't due
 pub room_left : (tells : Bool) (at timeout least : ℕ) (files : Files) (faults : ℕ) (r : Room) → IfSome r.since (λ moment. at < moment + timeout) → least ≡ mark_or_last r.since → SavesRoom tells at timeout least files files faults faults r r
@@ -139,8 +139,8 @@ goes_same (Some moment) = refl
 
 pub mark_goes : (at timeout before now : ℕ) (since since' : Option ℕ) (q r : Option Queue) → SavesMark at timeout before now since since' q r → MarkGoes since since'
 mark_goes at timeout before now since since' q r (stays e f lately) = subst (MarkGoes since) (sym e) (goes_same since)
-mark_goes at timeout before now since since' q r (saved e is) = subst (MarkGoes since) (sym e) tt
-mark_goes at timeout before now since since' q r (failed moment is e f rose) = subst (MarkGoes since) (sym e) (goes_same since)
+mark_goes at timeout before now since since' q r (saved was_at was due e is) = subst (MarkGoes since) (sym e) tt
+mark_goes at timeout before now since since' q r (failed moment is due e f rose) = subst (MarkGoes since) (sym e) (goes_same since)
 
 -- what is said of the mark is said of it still
 pub goes_still : (P : ℕ → Type 0) (since since' : Option ℕ) → MarkGoes since since' → IfSome since P → IfSome since' P
@@ -153,8 +153,8 @@ none_some moment since since' is e none = let no : Some moment ≡ None = sym is
 -- a queue whose mark is gone is saved
 pub mark_kept : (u at timeout before now : ℕ) (since since' : Option ℕ) (q r : Option Queue) → SavesMark at timeout before now since since' q r → IsMarked u since q → IsMarked u since' r
 mark_kept u at timeout before now since since' q r (stays e f lately) m = subst (λ o. IsMarked u o r) (sym e) (subst (IsMarked u since) (sym f) m)
-mark_kept u at timeout before now since since' q r (saved e is) m = record { saved = λ none. is; later = subst (λ o. IfSome o (λ moment. u ≤ moment)) (sym e) tt }
-mark_kept u at timeout before now since since' q r (failed moment is e f rose) m = record { saved = λ none. absurd (none_some moment since since' is e none); later = subst (λ o. IfSome o (λ moment. u ≤ moment)) (sym e) m.later }
+mark_kept u at timeout before now since since' q r (saved was_at was due e is) m = record { saved = λ none. is; later = subst (λ o. IfSome o (λ moment. u ≤ moment)) (sym e) tt }
+mark_kept u at timeout before now since since' q r (failed moment is due e f rose) m = record { saved = λ none. absurd (none_some moment since since' is e none); later = subst (λ o. IfSome o (λ moment. u ≤ moment)) (sym e) m.later }
 
 -- a queue that isn't due is timely
 pub timely_lately : (at timeout : ℕ) (since : Option ℕ) (q : Option Queue) → (since ≡ None → QueueIsSaved q) → IfSome since (λ moment. at < moment + timeout) → IsQueueTimely at timeout since q
@@ -171,8 +171,8 @@ queue_done u at timeout least before now since since' q r (stays e f lately) m i
   later = later_left least since' is;
   timely = inl (subst (λ o. IsQueueTimely at timeout o r) (sym e) (subst (IsQueueTimely at timeout since) (sym f) (timely_lately at timeout since q m.saved lately)));
 }
-queue_done u at timeout least before now since since' q r (saved e now_saved) m is = record { later = later_left least since' is; timely = inl (inl now_saved) }
-queue_done u at timeout least before now since since' q r (failed moment was e f rose) m is = record { later = later_left least since' is; timely = inr (f, rose) }
+queue_done u at timeout least before now since since' q r (saved was_at was due e now_saved) m is = record { later = later_left least since' is; timely = inl (inl now_saved) }
+queue_done u at timeout least before now since since' q r (failed moment was due e f rose) m is = record { later = later_left least since' is; timely = inr (f, rose) }
 
 -- the mark that is left comes to be due later than now, unless the save failed
 soon_left : (at timeout least before now : ℕ) (since : Option ℕ) → at < 2 ^ 64 - 1 → IfSome since (λ moment. at < moment + timeout) → least ≡ mark_or_last since → IsSoon at timeout least before now
@@ -181,5 +181,14 @@ soon_left at timeout least before now (Some moment) early lately is = inl (omega
 
 pub queue_soon : (at timeout least before now : ℕ) (since since' : Option ℕ) (q r : Option Queue) → at < 2 ^ 64 - 1 → SavesMark at timeout before now since since' q r → least ≡ mark_or_last since' → IsSoon at timeout least before now
 queue_soon at timeout least before now since since' q r early (stays e f lately) is = soon_left at timeout least before now since early lately (is ∙ ap mark_or_last e)
-queue_soon at timeout least before now since since' q r early (saved e now_saved) is = soon_left at timeout least before now None early tt (is ∙ ap mark_or_last e)
-queue_soon at timeout least before now since since' q r early (failed moment was e f rose) is = inr rose
+queue_soon at timeout least before now since since' q r early (saved was_at was due e now_saved) is = soon_left at timeout least before now None early tt (is ∙ ap mark_or_last e)
+queue_soon at timeout least before now since since' q r early (failed moment was due e f rose) is = inr rose
+
+-- where it isn't due, all stays
+due_not : (at timeout moment : ℕ) (since : Option ℕ) → since ≡ Some moment → moment + timeout ≤ at → IsNotDue at timeout since → ⊥
+due_not at timeout moment since is due early = let before : at < moment + timeout = subst (λ o. IfSome o (λ m. at < m + timeout)) is early in omega (arith, due, before)
+
+pub early_same : (at timeout before now : ℕ) (since since' : Option ℕ) (q r : Option Queue) → SavesMark at timeout before now since since' q r → IsNotDue at timeout since → (since' ≡ since) × (r ≡ q)
+early_same at timeout before now since since' q r (stays e f lately) early = (e, f)
+early_same at timeout before now since since' q r (saved moment is due e now_saved) early = absurd (due_not at timeout moment since is due early)
+early_same at timeout before now since since' q r (failed moment is due e f rose) early = absurd (due_not at timeout moment since is due early)

@@ -139,10 +139,10 @@ module _ (tells : Bool) (h h1 : Hall) (old new : Files) (before now least : ℕ)
   walk_sound = raised_sound h.moment h.options.sync_timeout before now h1 least w.synced.sound w.done
 
   pub walk_marks : MarksGo h.rooms.items h1.rooms.items
-  walk_marks = marks_go h.rooms.items h1.rooms.items w.synced.rooms
+  walk_marks = marks_go h.moment h.options.sync_timeout h.rooms.items h1.rooms.items w.synced.rooms
 
   pub walk_kept : hall_kept behind ≡ hall_kept h
-  walk_kept = kept_cleared h.rooms.items h1.rooms.items w.synced.rooms
+  walk_kept = kept_cleared h.moment h.options.sync_timeout h.rooms.items h1.rooms.items w.synced.rooms
 
   pub walk_names : NamesTold h behind
   walk_names = record { before = λ e. sym (ap (λ (x : Hall). x.unsaved_names) w.synced.rest) ∙ e; same = λ e. walk_kept }
@@ -165,7 +165,7 @@ pub timely_tried : (h : Hall) → IsTimely h → IsTried h
 timely_tried h timely = λ k d below. record { queue = inl (timely k d below).queue; stalls = λ j y inside. inl ((timely k d below).stalls j y inside) }
 
 pub same_marks : (h : Hall) → MarksGo h.rooms.items h.rooms.items
-same_marks h = marks_go h.rooms.items h.rooms.items (clears_same h.rooms.items)
+same_marks h = marks_go h.moment h.options.sync_timeout h.rooms.items h.rooms.items (clears_same h.moment h.options.sync_timeout h.rooms.items)
 
 pub same_names : (h : Hall) → NamesTold h h
 same_names h = record { before = λ e. e; same = λ e. refl }

@@ -24,8 +24,8 @@ use Rattle.floor_rooms.proofs.Marked.{IsElse, else_keeps, else_stays}
 use Rattle.floor_rooms.proofs.Turning.{room_change, stall_change}
 use Rattle.floor_rooms.proofs.Filing.{only_of_channel, only_of_topic}
 use Rattle.history.specs.Found.{Pairwise}
-use Rattle.floor_saving.specs.Saving.{ClearsRoom, ClearsStall, IsQueueDone, MarkGoes, SavesRoom, SavesStall, Synced}
-use Rattle.floor_saving.proofs.Marking.{goes_still, mark_goes, mark_kept, queue_done}
+use Rattle.floor_saving.specs.Saving.{ClearsRoom, ClearsRooms, ClearsStall, IsNotDue, IsQueueDone, MarkGoes, SavesRoom, SavesStall, Synced}
+use Rattle.floor_saving.proofs.Marking.{early_same, goes_still, mark_goes, mark_kept, queue_done}
 use Rattle.floor_saving.proofs.Clearing.{clears_at_room, clears_at_stall}
 use Rattle.floor_rooms.proofs.Dating.{pairs_same}
 use Rattle.floor_saving.proofs.Clearing.{clears_stall_same}
@@ -115,18 +115,25 @@ module _ (tells : Bool) (h h' : Hall) (old new : Files) (before now at timeout l
       room_as_before h h' old new s (topic_name x.room) x.room x.after sound holds (topic_change told)
       (λ t of. record { to = t; row = refl; queue = x.does.row told t of.queue; stands = x.does.stands told of.stands; delays = of.delays; taken = of.taken; channels = refl })
 
-  topic_clears : ClearsRoom x.room x.after
+  topic_early : IsNotDue at timeout x.room.since → x.after ≡ record (x.room) { stalls = x.after.stalls }
+  topic_early e =
+      let same = early_same at timeout before now x.room.since x.after.since x.room.queue.backlog.queue x.after.queue.backlog.queue x.does.mark e in
+      x.does.same ∙ ap (λ q. record (x.room) { queue = record (x.room.queue) { backlog = record (x.room.queue.backlog) { queue = q } }; since = x.after.since }) same.1
+      ∙ ap (λ s. record (x.room) { since = s }) same.0 ∙ sym (ap (λ v. record (x.room) { stalls = v }) (ap (λ (r : Room). r.stalls) x.does.same))
+
+  topic_clears : ClearsRoom at timeout x.room x.after
   topic_clears = record {
     same = x.does.same ∙ sym (ap (λ (r : Room). record (x.room) { queue = record (x.room.queue) { backlog = record (x.room.queue.backlog) { queue = r.queue.backlog.queue } }; since = r.since; stalls = r.stalls }) x.does.same);
     queue = x.does.queue;
     since = mark_goes at timeout before now x.room.since x.after.since x.room.queue.backlog.queue x.after.queue.backlog.queue x.does.mark;
-    stalls = subst (Pairwise ClearsStall x.room.stalls.items) (sym topic_stalls) (pairs_same ClearsStall clears_stall_same x.room.stalls.items);
+    early = topic_early;
+    stalls = subst (Pairwise (ClearsStall at timeout) x.room.stalls.items) (sym topic_stalls) (pairs_same (ClearsStall at timeout) (clears_stall_same at timeout) x.room.stalls.items);
   }
 
-  pub topic_synced : Synced tells h h' old new before now
-  topic_synced = record {
+  pub topic_synced : at ≡ h.moment → timeout ≡ h.options.sync_timeout → Synced tells h h' old new before now
+  topic_synced is of = record {
     rest = rest;
-    rooms = clears_at_room i Saves h.rooms.items h'.rooms.items x topic_clears;
+    rooms = subst (λ m. ClearsRooms m h.options.sync_timeout h.rooms.items h'.rooms.items) is (subst (λ t. ClearsRooms at t h.rooms.items h'.rooms.items) of (clears_at_room at timeout i Saves h.rooms.items h'.rooms.items x topic_clears));
     sound = topic_sound;
     told = topic_stands;
     files = λ told. only_of_topic (topic_name x.room) x.room.queue.backlog.queue old new topic_before.named topic_before.backlog.queue (x.does.others told);
@@ -196,10 +203,18 @@ module _ (tells : Bool) (h h' : Hall) (old new : Files) (before now at timeout l
         stands = x.does.does.disk.stands told of.stands;
       })
 
-  pub channel_synced : Synced tells h h' old new before now
-  channel_synced = record {
+  channel_early : IsNotDue at timeout x.does.stall.since → x.does.after ≡ x.does.stall
+  channel_early e =
+      let s : Stall = x.does.stall in
+      let same = early_same at timeout before now s.since x.does.after.since s.channel.backlog.queue x.does.after.channel.backlog.queue x.does.does.mark e in
+      x.does.does.same ∙ ap (λ q. record s { channel = record (s.channel) { backlog = record (s.channel.backlog) { queue = q } }; since = x.does.after.since }) same.1 ∙ ap (λ m. record s { since = m }) same.0
+
+  pub channel_synced : at ≡ h.moment → timeout ≡ h.options.sync_timeout → Synced tells h h' old new before now
+  channel_synced is of = record {
     rest = rest;
-    rooms = clears_at_stall i j SavesOne h.rooms.items h'.rooms.items x (record { same = x.does.does.same; queue = x.does.does.disk.queue; since = channel_mark });
+    rooms = subst (λ m. ClearsRooms m h.options.sync_timeout h.rooms.items h'.rooms.items) is
+        (subst (λ t. ClearsRooms at t h.rooms.items h'.rooms.items) of
+        (clears_at_stall at timeout i j SavesOne h.rooms.items h'.rooms.items x (record { same = x.does.does.same; queue = x.does.does.disk.queue; since = channel_mark; early = channel_early })));
     sound = channel_sound;
     told = channel_stands;
     files = λ told.

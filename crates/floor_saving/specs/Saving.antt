@@ -26,21 +26,28 @@ use Rattle.floor_saving.specs.Timely.{HasFailed, IsQueueTimely, mark_or_last}
 abbrev pub MarkGoes : (old new : Option ℕ) → Type 0
 MarkGoes old new = IfSome new (λ moment. old ≡ Some moment)
 
--- saving changes nothing of a channel but what is known of its queue on disk, and its mark, which stays or goes
-pub record ClearsStall (old new : Stall) : Type 0 where
+-- a queue isn't marked, or was marked less than the timeout before this moment
+abbrev pub IsNotDue : (at timeout : ℕ) → (since : Option ℕ) → Type 0
+IsNotDue at timeout since = IfSome since (λ moment. at < moment + timeout)
+
+-- saving changes nothing of a channel but what is known of its queue on disk, and its mark, which stays or goes; and nothing at all where the queue
+-- isn't due
+pub record ClearsStall (at timeout : ℕ) (old new : Stall) : Type 0 where
   pub same : new ≡ record old { channel = record (old.channel) { backlog = record (old.channel.backlog) { queue = new.channel.backlog.queue } }; since = new.since }
   pub queue : SameQueue old.channel.backlog.queue new.channel.backlog.queue
   pub since : MarkGoes old.since new.since
+  pub early : IsNotDue at timeout old.since → new ≡ old
 
 -- nor of a topic, whose channels stay at their places
-pub record ClearsRoom (old new : Room) : Type 0 where
+pub record ClearsRoom (at timeout : ℕ) (old new : Room) : Type 0 where
   pub same : new ≡ record old { queue = record (old.queue) { backlog = record (old.queue.backlog) { queue = new.queue.backlog.queue } }; since = new.since; stalls = new.stalls }
   pub queue : SameQueue old.queue.backlog.queue new.queue.backlog.queue
   pub since : MarkGoes old.since new.since
-  pub stalls : Pairwise ClearsStall old.stalls.items new.stalls.items
+  pub early : IsNotDue at timeout old.since → new ≡ record old { stalls = new.stalls }
+  pub stalls : Pairwise (ClearsStall at timeout) old.stalls.items new.stalls.items
 
-abbrev pub ClearsRooms : (old new : List Room) → Type 0
-ClearsRooms old new = Pairwise ClearsRoom old new
+abbrev pub ClearsRooms : (at timeout : ℕ) → (old new : List Room) → Type 0
+ClearsRooms at timeout old new = Pairwise (ClearsRoom at timeout) old new
 
 -- no queue is marked that wasn't marked since the same moment
 pub record MarksGo (old new : List Room) : Type 0 where
@@ -56,9 +63,9 @@ is_failed Failed = true
 -- what becomes of a queue and its mark: where it isn't marked, or was marked lately, both stay; else it is saved and its mark goes, or the save
 -- failed, the folder's count rose, and the mark stays
 pub data SavesMark (at timeout : ℕ) (before now : ℕ) (since since' : Option ℕ) (queue queue' : Option Queue) : Type 0 where
-  stays : since' ≡ since → queue' ≡ queue → IfSome since (λ moment. at < moment + timeout) → SavesMark at timeout before now since since' queue queue'
-  saved : since' ≡ None → QueueIsSaved queue' → SavesMark at timeout before now since since' queue queue'
-  failed : (moment : ℕ) → since ≡ Some moment → since' ≡ since → HasFailed queue' → Rose before now → SavesMark at timeout before now since since' queue queue'
+  stays : since' ≡ since → queue' ≡ queue → IsNotDue at timeout since → SavesMark at timeout before now since since' queue queue'
+  saved : (moment : ℕ) → since ≡ Some moment → moment + timeout ≤ at → since' ≡ None → QueueIsSaved queue' → SavesMark at timeout before now since since' queue queue'
+  failed : (moment : ℕ) → since ≡ Some moment → moment + timeout ≤ at → since' ≡ since → HasFailed queue' → Rose before now → SavesMark at timeout before now since since' queue queue'
 
 -- saving the queue of a topic, and the mark that is left
 pub record SavesRoom (tells : Bool) (at timeout least : ℕ) (old new : Files) (before now : ℕ) (a b : Room) : Type 0 where
@@ -102,7 +109,7 @@ IsSoon at timeout least before now = (at < least + timeout) ⊎ Rose before now
 -- what saves make of a hall, of the folder's files and of its count of faults: the hall stands for the same states
 pub record Synced (tells : Bool) (h h' : Hall) (old new : Files) (before now : ℕ) : Type 0 where
   pub rest : h' ≡ record h { rooms = h'.rooms }
-  pub rooms : ClearsRooms h.rooms.items h'.rooms.items
+  pub rooms : ClearsRooms h.moment h.options.sync_timeout h.rooms.items h'.rooms.items
   pub sound : IsSound h'
   pub told : IsTrue tells → (s : State) → HoldsFor h old s → HoldsFor h' new s
   pub files : IsTrue tells → OnlyQueueFiles old new

@@ -11,8 +11,9 @@ use crate::marks::{is_lately, save_room, save_stall};
 use floor_rooms::Hall;
 use nsq_outside::Folder;
 
-/// Saves each queue that has been marked as unsaved for the options' sync timeout or longer, as far as the folder doesn't fail; one that is saved is
-/// marked no more, and one whose save failed keeps its mark and keeps no other from being saved. Where none is due that costs one comparison.
+/// Saves each queue that has been marked as unsaved for the options' sync timeout or longer, in nanoseconds up to the hall's moment, and no other, as
+/// far as the folder doesn't fail: one that is saved is marked no more, and one whose save failed keeps its mark and keeps no other from being saved,
+/// which only the folder's count of faults tells. Where none is due that costs one comparison. It takes no memory.
 pub fn sync_all<F: Folder>(hall: &mut Hall, folder: &mut F)
     requires { IsSound hall.old }
     ensures timely { IsTimely hall.new ⊎ Rose (F.folder_faults folder.old) (F.folder_faults folder.new) }
@@ -21,7 +22,7 @@ pub fn sync_all<F: Folder>(hall: &mut Hall, folder: &mut F)
     ensures idle { IsEarly hall.old → (hall.new ≡ hall.old) × (folder.new ≡ folder.old) }
     ensures told { IsTrue F.tells_files → Carries hall.old (F.files folder.old) hall.new (F.files folder.new) (λ s t. t ≡ s) }
     ensures rest { hall.new ≡ record hall.old { rooms = hall.new.rooms; unsaved_from = hall.new.unsaved_from } }
-    ensures rooms { ClearsRooms hall.old.rooms.items hall.new.rooms.items }
+    ensures rooms { ClearsRooms hall.old.moment hall.old.options.sync_timeout hall.old.rooms.items hall.new.rooms.items }
     ensures marks { MarksGo hall.old.rooms.items hall.new.rooms.items }
     ensures kept { hall_kept hall.new ≡ hall_kept hall.old }
     ensures names { NamesTold hall.old hall.new }

@@ -25,7 +25,7 @@ pub returns-then-is_lately-clause-rest : goal.returns-then-is_lately-clause-rest
 returns-then-is_lately-clause-rest g c = refl
 
 pub returns-then-is_lately-clause-rooms : goal.returns-then-is_lately-clause-rooms
-returns-then-is_lately-clause-rooms g c = clears_same c.args.hall.now.rooms.items
+returns-then-is_lately-clause-rooms g c = clears_same c.args.hall.now.moment c.args.hall.now.options.sync_timeout c.args.hall.now.rooms.items
 
 pub returns-then-is_lately-clause-marks : goal.returns-then-is_lately-clause-marks
 returns-then-is_lately-clause-marks g c = same_marks c.args.hall.now

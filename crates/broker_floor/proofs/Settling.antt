@@ -2,8 +2,6 @@
 use Rattle.std.proofs.Common.{◌≡◌, ◌⊎◌, inl, inr, ◌≤◌, ℕ, List, Option, Some, None, Bool, true, false, ◌&&◌, refl, sym, ap, subst, ◌∙◌, arith}
 use Rattle.std.specs.Prelude.{IfSome, IsTrue}
 use Rattle.std.proofs.lemmas.Bool.{false≢true}
-use Rattle.std.proofs.lemmas.List.Elements.{All-weaker}
-use Rattle.disk_queue.specs.Seen.{Seen as Queue}
 use Rattle.nsq_outside.specs.Causes.{Rose}
 use Rattle.nsq_outside.specs.Files.{Files}
 use Rattle.broker_history.specs.Entries.{History}
@@ -20,12 +18,12 @@ use Rattle.floor_rooms.specs.Changes.{room_since, stall_since}
 use Rattle.floor_rooms.specs.Kept.{NamesTold, hall_kept}
 use Rattle.floor_rooms.specs.Standing.{Carries, HoldsFor}
 use Rattle.floor_moves.specs.Moves.{sight}
-use Rattle.floor_turns.specs.Timely.{IsQueueTimely, IsRoomTimely, IsTimely, TicksTimely}
+use Rattle.floor_turns.specs.Timely.{TicksTimely}
 use Rattle.floor_turns.specs.Turning.{Settles, StaysOn}
 use Rattle.floor_turns.proofs.Following.{marks_stay}
 use Rattle.floor_turns.specs.Leads.{IsMarkLater, MarksStand}
 use Rattle.floor_saving.specs.Saving.{MarkGoes, MarksGo}
-use Rattle.floor_saving.specs.Timely as saving
+use Rattle.floor_saving.specs.Timely.{IsTimely}
 use Rattle.floor_turns.proofs.Whole.{holds_marked, stays_then}
 use Rattle.broker_floor.specs.Ticks.{is_saving, is_ticking}
 
@@ -94,30 +92,9 @@ settles_saved tells_files h mid h' noted files files' k k' marked rest marks nam
 pub stuck_saved : (h mid h' : Hall) (is : Bool) → h' ≡ record mid { rooms = h'.rooms; unsaved_from = h'.unsaved_from } → mid.stuck ≡ is → h'.stuck ≡ is
 stuck_saved h mid h' is rest stuck = ap (λ (x : Hall). x.stuck) rest ∙ stuck
 
--- what saving says of queues
-late : (at timeout : ℕ) (since : Option ℕ) (queue : Option Queue) → saving.IsQueueTimely at timeout since queue → IsQueueTimely at timeout since queue
-late at timeout None queue (inl saved) = inl saved
-late at timeout None queue (inr lately) = absurd lately
-late at timeout (Some m) queue h = h
-
-pub timely_said : (h : Hall) → saving.IsTimely h → IsTimely h
-timely_said h all =
-    All-weaker (saving.IsRoomTimely h.moment h.options.sync_timeout) (IsRoomTimely h.moment h.options.sync_timeout)
-    (λ r x. record {
-      queue = late h.moment h.options.sync_timeout r.since r.queue.backlog.queue x.queue;
-      stalls =
-          All-weaker (λ (s : Stall). saving.IsQueueTimely h.moment h.options.sync_timeout s.since s.channel.backlog.queue) (λ (s : Stall). IsQueueTimely h.moment h.options.sync_timeout s.since s.channel.backlog.queue)
-          (λ s y. late h.moment h.options.sync_timeout s.since s.channel.backlog.queue y) r.stalls.items x.stalls;
-    })
-    h.rooms.items all
-
-timely_or : (h : Hall) (before now : ℕ) → saving.IsTimely h ⊎ Rose before now → IsTimely h ⊎ Rose before now
-timely_or h before now (inl all) = inl (timely_said h all)
-timely_or h before now (inr rose) = inr rose
-
 -- a tick that is answered Quiet, and any other call
-pub timely_saved : (c : Call) (answer : Turned) (h : Hall) (before now : ℕ) → saving.IsTimely h ⊎ Rose before now → TicksTimely c answer h before now
-timely_saved call.Tick turned.Quiet h before now t = timely_or h before now t
+pub timely_saved : (c : Call) (answer : Turned) (h : Hall) (before now : ℕ) → IsTimely h ⊎ Rose before now → TicksTimely c answer h before now
+timely_saved call.Tick turned.Quiet h before now t = t
 timely_saved call.Tick answer h before now t = tt
 timely_saved c answer h before now t = tt
 

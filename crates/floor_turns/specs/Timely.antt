@@ -1,32 +1,12 @@
 -- What a tick leaves unsaved.
-use Rattle.std.specs.Prelude.{◌⊎◌, ◌<◌, ℕ, ◌+◌, All, Option, Some, None}
+use Rattle.std.specs.Prelude.{◌⊎◌, ℕ}
 use Rattle.nsq_outside.specs.Causes.{Rose}
-use Rattle.disk_queue.specs.Seen.{Seen as Queue}
-use Rattle.backlog.specs.Seen.{QueueIsSaved}
 use Rattle.desk.specs.declared.call.Call.{Call}
 use Rattle.desk.specs.declared.call.Call.TheVariants as call
 use Rattle.desk.specs.declared.turned.Turned.{Turned}
 use Rattle.desk.specs.declared.turned.Turned.TheVariants as turned
 use Rattle.floor_rooms.specs.declared.hall.Hall.{Hall}
-use Rattle.floor_rooms.specs.declared.room.Room.{Room}
-use Rattle.floor_rooms.specs.declared.stall.Stall.{Stall}
-
--- marked as unsaved, less than the timeout before this moment
-abbrev pub IsMarkedLately : (at timeout : ℕ) → (since : Option ℕ) → Type 0
-IsMarkedLately at timeout None = ⊥
-IsMarkedLately at timeout (Some moment) = at < moment + timeout
-
--- a queue is saved, or was marked as unsaved less than the sync timeout ago
-abbrev pub IsQueueTimely : (at timeout : ℕ) → (since : Option ℕ) → Option Queue → Type 0
-IsQueueTimely at timeout since queue = QueueIsSaved queue ⊎ IsMarkedLately at timeout since
-
-pub record IsRoomTimely (at timeout : ℕ) (r : Room) : Type 0 where
-  pub queue : IsQueueTimely at timeout r.since r.queue.backlog.queue
-  pub stalls : All (λ (s : Stall). IsQueueTimely at timeout s.since s.channel.backlog.queue) r.stalls.items
-
--- so it is of each queue of a hall
-abbrev pub IsTimely : Hall → Type 0
-IsTimely h = All (IsRoomTimely h.moment h.options.sync_timeout) h.rooms.items
+use Rattle.floor_saving.specs.Timely.{IsTimely}
 
 -- what a tick leaves that is answered Quiet, unless the folder's count of faults rose
 abbrev pub TicksTimely : Call → Turned → Hall → (before now : ℕ) → Type 0

@@ -13,7 +13,7 @@ use Rattle.desk.specs.declared.call.Call.{Call}
 use Rattle.desk.specs.declared.call.Call.TheVariants as call
 use Rattle.desk.specs.declared.turned.Turned.{Turned}
 use Rattle.desk.specs.declared.turned.Turned.TheVariants as turned
-use Rattle.desk.specs.Answers.{Adds, Answers, AnswersCommand, AnswersNext, EndsAtStop, Grows, IsAnswerTo, StopsSeen}
+use Rattle.desk.specs.Answers.{Adds, AddsNothing, Answers, AnswersCommand, AnswersNext, EndsAtStop, Grows, IsAnswerTo, StopsSeen}
 use Rattle.desk.specs.Calls.{MayCall, has_began, is_over}
 use Rattle.floor_rooms.specs.declared.hall.Hall.{Hall}
 use Rattle.floor_words.specs.Plans.{is_strange}
@@ -57,9 +57,14 @@ stopping_is : (c : Call) → EndsAtStop c → IsAnswerTo c turned.Stopping
 stopping_is call.Begin h = h
 stopping_is c h = h
 
-memory_is : (c : Call) → IsAnswerTo c turned.Memory
+pub memory_is : (c : Call) → IsAnswerTo c turned.Memory
 memory_is call.Begin = tt
 memory_is c = tt
+
+-- nothing joins where memory was wanting
+pub nothing_is : (c : Call) → AddsNothing c turned.Memory
+nothing_is call.Tick = tt
+nothing_is c = tt
 
 command_is : (command : Command) (e : Entry × End) (answer : Turned) → AnswersCommand command e answer → IsAnswerTo (call.Command command) answer
 command_is command e (turned.Reply frame closing) h = tt

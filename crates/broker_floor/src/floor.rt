@@ -31,11 +31,11 @@ pub struct Floor<F: Folder, C: Clock, J: Journal<Entry>> {
     pub(crate) folder: F,
     pub(crate) clock: C,
     pub(crate) journal: J,
-    pub(crate) hall: SoundHall,
+    pub(crate) held: SoundHall,
     // Room for the longest message, as it is written to a queue.
     pub(crate) scratch: Vec<u8>,
     ghost calm: { J.is_aside journal ≡ false },
-    ghost tied: { IsTrue J.tells_notes → IsTied hall (J.notes journal) },
+    ghost tied: { IsTrue J.tells_notes → IsTied held.hall (J.notes journal) },
     ghost room: { length scratch.items ≡ 16777242 },
 }
 
@@ -52,10 +52,11 @@ impl<F: Folder, C: Clock, J: Journal<Entry>> Floor<F, C, J> {
         requires options { IsInRange options.now }
         requires aside { J.is_aside kit.journal ≡ false }
         requires empty { IsTrue J.tells_notes → J.notes kit.journal ≡ [] }
-        ensures hall { IfOk result (λ floor. IsEmptyHall options.now epoch floor.hall.moment floor.hall) }
-        ensures opens { (files : Files) → IfOk result (λ floor. StandsFor floor.hall files (empty_state options.now epoch floor.hall.moment)) }
-        ensures stands { (files : Files) → IsUnused files → IfOk result (λ floor. HoldsFor floor.hall files (empty_state options.now epoch floor.hall.moment)) }
-        ensures moment { IfOk result (λ floor. IsTrue C.tells_readings → floor.hall.moment ≡ moment_of (C.coming kit.clock) 1) }
+        ensures hall { IfOk result (λ floor. IsEmptyHall options.now epoch floor.held.hall.moment floor.held.hall) }
+        ensures open { IfOk result (λ floor. floor.held.flushed ≡ false) }
+        ensures opens { (files : Files) → IfOk result (λ floor. StandsFor floor.held.hall files (empty_state options.now epoch floor.held.hall.moment)) }
+        ensures stands { (files : Files) → IsUnused files → IfOk result (λ floor. HoldsFor floor.held.hall files (empty_state options.now epoch floor.held.hall.moment)) }
+        ensures moment { IfOk result (λ floor. IsTrue C.tells_readings → floor.held.hall.moment ≡ moment_of (C.coming kit.clock) 1) }
         ensures coming { IfOk result (λ floor. IsTrue C.tells_readings → ((n : ℕ) → C.coming floor.clock n ≡ C.coming kit.clock (n + 1))) }
         ensures folder { IfOk result (λ floor. floor.folder ≡ kit.folder) }
         ensures journal { IfOk result (λ floor. floor.journal ≡ kit.journal) }
@@ -72,61 +73,62 @@ impl<F: Folder, C: Clock, J: Journal<Entry>> Floor<F, C, J> {
             mut clock,
             journal,
         } = kit;
-        let hall = SoundHall::new(Hall::new(alloc, options, epoch, clock.now()));
+        let held = SoundHall::new(Hall::new(alloc, options, epoch, clock.now()));
         Ok(Floor {
             folder,
             clock,
             journal,
-            hall,
+            held,
             scratch,
         })
     }
 
     /// The run's epoch, below 2^24.
     pub fn epoch(&self) -> u32
-        ensures value { result ≡ self.now.hall.epoch }
+        ensures value { result ≡ self.now.held.hall.epoch }
         ensures bound { result < 2 ^ 24 }
     {
-        self.hall.get().epoch
+        self.held.get().epoch
     }
 
     /// The moment of the opening, in nanoseconds.
     pub fn began(&self) -> u64
-        ensures { result ≡ self.now.hall.began_at }
+        ensures { result ≡ self.now.held.hall.began_at }
     {
-        self.hall.get().began_at
+        self.held.get().began_at
     }
 
-    /// The names of all topics and channels. Want of memory is the only error.
+    /// The names of all topics and channels. Want of memory is the only error. Requires that it wasn't flushed.
     pub fn names(&self, alloc: Global) -> Result<Names, Memory>
-        ensures { IfOk result (λ names. names ≡ hall_names self.now.hall) }
+        requires { self.now.held.flushed ≡ false }
+        ensures { IfOk result (λ names. names ≡ hall_names self.now.held.hall) }
     {
-        names(self.hall.get(), alloc)
+        names(self.held.get(), alloc)
     }
 
     /// The durable topics and channels with their pauses, in byte order. Want of memory is the only error.
     pub fn kept(&self, alloc: Global) -> Result<Vec<KeptTopic>, Memory>
-        ensures { IfOk result (λ kept. kept.items ≡ hall_kept self.now.hall) }
+        ensures { IfOk result (λ kept. kept.items ≡ hall_kept self.now.held.hall) }
     {
-        kept(self.hall.get(), alloc)
+        kept(self.held.get(), alloc)
     }
 
     /// Whether durable names or pauses changed since they were saved last.
     pub fn changed(&self) -> bool
-        ensures { result ≡ self.now.hall.unsaved_names }
+        ensures { result ≡ self.now.held.hall.unsaved_names }
     {
-        self.hall.get().unsaved_names
+        self.held.get().unsaved_names
     }
 
     /// The durable names and pauses were saved as they are.
     pub fn saved(&mut self)
-        ensures hall { self.new.hall ≡ record self.old.hall { unsaved_names = false } }
+        ensures held { self.new.held ≡ record (self.old.held) { hall = record (self.old.held.hall) { unsaved_names = false } } }
         ensures folder { self.new.folder ≡ self.old.folder }
         ensures clock { self.new.clock ≡ self.old.clock }
         ensures journal { self.new.journal ≡ self.old.journal }
-        ensures stands { (files : Files) (s : State) → HoldsFor self.old.hall files s → HoldsFor self.new.hall files s }
+        ensures stands { (files : Files) (s : State) → HoldsFor self.old.held.hall files s → HoldsFor self.new.held.hall files s }
     {
-        self.hall.saved();
+        self.held.saved();
     }
 
     /// Replaces a file of the folder by way of a temporary one, so that the file has the old content or these bytes at every moment. It takes no memory.
@@ -137,14 +139,14 @@ impl<F: Folder, C: Clock, J: Journal<Entry>> Floor<F, C, J> {
         requires temp { (queue : List ℕ) → IsQueueName queue → IsOwnFile queue temp.now → ⊥ }
         ensures content { IsTrue F.tells_files → Replaces (F.files self.old.folder) (F.files self.new.folder) name.now temp.now bytes.now result }
         ensures others { IsTrue F.tells_files → OnlyTwoChange (F.files self.old.folder) (F.files self.new.folder) name.now temp.now }
-        ensures stands { IsTrue F.tells_files → (s : State) → HoldsFor self.old.hall (F.files self.old.folder) s → HoldsFor self.new.hall (F.files self.new.folder) s }
-        ensures hall { self.new.hall ≡ self.old.hall }
+        ensures stands { IsTrue F.tells_files → self.old.held.flushed ≡ false → (s : State) → HoldsFor self.old.held.hall (F.files self.old.folder) s → HoldsFor self.new.held.hall (F.files self.new.folder) s }
+        ensures held { self.new.held ≡ self.old.held }
         ensures clock { self.new.clock ≡ self.old.clock }
         ensures journal { self.new.journal ≡ self.old.journal }
         ensures faults { F.folder_faults self.old.folder ≤ F.folder_faults self.new.folder }
         ensures cause { DidFails (F.folder_faults self.old.folder) (F.folder_faults self.new.folder) result }
     {
-        let _hall = self.hall.get();
+        let _hall = self.held.get();
         replace_file(&mut self.folder, name, temp, bytes)
     }
 
@@ -159,7 +161,7 @@ impl<F: Folder, C: Clock, J: Journal<Entry>> Floor<F, C, J> {
             folder,
             clock,
             journal,
-            hall: _hall,
+            held: _held,
             scratch: _scratch,
         } = self;
         Kit {

@@ -1,4 +1,4 @@
-ghost use Rattle.std.specs.Prelude.{◌≡◌, ◌^◌, ◌≤◌, max, min, IsTrue, false, length};
+ghost use Rattle.std.specs.Prelude.{◌≡◌, ◌^◌, ◌<◌, ◌≤◌, max, min, IsTrue, false, true, length};
 ghost use Rattle.nsq_outside.specs.Files.{Files};
 ghost use Rattle.backlog.specs.Answers.{FlushFails};
 ghost use Rattle.broker_history.specs.State.{State};
@@ -23,53 +23,66 @@ use std::alloc::Global;
 use std::marker::Model;
 use std::sync::ledger::Ledger;
 
-// A hall that is sound.
+// A hall that is sound until all that it has in memory was written at a stop.
 #[derive(Drop)]
 pub(crate) struct SoundHall {
     hall: Hall,
+    // Whether that was done.
+    flushed: bool,
 }
 
 impl Model for SoundHall {
-    ghost use Rattle.floor_rooms.specs.Sound.{IsSound};
-    ghost use Rattle.floor_rooms.specs.declared.hall.Hall.{Hall as Holding};
+    ghost use Rattle.broker_floor.specs.Held.{Held, IsHeld};
 
-    ghost Value = { Holding };
+    ghost Value = { Held };
 
-    ghost view = { λ s. s.hall };
+    ghost view = { λ s. record { hall = s.hall; flushed = s.flushed } };
 
-    ghost invariant = { λ s. IsSound s.hall };
+    ghost invariant = { λ s. IsHeld s.hall s.flushed };
 }
 
 impl SoundHall {
     // This hall.
     pub(crate) fn new(hall: Hall) -> SoundHall
         requires { IsSound hall }
-        ensures { result ≡ hall }
+        ensures { result ≡ record { hall = hall; flushed = false } }
     {
-        SoundHall { hall }
+        SoundHall {
+            hall,
+            flushed: false,
+        }
+    }
+
+    // Whether all that it has in memory was written.
+    pub(crate) fn is_flushed(&self) -> bool
+        ensures { result ≡ self.now.flushed }
+    {
+        self.flushed
     }
 
     // The hall.
     pub(crate) fn get(&self) -> &Hall
-        ensures same { result.now ≡ self.now }
-        ensures sound { IsSound result.now }
+        ensures same { result.now ≡ self.now.hall }
+        ensures sound { self.now.flushed ≡ false → IsSound result.now }
+        ensures epoch { result.now.epoch < 2 ^ 24 }
     {
         &self.hall
     }
 
     // The clock was read.
     pub(crate) fn pass(&mut self, reading: u64)
-        ensures is { self.new ≡ record self.old { moment = max self.old.moment (min reading (2 ^ 62)) } }
-        ensures bounded { self.new.moment ≤ 2 ^ 62 }
-        ensures stands { (files : Files) (s : State) → HoldsFor self.old files s → HoldsFor self.new files s }
+        requires { self.old.flushed ≡ false }
+        ensures is { self.new ≡ record (self.old) { hall = record (self.old.hall) { moment = max self.old.hall.moment (min reading (2 ^ 62)) } } }
+        ensures bounded { self.new.hall.moment ≤ 2 ^ 62 }
+        ensures stands { (files : Files) (s : State) → HoldsFor self.old.hall files s → HoldsFor self.new.hall files s }
     {
         self.hall.pass(reading);
     }
 
     // The durable names and pauses were saved as they are.
     pub(crate) fn saved(&mut self)
-        ensures is { self.new ≡ record self.old { unsaved_names = false } }
-        ensures stands { (files : Files) (s : State) → HoldsFor self.old files s → HoldsFor self.new files s }
+        ensures is { self.new ≡ record (self.old) { hall = record (self.old.hall) { unsaved_names = false } } }
+        ensures stands { (files : Files) (s : State) → HoldsFor self.old.hall files s → HoldsFor self.new.hall files s }
     {
         self.hall.unsaved_names = false;
     }
@@ -85,10 +98,12 @@ impl SoundHall {
         journal: &mut J,
         steps: &mut Steps<L>,
     ) -> Turned
+        requires open { self.old.flushed ≡ false }
         requires can { CanCall call }
         requires calm { J.is_aside journal.old ≡ false }
         requires scratch { 16777242 ≤ length scratch.old }
-        ensures turn { TakesTurn J.tells_notes F.tells_files number call result (sight self.old (J.notes journal.old) (F.files folder.old) (F.folder_faults folder.old)) (sight self.new (J.notes journal.new) (F.files folder.new) (F.folder_faults folder.new)) }
+        ensures turn { TakesTurn J.tells_notes F.tells_files number call result (sight self.old.hall (J.notes journal.old) (F.files folder.old) (F.folder_faults folder.old)) (sight self.new.hall (J.notes journal.new) (F.files folder.new) (F.folder_faults folder.new)) }
+        ensures open { self.new.flushed ≡ false }
         ensures calm { J.is_aside journal.new ≡ false }
         ensures files { IsTrue F.tells_files → OnlyQueueFiles (F.files folder.old) (F.files folder.new) }
     {
@@ -111,14 +126,17 @@ impl SoundHall {
         scratch: &mut [u8],
         steps: &mut Steps<L>,
     ) -> Flushed
-        requires { 16777242 ≤ length scratch.old }
-        ensures left { IsTrue F.tells_files → (s : State) → HoldsFor self.old (F.files folder.old) s → LeavesWhere result s (F.files folder.new) }
-        ensures kept { hall_kept self.new ≡ hall_kept self.old }
-        ensures rest { self.new ≡ record self.old { rooms = self.new.rooms } }
+        requires open { self.old.flushed ≡ false }
+        requires scratch { 16777242 ≤ length scratch.old }
+        ensures left { IsTrue F.tells_files → (s : State) → HoldsFor self.old.hall (F.files folder.old) s → LeavesWhere result s (F.files folder.new) }
+        ensures kept { hall_kept self.new.hall ≡ hall_kept self.old.hall }
+        ensures rest { self.new ≡ record { hall = record (self.old.hall) { rooms = self.new.hall.rooms }; flushed = true } }
         ensures files { IsTrue F.tells_files → OnlyQueueFiles (F.files folder.old) (F.files folder.new) }
         ensures faults { F.folder_faults folder.old ≤ F.folder_faults folder.new }
         ensures cause { FlushFails (F.folder_faults folder.old) (F.folder_faults folder.new) result }
     {
-        flush_all(&mut self.hall, folder, scratch, steps)
+        let flushed = flush_all(&mut self.hall, folder, scratch, steps);
+        self.flushed = true;
+        flushed
     }
 }

@@ -23,7 +23,7 @@ use Rattle.desk.specs.declared.call.Call.{Call}
 use Rattle.desk.specs.declared.call.Call.TheVariants as call
 use Rattle.desk.specs.declared.turned.Turned.{Turned}
 use Rattle.desk.specs.declared.turned.Turned.TheVariants as turned
-use Rattle.desk.specs.Answers.{Answers, AnswersCommand, EndsAtStop}
+use Rattle.desk.specs.Answers.{Answers, AnswersCommand, EndsAtStop, IsShortAnswer}
 use Rattle.negotiation.specs.declared.identity.Identity.{Identity}
 use Rattle.floor_rooms.specs.declared.hall.Hall.{Hall}
 use Rattle.floor_rooms.specs.Sound.{IsSound}
@@ -143,9 +143,9 @@ fault_act act before now rose = rose
 
 module _ (tells_notes tells_files : Bool) (number : ℕ) (c : Call) (h h' : Hall) (n n' : History) (f f' : Files) (k k' : ℕ) (sound : IsSound h) (stays : StaysSet h h') (faults : k ≤ k') where
   -- the act was made
-  pub acts_made : (act : Act) (e : End) (answer : Turned) → IsPlannedFor h number c act → IsNoted e → answer ≡ answer_of h.moment act e → (IsTrue tells_notes → n' ≡ n ++ (entry_of (conn_of act number) h.moment act, e) ∷ [])
+  pub acts_made : (act : Act) (e : End) (answer : Turned) → IsPlannedFor h number c act → IsNoted e → answer ≡ answer_of h.moment act e → IsShortAnswer answer → (IsTrue tells_notes → n' ≡ n ++ (entry_of (conn_of act number) h.moment act, e) ∷ [])
       → (IsTrue tells_files → ActCarries h f h' f' (conn_of act number) act e) → (is_faulted e ≡ true → Rose k k') → LeavesClients act (conn_of act number) h h' → Acts tells_notes tells_files number c answer (sight h n f k) (sight h' n' f' k')
-  acts_made act e answer planned i is noted does cause clients =
+  acts_made act e answer planned i is short noted does cause clients =
       let conn : ℕ = conn_of act number in
       let entry : Entry × End = (entry_of conn h.moment act, e) in
       record {
@@ -154,6 +154,7 @@ module _ (tells_notes tells_files : Bool) (number : ℕ) (c : Call) (h h' : Hall
         held_back = tt;
         sending = inl refl;
         act = record { now = refl; names = refl; answers = subst (λ a. Answers c entry a) (sym is) (answered h number conn h.moment e c act planned.is) };
+        short = short;
         noted = noted;
         leads = λ told s holds may.
             let allowed : IsAllowedAct s h.moment conn act Done = subst (λ m. IsAllowedAct s h.moment m act Done) (sym (conn_is h number c act planned.is)) (planned.stands f s holds may) in
@@ -183,6 +184,7 @@ module _ (tells_notes tells_files : Bool) (number : ℕ) (c : Call) (h h' : Hall
     held_back = tt;
     sending = inl refl;
     act = refl;
+    short = tt;
     noted = noted;
     leads = λ told s holds may.
         let to = rests told s holds in

@@ -18,7 +18,7 @@ use Rattle.desk.specs.declared.call.Call.{Call}
 use Rattle.desk.specs.declared.call.Call.TheVariants as call
 use Rattle.desk.specs.declared.turned.Turned.{Turned}
 use Rattle.desk.specs.declared.turned.Turned.TheVariants as turned
-use Rattle.desk.specs.Answers.{said_at}
+use Rattle.desk.specs.Answers.{IsShortAnswer, said_at}
 use Rattle.desk.specs.Calls.{CanCall}
 use Rattle.negotiation.specs.declared.identity.Identity.{Identity}
 use Rattle.floor_rooms.specs.declared.hall.Hall.{Hall}
@@ -153,6 +153,7 @@ pub record Acts (tells_notes tells_files : Bool) (number : ℕ) (c : Call) (answ
   pub held_back : AreHeldBack old.hall.moment held
   pub sending : (held ≡ []) ⊎ (c ≡ call.Next)
   pub act : ActsBy old.hall.moment number c answer acts
+  pub short : IsShortAnswer answer
   pub noted : IsTrue tells_notes → new.noted ≡ old.noted ++ (held ++ acts)
   pub leads : IsTrue tells_files → (s : State) → HoldsFor old.hall old.files s → MayBegin s number c → Passes old.hall.moment held acts s new
   pub rose : IsTrue tells_files → (s : State) → HoldsFor old.hall old.files s → RoseBy (faults_of acts) old.faults new.faults

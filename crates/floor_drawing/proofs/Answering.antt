@@ -37,6 +37,7 @@ use Rattle.floor_rooms.specs.Standing.{Carries, HoldsFor}
 use Rattle.floor_rooms.proofs.Dating.{since_kept}
 use Rattle.floor_rooms.proofs.Naming.{names_kept}
 use Rattle.floor_rooms.proofs.Orders.{holds_at}
+use Rattle.floor_rooms.proofs.Placing.{at_place}
 use Rattle.floor_replies.specs.Replies.{IsShortFrame}
 use Rattle.floor_moves.specs.declared.due.Place.{Place}
 use Rattle.floor_moves.specs.Moves.{Keeps, NothingNoted, RoseBy, Sight, sight}
@@ -215,3 +216,16 @@ module _ (tells_notes tells_files : Bool) (number : ℕ) (place : Place) (h h' :
     where
       undamaged : IsTrue tells_files → (u : State) → HoldsFor h f u → Rose k k'
       undamaged told u holds = absurd (no_damage tells_files number place f f' k k' h h' s running d told u holds)
+
+-- the channel that was read at a place
+pub sticks_found : (tells : Bool) (number : ℕ) (place : Place) (h : Hall) (n n' : History) (answer : Turned) (room : Room) (stall : Stall) → place.room < length h.rooms.items → HoldsAt (λ (r : Room). place.stall < length r.stalls.items) h.rooms.items place.room → room ≡ get_or h.rooms.items place.room room
+    → stall ≡ get_or room.stalls.items place.stall stall → (topic channel : List ℕ) → topic ≡ topic_name room → channel ≡ channel_name stall → IsIdleBy tells (entry_of number h.moment (Stuck topic (Some channel)), Faulted 0) n n' answer → SticksAt tells number place h n n' answer
+sticks_found tells number place h n n' answer room stall within in_room r s topic channel t k noted = record {
+  room = room;
+  stall = stall;
+  there = at_place h.rooms.items place.room room within r;
+  has = at_place room.stalls.items place.stall stall (subst (λ (x : Room). place.stall < length x.stalls.items) (sym r) (in_room room)) s;
+  is =
+      subst (λ c. IsIdleBy tells (entry_of number h.moment (Stuck (topic_name room) (Some c)), Faulted 0) n n' answer) k
+      (subst (λ x. IsIdleBy tells (entry_of number h.moment (Stuck x (Some channel)), Faulted 0) n n' answer) t noted);
+}

@@ -91,6 +91,9 @@ module _ (tells_notes tells_files : Bool) (number : ℕ) (place : Place) (id : L
   pub held_moment : h'.moment ≤ 2 ^ 62
   held_moment = subst (λ m. m ≤ 2 ^ 62) (sym drawn_at) d.sound.moment
 
+  pub marked_running : h.stopped ≡ false → d.marked.stopped ≡ false
+  marked_running running = ap (λ (x : Hall). x.stopped) d.marks ∙ running
+
   marked_keeps : Keeps h d.marked
   marked_keeps = keeps_marked h d.marked _ d.marks d.keeps
 

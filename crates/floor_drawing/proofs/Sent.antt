@@ -1,17 +1,24 @@
 -- A message that was drawn for a client is sent to it, or put back where memory is wanting.
-use Rattle.std.proofs.Common.{◌≡◌, ◌<◌, ◌≤◌, ◌==◌, ℕ, min, set, Bool, true, false, if◌then◌else◌, List, [], ◌∷◌, ◌++◌, length, get_or, Option, Some, None, HoldsAt, is_some, refl, sym, ap, subst, ◌∙◌, arith}
-use Rattle.std.specs.Prelude.{IsSome, IsTrue}
+use Rattle.std.proofs.Common.{◌≡◌, ◌<◌, ◌≤◌, ◌==◌, ◌^◌, ℕ, min, set, Bool, true, false, if◌then◌else◌, List, [], ◌∷◌, ◌++◌, length, get_or, Option, Some, None, HoldsAt, is_some, refl, sym, ap, subst, ◌∙◌, arith}
+use Rattle.std.specs.Prelude.{IfSome, IsSome, IsTrue}
 use Rattle.std.proofs.lemmas.Bool.{eqb-true, false≢true}
 use Rattle.nsq_outside.specs.Files.{Files}
+use Rattle.nsq_outside.specs.Journals as journals
 use Rattle.nsq_outside.specs.declared.journal.End.TheVariants.{Done}
 use Rattle.v2_frame.specs.declared.frame.Frame.{Frame}
 use Rattle.v2_frame.specs.declared.message.Message.{Message}
+use Rattle.backlog.specs.Seen.{FitsLimit}
 use Rattle.broker_history.specs.declared.entry.Act.TheVariants.{Sent}
+use Rattle.broker_history.specs.declared.entry.Entry.{Entry}
 use Rattle.broker_history.specs.State.{Client, State, counted}
 use Rattle.broker_history.specs.Reply.{message_frame}
 use Rattle.broker_history.specs.Entries.{History}
 use Rattle.broker_history.specs.Step.{DoesSend}
+use Rattle.channel_copies.specs.Clients.{client_of}
+use Rattle.channel_core.specs.declared.answers.Next.{Next}
 use Rattle.channel_core.specs.declared.answers.Next.TheVariants as next
+use Rattle.channel_core.specs.Drawing.{IsDrawnFor}
+use Rattle.channel_core.specs.Seen.{Seen as ChannelSeen}
 use Rattle.desk.specs.declared.call.Call.TheVariants as call
 use Rattle.desk.specs.declared.turned.Turned.TheVariants as turned
 use Rattle.floor_clients.specs.Places.{AreInOrder, BelongsAt, StandsAt}
@@ -29,15 +36,19 @@ use Rattle.floor_replies.specs.Replies.{IsShortFrame}
 use Rattle.floor_moves.specs.declared.due.Place.{Place}
 use Rattle.floor_moves.specs.Moves.{Keeps, sight}
 use Rattle.floor_acts.specs.Acts.{ChangesAt}
-use Rattle.floor_acts.specs.Sending.{HasDrawn, IsToSend}
+use Rattle.floor_acts.specs.Sending.{DrawsStall, HasDrawn, IsDrawnForSome, IsToSend}
 use Rattle.floor_acts.proofs.Drawing.{draw_faults}
-use Rattle.floor_acts.proofs.Flying.{some_same}
+use Rattle.floor_acts.proofs.Flying.{range_behind, some_same, stall_range_behind}
 use Rattle.floor_acts.proofs.Putting.{put_at_place}
 use Rattle.floor_acts.proofs.Returning.{holds_behind}
 use Rattle.floor_turns.specs.Acting.{Acts, StaysSet}
+use Rattle.floor_turns.proofs.Carrying.{noted_act}
 use Rattle.floor_drawing.specs.Drawing.{IsServedAt, entry_of}
 use Rattle.floor_drawing.proofs.Answering.{acts_one, leaves_same, wants}
-use Rattle.floor_drawing.proofs.Serving.{member_drawn, sends_now}
+use Rattle.floor_drawing.proofs.Serving.{member_drawn, sends_now, there_marked}
+
+pub some_is : {X : Type 0} (o : Option X) (x : X) → o ≡ Some x → IsSome o
+some_is o x e = subst IsSome (sym e) refl
 
 pub some_of : {X : Type 0} (o : Option X) → IsSome o → (x : X) × (o ≡ Some x)
 some_of None h = absurd (let no : ⊥ = cc in no)
@@ -148,3 +159,68 @@ module _ (tells_notes tells_files : Bool) (number : ℕ) (place : Place) (m : Me
           record { allowed = sends_now tells_files number place f0 f1 k0 k1 hb h1 s running m d told u holds; to = to.0; does = to.1; holds = to.2 })
           (λ told u holds. omega (arith, faults)) (λ faulted. absurd cc)
           (leaves_same (Sent m) number hb h4 (λ n there. refl) refl (record { there = there_stays sound; stopped = ap (λ (x : Hall). x.stopped) sent_rest }))
+
+-- where it stands, once it was drawn
+module _ (tells : Bool) (number : ℕ) (place : Place) (answer : Next) (f f' : Files) (n n' : ℕ) (h h' : Hall) (d : HasDrawn tells place.room place.stall number answer f f' n n' h h') where
+  abbrev Drew : Stall → Stall → Type 0
+  Drew = DrawsStall tells number d.marked.moment answer f f' n n'
+
+  pub room_behind : place.room < length h'.rooms.items
+  room_behind = range_behind place.room place.stall Drew d.marked.rooms.items h'.rooms.items d.at
+
+  pub stall_behind : HoldsAt (λ (r : Room). place.stall < length r.stalls.items) h'.rooms.items place.room
+  stall_behind = stall_range_behind place.room place.stall Drew d.marked.rooms.items h'.rooms.items d.at
+
+  pub order_behind : AreInOrder h'.clients.items
+  order_behind = subst (λ (x : Hall). AreInOrder x.clients.items) (sym d.rest) d.sound.client_order
+
+  pub client_behind : IsServedAt h number place → IsSome (client_in h'.clients.items number)
+  client_behind s = some_is (client_in h'.clients.items number) s.client (ap (λ (x : Hall). client_in x.clients.items number) d.rest ∙ there_marked tells number place answer f f' n n' h h' d s)
+
+  pub moment_behind : h'.moment ≤ 2 ^ 62
+  moment_behind = subst (λ (x : Hall). x.moment ≤ 2 ^ 62) (sym d.rest) d.sound.moment
+
+-- what was drawn is to be sent
+module _ (tells : Bool) (number : ℕ) (place : Place) (m : Message) (f f' : Files) (n n' : ℕ) (h h' : Hall) (d : HasDrawn tells place.room place.stall number (next.Send m) f f' n n' h h') where
+  pub drawn_short : FitsLimit m
+  drawn_short = d.at.does.does.drawn.1
+
+  pub drawn_behind : IsServedAt h number place → HoldsAt (λ (r : Room). HoldsAt (IsToSend h'.moment number m) r.stalls.items place.stall) h'.rooms.items place.room
+  drawn_behind s =
+      holds_behind place.room place.stall (DrawsStall tells number d.marked.moment (next.Send m) f f' n n') d.marked.rooms.items h'.rooms.items (IsToSend h'.moment number m) d.at (record {
+        drawn = subst (λ at. IsDrawnFor number m at d.at.does.after.channel.drawn) (sym (ap (λ (x : Hall). x.moment) d.rest)) d.at.does.does.drawn.0;
+        member =
+            some_is (client_of d.at.does.after.channel.clients number) (record { timeout = s.client.timeout; ready = s.client.ready })
+            (ap (λ (v : ChannelSeen). client_of v.clients number) d.at.does.does.rest ∙ member_drawn tells number place (next.Send m) f f' n n' h h' d s);
+      })
+
+-- it may be put back
+pub undo_drawn : (now number : ℕ) (m back : Message) (rooms : List Room) (i j : ℕ) → back ≡ m → HoldsAt (λ (r : Room). HoldsAt (IsToSend now number m) r.stalls.items j) rooms i → HoldsAt (λ (r : Room). HoldsAt (λ (s : Stall). IsDrawnForSome back s.channel.drawn) r.stalls.items j) rooms i
+undo_drawn now number m back rooms i j same drawn r s =
+    subst (λ x. IsDrawnForSome x (get_or (get_or rooms i r).stalls.items j s).channel.drawn) (sym same) (number, now, (drawn r s).drawn)
+
+-- the message came back from its entry
+pub lent_drawn : (tells : Bool) (i j number : ℕ) (m back : Message) (f0 f1 : Files) (k0 k1 : ℕ) (hb h1 : Hall) → back ≡ m → HasDrawn tells i j number (next.Send m) f0 f1 k0 k1 hb h1 → HasDrawn tells i j number (next.Send back) f0 f1 k0 k1 hb h1
+lent_drawn tells i j number m back f0 f1 k0 k1 hb h1 same d = subst (λ x. HasDrawn tells i j number (next.Send x) f0 f1 k0 k1 hb h1) (sym same) d
+
+pub lent_to_send : (now number : ℕ) (m back : Message) (rooms : List Room) (i j : ℕ) → back ≡ m → HoldsAt (λ (r : Room). HoldsAt (IsToSend now number m) r.stalls.items j) rooms i → HoldsAt (λ (r : Room). HoldsAt (IsToSend now number back) r.stalls.items j) rooms i
+lent_to_send now number m back rooms i j same drawn = subst (λ x. HoldsAt (λ (r : Room). HoldsAt (IsToSend now number x) r.stalls.items j) rooms i) (sym same) drawn
+
+-- it was settled, at the client's place
+module _ (tells_notes tells_files : Bool) (number : ℕ) (place : Place) (m back : Message) (same : back ≡ m) (f1 f2 : Files) (k1 k2 : ℕ) (h1 h4 : Hall) (k : ℕ) (client : IsSome (client_in h1.clients.items number)) (st : StandsAt h1.clients.items number k) where
+  abbrev Drawn : Hall → Files → ℕ → ℕ → Type 0
+  Drawn before old faults n = HasDrawn tells_files place.room place.stall n (next.Send back) old f1 faults k1 before h1
+
+  -- a clause of the settling
+  pub of_client : (P : ℕ → Type 0) (before : Hall) (old : Files) (faults : ℕ) → HoldsAt (λ (c : Client). Drawn before old faults c.number → P c.number) h1.clients.items k → HasDrawn tells_files place.room place.stall number (next.Send m) old f1 faults k1 before h1 → P number
+  of_client P before old faults all d =
+      by_number (λ n. Drawn before old faults n → P n) h1.clients.items number k client st all (lent_drawn tells_files place.room place.stall number m back old f1 faults k1 before h1 same d)
+
+  pub sending_acts : h4 ≡ record h1 { clients = h4.clients; rooms = h4.rooms; quiet_until = h4.quiet_until } → ChangesAt k (λ c. record c { message_count = counted c.message_count }) h1.clients.items h4.clients.items → k1 ≤ k2
+      → (before : Hall) (old : Files) (faults : ℕ) (n mid n' : History) (kept : Option Entry) (frame : Frame) → HasDrawn tells_files place.room place.stall number (next.Send m) old f1 faults k1 before h1 → IsSound before → before.stopped ≡ false → IsServedAt before number place
+      → KeepsRooms before.moment before.rooms.items h4.rooms.items → (IsTrue tells_files → Carries before old h4 f2 (λ u t. DoesSend u before.moment number back t)) → frame ≡ message_frame m → IsShortFrame frame
+      → (IsTrue tells_notes → kept ≡ Some (entry_of number h1.moment (Sent m))) → (IsTrue tells_notes → mid ≡ n) → (IsTrue tells_notes → IfSome kept (λ x. journals.Notes mid n' x Done)) → Acts tells_notes tells_files number call.Next (turned.Send frame) (sight before n old faults) (sight h4 n' f2 k2)
+  sending_acts rest changes later before old faults n mid n' kept frame d sound running s rooms does is short keeps stays notes =
+      acts_sent tells_notes tells_files number place back old f1 faults k1 before h1 (lent_drawn tells_files place.room place.stall number m back old f1 faults k1 before h1 same d) h4 rest rooms k st changes s n n' f2 k2 frame sound running later does
+      (subst (λ x. frame ≡ message_frame x) (sym same) is) short
+      (λ told. subst (λ x. n' ≡ n ++ (entry_of number h1.moment (Sent x), Done) ∷ []) (sym same) (noted_act tells_notes n mid n' kept (entry_of number h1.moment (Sent m)) Done tt keeps stays notes told))

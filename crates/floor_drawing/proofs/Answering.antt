@@ -2,7 +2,7 @@
 use Rattle.std.proofs.Common.{◌≡◌, ◌⊎◌, inl, inr, ◌<◌, ◌≤◌, ◌==◌, ◌||◌, ◌^◌, ℕ, ◌+◌, ◌-◌, min, set, Bool, true, false, if◌then◌else◌, List, [], ◌∷◌, ◌++◌, length, get_or, Option, Some, None, HoldsAt, is_some, refl, sym, ap, subst, ◌∙◌, arith}
 use Rattle.std.specs.Prelude.{IfSome, IsTrue, slice_get, slice_set}
 use Rattle.std.specs.Global.{Vec}
-use Rattle.std.proofs.lemmas.Bool.{eqb-true}
+use Rattle.std.proofs.lemmas.Bool.{false≢true}
 use Rattle.std.proofs.lemmas.List.{append-nil}
 use Rattle.std.proofs.lemmas.Option.{get_or_from_slice_get}
 use Rattle.nsq_outside.specs.Causes.{Rose}
@@ -21,6 +21,7 @@ use Rattle.broker_history.specs.Legal.{none}
 use Rattle.broker_history.specs.Step.{DoesAct, DoesSend, IsAllowedAct}
 use Rattle.channel_core.specs.declared.answers.Next.{Next}
 use Rattle.channel_core.specs.declared.answers.Next.TheVariants as next
+use Rattle.channel_core.specs.Seen.{Seen as ChannelSeen}
 use Rattle.desk.specs.declared.call.Call.TheVariants as call
 use Rattle.desk.specs.declared.turned.Turned.{Turned}
 use Rattle.desk.specs.declared.turned.Turned.TheVariants as turned
@@ -130,7 +131,7 @@ module _ (tells_notes tells_files : Bool) (number : ℕ) (h h' : Hall) (n n' : H
 
   pub idle : (IsTrue tells_files → (s : State) → HoldsFor h f s → IsAllowedAct s h.moment number Idle Done) → (answer : Turned) → IsIdleBy tells_notes (entry_of number h.moment Idle, Done) n n' answer → ActsBy answer
   idle allowed turned.Idle noted =
-      acts_one tells_notes tells_files number h h' n n' f f' k k' sound (stays_kept h h' keeps) faults Idle Done turned.Idle refl tt tt noted (idle_does Idle Done (λ s t same. same) allowed) (λ told s holds. omega (arith, faults)) (λ faulted. absurd cc)
+      acts_one tells_notes tells_files number h h' n n' f f' k k' sound (stays_kept h h' keeps) faults Idle Done turned.Idle refl tt tt noted (idle_does Idle Done (λ s t same. same) allowed) (λ told s holds. omega (arith, faults)) (λ faulted. absurd (false≢true faulted))
       (leaves_same Idle number h h' (λ m there. refl) refl (same_kept h h' keeps))
   idle allowed turned.Memory noted = wants noted
   idle allowed answer noted = absurd noted
@@ -194,7 +195,7 @@ module _ (tells_notes tells_files : Bool) (number : ℕ) (place : Place) (h h' :
     topic_is = ap topic_name same_room ∙ ap (λ (r : Room). r.queue.name) d.at.does.is
 
     channel_is : channel_name x.stall ≡ channel_name d.at.does.stall
-    channel_is = ap channel_name same_stall ∙ ap (λ c. c.about.name) d.at.does.does.rest
+    channel_is = ap channel_name same_stall ∙ ap (λ (v : ChannelSeen). v.about.name) d.at.does.does.rest
 
     stuck_noted : IsIdleBy tells_notes (entry_of number h.moment (Stuck (topic_name x.room) (Some (channel_name x.stall))), Faulted 0) n n' answer
     stuck_noted = subst (λ m. IsIdleBy tells_notes (entry_of number m (Stuck (topic_name x.room) (Some (channel_name x.stall))), Faulted 0) n n' answer) (keeps_drawn tells_files place.room place.stall number next f f' k k' h h' d).moment x.is

@@ -157,7 +157,7 @@ module _ (tells_notes tells_files : Bool) (number : ℕ) (place : Place) (m : Me
           (λ told u holds.
           let to = does told u holds in
           record { allowed = sends_now tells_files number place f0 f1 k0 k1 hb h1 s running m d told u holds; to = to.0; does = to.1; holds = to.2 })
-          (λ told u holds. omega (arith, faults)) (λ faulted. absurd cc)
+          (λ told u holds. omega (arith, faults)) (λ faulted. absurd (false≢true faulted))
           (leaves_same (Sent m) number hb h4 (λ n there. refl) refl (record { there = there_stays sound; stopped = ap (λ (x : Hall). x.stopped) sent_rest }))
 
 -- where it stands, once it was drawn

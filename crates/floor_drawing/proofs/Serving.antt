@@ -17,6 +17,7 @@ use Rattle.broker_history.specs.declared.entry.Act.TheVariants.{Idle, Sent, Stuc
 use Rattle.broker_history.proofs.Lists.{find_passes}
 use Rattle.channel_copies.specs.Clients.{client_of}
 use Rattle.channel_copies.specs.declared.clients.Client as copies
+use Rattle.channel_core.specs.declared.about.About.{About}
 use Rattle.channel_core.specs.declared.answers.Next.{Next}
 use Rattle.channel_core.specs.declared.answers.Next.TheVariants as next
 use Rattle.channel_core.specs.Drawing.{Draws, NextWhere, ready_of}
@@ -84,7 +85,7 @@ pub stands_kept : (at : ℕ) (old new : List Room) (spot : Spot) (route : Route)
 stands_kept at old new spot route keeps s =
     let room = pair_at (KeepsRoom at) old new spot.room s.room keeps s.there in
     let stall = pair_at (KeepsStall at) s.room.stalls.items room.0.stalls.items spot.stall s.stall room.2.stalls s.has in
-    record { room = room.0; stall = stall.0; there = room.1; has = stall.1; topic = room.2.name ∙ s.topic; channel = ap (λ a. a.name) stall.2.about ∙ s.channel }
+    record { room = room.0; stall = stall.0; there = room.1; has = stall.1; topic = room.2.name ∙ s.topic; channel = ap (λ (a : About). a.name) stall.2.about ∙ s.channel }
 
 pub served_kept : (h h' : Hall) (number : ℕ) (place : Place) → Keeps h h' → IsServedAt h number place → IsServedAt h' number place
 served_kept h h' number place keeps s = record {
@@ -210,8 +211,8 @@ module _ (tells : Bool) (number : ℕ) (place : Place) (answer : Next) (f f' : F
           is = (
             may_be_sent u holds credit,
             ap (λ c. is_free message.id (copies_in c)) o.its
-            ∙ ap (λ m. m == 0) (sym ((counts_alike (seen_channel d.at.does.stall.channel o.is.disk) o.channel o.is.is_kept).of_id message.id))
-            ∙ free o.is.disk (d.at.does.does.gives told o.is.disk o.is.on_disk),
+                ∙ ap (λ m. m == 0) (sym ((counts_alike (seen_channel d.at.does.stall.channel o.is.disk) o.channel o.is.is_kept).of_id message.id))
+                ∙ free o.is.disk (d.at.does.does.gives told o.is.disk o.is.on_disk),
           );
         }
 

@@ -73,7 +73,7 @@ or_false : (b : Bool) → b ≡ (b || false)
 or_false true = refl
 or_false false = refl
 
-leaves_same : (a : Act) (number : ℕ) (h h' : Hall) → ((m : ℕ) (there : Bool) → there_after a number m there ≡ there) → is_stop a ≡ false → SameClients h h' → LeavesClients a number h h'
+pub leaves_same : (a : Act) (number : ℕ) (h h' : Hall) → ((m : ℕ) (there : Bool) → there_after a number m there ≡ there) → is_stop a ≡ false → SameClients h h' → LeavesClients a number h h'
 leaves_same a number h h' after other same = record {
   there = λ m. same.there m ∙ sym (after m (is_some (client_in h.clients.items m)));
   stopped = same.stopped ∙ or_false h.stopped ∙ ap (λ b. h.stopped || b) (sym other);

@@ -210,7 +210,7 @@ module _ (tells_notes tells_files : Bool) (old now : Sight) (x : HeldSoFar tells
       }
     where
       patient : (s : State) → HoldsFor now.hall now.files s → 0 < s.options.msg_timeout
-      patient s holds = subst (λ (o : Options). 0 < o.msg_timeout) (sym holds.stands.options) (let least = x.sound.options.msg_timeout.at_least in omega (arith, least))
+      patient s holds = subst (λ (o : Options). 0 < o.msg_timeout) (sym holds.stands.options) (let least = x.sound.options.times.msg_timeout.at_least in omega (arith, least))
 
   -- and the act came
   pub held_acts : (number : ℕ) (answer : Turned) (new : Sight) → Acts tells_notes tells_files number call.Next answer now new → Acts tells_notes tells_files number call.Next answer old new

@@ -1,6 +1,6 @@
 -- A message that was drawn for a client is sent to it, or put back where memory is wanting.
 use Rattle.std.proofs.Common.{◌≡◌, ◌<◌, ◌≤◌, ◌==◌, ◌^◌, ℕ, min, set, Bool, true, false, if◌then◌else◌, List, [], ◌∷◌, ◌++◌, length, get_or, Option, Some, None, HoldsAt, is_some, refl, sym, ap, subst, ◌∙◌, arith}
-use Rattle.std.specs.Prelude.{IfSome, IsSome, IsTrue}
+use Rattle.std.specs.Prelude.{IfOk, IfSome, IsSome, IsTrue, OnOk, Result, Ok}
 use Rattle.std.proofs.lemmas.Bool.{eqb-true, false≢true}
 use Rattle.nsq_outside.specs.Files.{Files}
 use Rattle.nsq_outside.specs.Journals as journals
@@ -50,13 +50,20 @@ use Rattle.floor_drawing.proofs.Serving.{member_drawn, sends_now, there_marked}
 pub some_is : {X : Type 0} (o : Option X) (x : X) → o ≡ Some x → IsSome o
 some_is o x e = subst IsSome (sym e) refl
 
+-- what holds of what came
+pub if_ok : {X E : Type 0} (r : Result X E) (x : X) (P : X → Type 0) → r ≡ Ok x → IfOk r P → P x
+if_ok r x P is h = subst (λ o. IfOk o P) is h
+
+pub on_ok : {X E : Type 0} (r : Result X E) (x : X) (Q : Type 0) → r ≡ Ok x → OnOk r Q → Q
+on_ok r x Q is h = subst (λ o. OnOk o Q) is h
+
 pub some_of : {X : Type 0} (o : Option X) → IsSome o → (x : X) × (o ≡ Some x)
 some_of None h = absurd (let no : ⊥ = cc in no)
 some_of (Some x) h = (x, refl)
 
 -- a client that is there has a place
 pub no_place : (cs : List Client) (number k : ℕ) → IsSome (client_in cs number) → BelongsAt cs number k → ⊥
-no_place cs number k there b = let no : IsSome {Client} None = subst IsSome b.found there in let gone : ⊥ = cc in gone
+no_place cs number k there b = let no = subst (λ (o : Option Client). IsSome o) b.found there in let gone : ⊥ = cc in gone
 
 -- what holds by the number of the client at its place
 pub by_number : (P : ℕ → Type 0) (cs : List Client) (number k : ℕ) → IsSome (client_in cs number) → StandsAt cs number k → HoldsAt (λ (c : Client). P c.number) cs k → P number

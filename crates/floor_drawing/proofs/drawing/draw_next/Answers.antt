@@ -58,27 +58,27 @@ hold_back-requires-clause-held g c = held_there g.J.Journal.tells_notes g.F.Fold
 pub hold_back-requires-clause-moment : goal.hold_back-requires-clause-moment
 hold_back-requires-clause-moment g c = held_moment g.J.Journal.tells_notes g.F.Folder.tells_files c.args.number c.args.place c.in-Held.id (g.F.Folder.files c.args.folder.now) (g.F.Folder.files c.draw.new.folder) (g.F.Folder.folder_faults c.args.folder.now) (g.F.Folder.folder_faults c.draw.new.folder) c.args.hall.now c.draw.new.hall c.in-Held.ensures.drawn
 
-pub returns-in-Held-in-Ok-clause-rounds : goal.returns-in-Held-in-Ok-clause-rounds
-returns-in-Held-in-Ok-clause-rounds g c = (
-  held_round g.J.Journal.tells_notes g.F.Folder.tells_files c.args.number c.args.place c.in-Held.id (g.F.Folder.files c.args.folder.now) (g.F.Folder.files c.draw.new.folder) (g.F.Folder.folder_faults c.args.folder.now) (g.F.Folder.folder_faults c.draw.new.folder) c.args.hall.now c.draw.new.hall c.in-Held.ensures.drawn (g.J.Journal.notes c.args.journal.now) (sight c.hold_back.new.hall (g.J.Journal.notes c.hold_back.new.journal) (g.F.Folder.files c.hold_back.new.folder) (g.F.Folder.folder_faults c.hold_back.new.folder)) (c.in-Held-in-Ok.ensures.moves (sight c.in-Held.ensures.drawn.marked (g.J.Journal.notes c.args.journal.now) (g.F.Folder.files c.args.folder.now) (g.F.Folder.folder_faults c.args.folder.now)) (drawn_from g.J.Journal.tells_notes g.F.Folder.tells_files c.args.number c.args.place c.in-Held.id (g.F.Folder.files c.args.folder.now) (g.F.Folder.files c.draw.new.folder) (g.F.Folder.folder_faults c.args.folder.now) (g.F.Folder.folder_faults c.draw.new.folder) c.args.hall.now c.draw.new.hall c.in-Held.ensures.drawn (g.J.Journal.notes c.args.journal.now)) (marked_running g.J.Journal.tells_notes g.F.Folder.tells_files c.args.number c.args.place c.in-Held.id (g.F.Folder.files c.args.folder.now) (g.F.Folder.files c.draw.new.folder) (g.F.Folder.folder_faults c.args.folder.now) (g.F.Folder.folder_faults c.draw.new.folder) c.args.hall.now c.draw.new.hall c.in-Held.ensures.drawn c.requires.running)),
+pub returns-in-Ok-clause-rounds : goal.returns-in-Ok-clause-rounds
+returns-in-Ok-clause-rounds g c = (
+  held_round g.J.Journal.tells_notes g.F.Folder.tells_files c.args.number c.args.place c.in-Held.id (g.F.Folder.files c.args.folder.now) (g.F.Folder.files c.draw.new.folder) (g.F.Folder.folder_faults c.args.folder.now) (g.F.Folder.folder_faults c.draw.new.folder) c.args.hall.now c.draw.new.hall c.in-Held.ensures.drawn (g.J.Journal.notes c.args.journal.now) (sight c.hold_back.new.hall (g.J.Journal.notes c.hold_back.new.journal) (g.F.Folder.files c.hold_back.new.folder) (g.F.Folder.folder_faults c.hold_back.new.folder)) (c.in-Ok.ensures.moves (sight c.in-Held.ensures.drawn.marked (g.J.Journal.notes c.args.journal.now) (g.F.Folder.files c.args.folder.now) (g.F.Folder.folder_faults c.args.folder.now)) (drawn_from g.J.Journal.tells_notes g.F.Folder.tells_files c.args.number c.args.place c.in-Held.id (g.F.Folder.files c.args.folder.now) (g.F.Folder.files c.draw.new.folder) (g.F.Folder.folder_faults c.args.folder.now) (g.F.Folder.folder_faults c.draw.new.folder) c.args.hall.now c.draw.new.hall c.in-Held.ensures.drawn (g.J.Journal.notes c.args.journal.now)) (marked_running g.J.Journal.tells_notes g.F.Folder.tells_files c.args.number c.args.place c.in-Held.id (g.F.Folder.files c.args.folder.now) (g.F.Folder.files c.draw.new.folder) (g.F.Folder.folder_faults c.args.folder.now) (g.F.Folder.folder_faults c.draw.new.folder) c.args.hall.now c.draw.new.hall c.in-Held.ensures.drawn c.requires.running)),
   held_keeps g.J.Journal.tells_notes g.F.Folder.tells_files c.args.number c.args.place c.in-Held.id (g.F.Folder.files c.args.folder.now) (g.F.Folder.files c.draw.new.folder) (g.F.Folder.folder_faults c.args.folder.now) (g.F.Folder.folder_faults c.draw.new.folder) c.args.hall.now c.draw.new.hall c.in-Held.ensures.drawn c.hold_back.new.hall (c.hold_back.ensures.keeps (sight c.in-Held.ensures.drawn.marked (g.J.Journal.notes c.args.journal.now) (g.F.Folder.files c.args.folder.now) (g.F.Folder.folder_faults c.args.folder.now)) (drawn_from g.J.Journal.tells_notes g.F.Folder.tells_files c.args.number c.args.place c.in-Held.id (g.F.Folder.files c.args.folder.now) (g.F.Folder.files c.draw.new.folder) (g.F.Folder.folder_faults c.args.folder.now) (g.F.Folder.folder_faults c.draw.new.folder) c.args.hall.now c.draw.new.hall c.in-Held.ensures.drawn (g.J.Journal.notes c.args.journal.now))),
 )
 
-pub returns-in-Held-in-Err-clause-rounds : goal.returns-in-Held-in-Err-clause-rounds
-returns-in-Held-in-Err-clause-rounds g c =
-    held_wants g.J.Journal.tells_notes g.F.Folder.tells_files c.args.number c.args.place c.in-Held.id (g.F.Folder.files c.args.folder.now) (g.F.Folder.files c.draw.new.folder) (g.F.Folder.folder_faults c.args.folder.now) (g.F.Folder.folder_faults c.draw.new.folder) c.args.hall.now c.draw.new.hall c.in-Held.ensures.drawn (g.J.Journal.notes c.args.journal.now) c.hold_back.new.hall (g.J.Journal.notes c.hold_back.new.journal) (g.F.Folder.files c.hold_back.new.folder) (g.F.Folder.folder_faults c.hold_back.new.folder) c.requires.sound (c.hold_back.ensures.keeps (sight c.in-Held.ensures.drawn.marked (g.J.Journal.notes c.args.journal.now) (g.F.Folder.files c.args.folder.now) (g.F.Folder.folder_faults c.args.folder.now)) (drawn_from g.J.Journal.tells_notes g.F.Folder.tells_files c.args.number c.args.place c.in-Held.id (g.F.Folder.files c.args.folder.now) (g.F.Folder.files c.draw.new.folder) (g.F.Folder.folder_faults c.args.folder.now) (g.F.Folder.folder_faults c.draw.new.folder) c.args.hall.now c.draw.new.hall c.in-Held.ensures.drawn (g.J.Journal.notes c.args.journal.now))) (c.in-Held-in-Err.ensures.rests (sight c.in-Held.ensures.drawn.marked (g.J.Journal.notes c.args.journal.now) (g.F.Folder.files c.args.folder.now) (g.F.Folder.folder_faults c.args.folder.now)) (drawn_from g.J.Journal.tells_notes g.F.Folder.tells_files c.args.number c.args.place c.in-Held.id (g.F.Folder.files c.args.folder.now) (g.F.Folder.files c.draw.new.folder) (g.F.Folder.folder_faults c.args.folder.now) (g.F.Folder.folder_faults c.draw.new.folder) c.args.hall.now c.draw.new.hall c.in-Held.ensures.drawn (g.J.Journal.notes c.args.journal.now)))
+pub returns-in-Err-clause-rounds : goal.returns-in-Err-clause-rounds
+returns-in-Err-clause-rounds g c =
+    held_wants g.J.Journal.tells_notes g.F.Folder.tells_files c.args.number c.args.place c.in-Held.id (g.F.Folder.files c.args.folder.now) (g.F.Folder.files c.draw.new.folder) (g.F.Folder.folder_faults c.args.folder.now) (g.F.Folder.folder_faults c.draw.new.folder) c.args.hall.now c.draw.new.hall c.in-Held.ensures.drawn (g.J.Journal.notes c.args.journal.now) c.hold_back.new.hall (g.J.Journal.notes c.hold_back.new.journal) (g.F.Folder.files c.hold_back.new.folder) (g.F.Folder.folder_faults c.hold_back.new.folder) c.requires.sound (c.hold_back.ensures.keeps (sight c.in-Held.ensures.drawn.marked (g.J.Journal.notes c.args.journal.now) (g.F.Folder.files c.args.folder.now) (g.F.Folder.folder_faults c.args.folder.now)) (drawn_from g.J.Journal.tells_notes g.F.Folder.tells_files c.args.number c.args.place c.in-Held.id (g.F.Folder.files c.args.folder.now) (g.F.Folder.files c.draw.new.folder) (g.F.Folder.folder_faults c.args.folder.now) (g.F.Folder.folder_faults c.draw.new.folder) c.args.hall.now c.draw.new.hall c.in-Held.ensures.drawn (g.J.Journal.notes c.args.journal.now))) (c.in-Err.ensures.rests (sight c.in-Held.ensures.drawn.marked (g.J.Journal.notes c.args.journal.now) (g.F.Folder.files c.args.folder.now) (g.F.Folder.folder_faults c.args.folder.now)) (drawn_from g.J.Journal.tells_notes g.F.Folder.tells_files c.args.number c.args.place c.in-Held.id (g.F.Folder.files c.args.folder.now) (g.F.Folder.files c.draw.new.folder) (g.F.Folder.folder_faults c.args.folder.now) (g.F.Folder.folder_faults c.draw.new.folder) c.args.hall.now c.draw.new.hall c.in-Held.ensures.drawn (g.J.Journal.notes c.args.journal.now)))
 
-pub returns-in-Held-in-Ok-clause-sound : goal.returns-in-Held-in-Ok-clause-sound
-returns-in-Held-in-Ok-clause-sound g c = c.hold_back.ensures.sound (sight c.in-Held.ensures.drawn.marked (g.J.Journal.notes c.args.journal.now) (g.F.Folder.files c.args.folder.now) (g.F.Folder.folder_faults c.args.folder.now)) (drawn_from g.J.Journal.tells_notes g.F.Folder.tells_files c.args.number c.args.place c.in-Held.id (g.F.Folder.files c.args.folder.now) (g.F.Folder.files c.draw.new.folder) (g.F.Folder.folder_faults c.args.folder.now) (g.F.Folder.folder_faults c.draw.new.folder) c.args.hall.now c.draw.new.hall c.in-Held.ensures.drawn (g.J.Journal.notes c.args.journal.now))
+pub returns-in-Ok-clause-sound : goal.returns-in-Ok-clause-sound
+returns-in-Ok-clause-sound g c = c.hold_back.ensures.sound (sight c.in-Held.ensures.drawn.marked (g.J.Journal.notes c.args.journal.now) (g.F.Folder.files c.args.folder.now) (g.F.Folder.folder_faults c.args.folder.now)) (drawn_from g.J.Journal.tells_notes g.F.Folder.tells_files c.args.number c.args.place c.in-Held.id (g.F.Folder.files c.args.folder.now) (g.F.Folder.files c.draw.new.folder) (g.F.Folder.folder_faults c.args.folder.now) (g.F.Folder.folder_faults c.draw.new.folder) c.args.hall.now c.draw.new.hall c.in-Held.ensures.drawn (g.J.Journal.notes c.args.journal.now))
 
-pub returns-in-Held-in-Ok-clause-files : goal.returns-in-Held-in-Ok-clause-files
-returns-in-Held-in-Ok-clause-files g c = c.hold_back.ensures.files (sight c.in-Held.ensures.drawn.marked (g.J.Journal.notes c.args.journal.now) (g.F.Folder.files c.args.folder.now) (g.F.Folder.folder_faults c.args.folder.now)) (drawn_from g.J.Journal.tells_notes g.F.Folder.tells_files c.args.number c.args.place c.in-Held.id (g.F.Folder.files c.args.folder.now) (g.F.Folder.files c.draw.new.folder) (g.F.Folder.folder_faults c.args.folder.now) (g.F.Folder.folder_faults c.draw.new.folder) c.args.hall.now c.draw.new.hall c.in-Held.ensures.drawn (g.J.Journal.notes c.args.journal.now))
+pub returns-in-Ok-clause-files : goal.returns-in-Ok-clause-files
+returns-in-Ok-clause-files g c = c.hold_back.ensures.files (sight c.in-Held.ensures.drawn.marked (g.J.Journal.notes c.args.journal.now) (g.F.Folder.files c.args.folder.now) (g.F.Folder.folder_faults c.args.folder.now)) (drawn_from g.J.Journal.tells_notes g.F.Folder.tells_files c.args.number c.args.place c.in-Held.id (g.F.Folder.files c.args.folder.now) (g.F.Folder.files c.draw.new.folder) (g.F.Folder.folder_faults c.args.folder.now) (g.F.Folder.folder_faults c.draw.new.folder) c.args.hall.now c.draw.new.hall c.in-Held.ensures.drawn (g.J.Journal.notes c.args.journal.now))
 
-pub returns-in-Held-in-Err-clause-sound : goal.returns-in-Held-in-Err-clause-sound
-returns-in-Held-in-Err-clause-sound g c = c.hold_back.ensures.sound (sight c.in-Held.ensures.drawn.marked (g.J.Journal.notes c.args.journal.now) (g.F.Folder.files c.args.folder.now) (g.F.Folder.folder_faults c.args.folder.now)) (drawn_from g.J.Journal.tells_notes g.F.Folder.tells_files c.args.number c.args.place c.in-Held.id (g.F.Folder.files c.args.folder.now) (g.F.Folder.files c.draw.new.folder) (g.F.Folder.folder_faults c.args.folder.now) (g.F.Folder.folder_faults c.draw.new.folder) c.args.hall.now c.draw.new.hall c.in-Held.ensures.drawn (g.J.Journal.notes c.args.journal.now))
+pub returns-in-Err-clause-sound : goal.returns-in-Err-clause-sound
+returns-in-Err-clause-sound g c = c.hold_back.ensures.sound (sight c.in-Held.ensures.drawn.marked (g.J.Journal.notes c.args.journal.now) (g.F.Folder.files c.args.folder.now) (g.F.Folder.folder_faults c.args.folder.now)) (drawn_from g.J.Journal.tells_notes g.F.Folder.tells_files c.args.number c.args.place c.in-Held.id (g.F.Folder.files c.args.folder.now) (g.F.Folder.files c.draw.new.folder) (g.F.Folder.folder_faults c.args.folder.now) (g.F.Folder.folder_faults c.draw.new.folder) c.args.hall.now c.draw.new.hall c.in-Held.ensures.drawn (g.J.Journal.notes c.args.journal.now))
 
-pub returns-in-Held-in-Err-clause-files : goal.returns-in-Held-in-Err-clause-files
-returns-in-Held-in-Err-clause-files g c = c.hold_back.ensures.files (sight c.in-Held.ensures.drawn.marked (g.J.Journal.notes c.args.journal.now) (g.F.Folder.files c.args.folder.now) (g.F.Folder.folder_faults c.args.folder.now)) (drawn_from g.J.Journal.tells_notes g.F.Folder.tells_files c.args.number c.args.place c.in-Held.id (g.F.Folder.files c.args.folder.now) (g.F.Folder.files c.draw.new.folder) (g.F.Folder.folder_faults c.args.folder.now) (g.F.Folder.folder_faults c.draw.new.folder) c.args.hall.now c.draw.new.hall c.in-Held.ensures.drawn (g.J.Journal.notes c.args.journal.now))
+pub returns-in-Err-clause-files : goal.returns-in-Err-clause-files
+returns-in-Err-clause-files g c = c.hold_back.ensures.files (sight c.in-Held.ensures.drawn.marked (g.J.Journal.notes c.args.journal.now) (g.F.Folder.files c.args.folder.now) (g.F.Folder.folder_faults c.args.folder.now)) (drawn_from g.J.Journal.tells_notes g.F.Folder.tells_files c.args.number c.args.place c.in-Held.id (g.F.Folder.files c.args.folder.now) (g.F.Folder.files c.draw.new.folder) (g.F.Folder.folder_faults c.args.folder.now) (g.F.Folder.folder_faults c.draw.new.folder) c.args.hall.now c.draw.new.hall c.in-Held.ensures.drawn (g.J.Journal.notes c.args.journal.now))
 
 pub returns-in-NoCredit-clause-rounds : goal.returns-in-NoCredit-clause-rounds
 returns-in-NoCredit-clause-rounds g c =
@@ -128,8 +128,8 @@ stick-requires-clause-room g c = room_behind g.F.Folder.tells_files c.args.numbe
 pub stick-requires-clause-stall : goal.stick-requires-clause-stall
 stick-requires-clause-stall g c = stall_behind g.F.Folder.tells_files c.args.number c.args.place next.Fault (g.F.Folder.files c.args.folder.now) (g.F.Folder.files c.draw.new.folder) (g.F.Folder.folder_faults c.args.folder.now) (g.F.Folder.folder_faults c.draw.new.folder) c.args.hall.now c.draw.new.hall c.in-Fault.ensures.drawn
 
-pub stick-in-Damaged-requires-clause-room : goal.stick-in-Damaged-requires-clause-room
-stick-in-Damaged-requires-clause-room g c = room_behind g.F.Folder.tells_files c.args.number c.args.place next.Damaged (g.F.Folder.files c.args.folder.now) (g.F.Folder.files c.draw.new.folder) (g.F.Folder.folder_faults c.args.folder.now) (g.F.Folder.folder_faults c.draw.new.folder) c.args.hall.now c.draw.new.hall c.in-Damaged.ensures.drawn
+pub stick-requires-in-Damaged-clause-room : goal.stick-requires-in-Damaged-clause-room
+stick-requires-in-Damaged-clause-room g c = room_behind g.F.Folder.tells_files c.args.number c.args.place next.Damaged (g.F.Folder.files c.args.folder.now) (g.F.Folder.files c.draw.new.folder) (g.F.Folder.folder_faults c.args.folder.now) (g.F.Folder.folder_faults c.draw.new.folder) c.args.hall.now c.draw.new.hall c.in-Damaged.ensures.drawn
 
-pub stick-in-Damaged-requires-clause-stall : goal.stick-in-Damaged-requires-clause-stall
-stick-in-Damaged-requires-clause-stall g c = stall_behind g.F.Folder.tells_files c.args.number c.args.place next.Damaged (g.F.Folder.files c.args.folder.now) (g.F.Folder.files c.draw.new.folder) (g.F.Folder.folder_faults c.args.folder.now) (g.F.Folder.folder_faults c.draw.new.folder) c.args.hall.now c.draw.new.hall c.in-Damaged.ensures.drawn
+pub stick-requires-in-Damaged-clause-stall : goal.stick-requires-in-Damaged-clause-stall
+stick-requires-in-Damaged-clause-stall g c = stall_behind g.F.Folder.tells_files c.args.number c.args.place next.Damaged (g.F.Folder.files c.args.folder.now) (g.F.Folder.files c.draw.new.folder) (g.F.Folder.folder_faults c.args.folder.now) (g.F.Folder.folder_faults c.draw.new.folder) c.args.hall.now c.draw.new.hall c.in-Damaged.ensures.drawn

@@ -1,24 +1,20 @@
 -- One act answers a client's call: a message was sent, there was none to send, or a disk fault kept it off.
-use Rattle.std.proofs.Common.{◌≡◌, ◌⊎◌, inl, inr, ◌<◌, ◌≤◌, ◌==◌, ◌||◌, ◌^◌, ℕ, ◌+◌, ◌-◌, min, set, Bool, true, false, if◌then◌else◌, List, [], ◌∷◌, ◌++◌, length, get_or, Option, Some, None, HoldsAt, is_some, refl, sym, ap, subst, ◌∙◌, arith}
-use Rattle.std.specs.Prelude.{IfSome, IsTrue, slice_get, slice_set}
+use Rattle.std.proofs.Common.{◌≡◌, inl, ◌<◌, ◌≤◌, ◌||◌, ℕ, min, Bool, true, false, if◌then◌else◌, List, [], ◌∷◌, ◌++◌, length, get_or, Some, HoldsAt, is_some, refl, sym, ap, subst, ◌∙◌, arith}
+use Rattle.std.specs.Prelude.{IsTrue, slice_get}
 use Rattle.std.specs.Global.{Vec}
 use Rattle.std.proofs.lemmas.Bool.{false≢true}
 use Rattle.std.proofs.lemmas.List.{append-nil}
-use Rattle.std.proofs.lemmas.Option.{get_or_from_slice_get}
 use Rattle.nsq_outside.specs.Causes.{Rose}
 use Rattle.nsq_outside.specs.Files.{Files}
 use Rattle.nsq_outside.specs.declared.journal.End.{End}
 use Rattle.nsq_outside.specs.declared.journal.End.TheVariants.{Done, Faulted}
-use Rattle.v2_frame.specs.declared.frame.Frame.{Frame}
-use Rattle.v2_frame.specs.declared.message.Message.{Message}
 use Rattle.broker_history.specs.declared.entry.Act.{Act}
-use Rattle.broker_history.specs.declared.entry.Act.TheVariants.{Idle, Sent, Stuck}
+use Rattle.broker_history.specs.declared.entry.Act.TheVariants.{Idle, Stuck}
 use Rattle.broker_history.specs.declared.entry.Entry.{Entry}
-use Rattle.broker_history.specs.State.{Client, State, at_moment, counted, put_client}
-use Rattle.broker_history.specs.Reply.{message_frame}
-use Rattle.broker_history.specs.Entries.{History, faults_of, is_faulted, is_stop, is_tick}
+use Rattle.broker_history.specs.State.{Client, State, at_moment}
+use Rattle.broker_history.specs.Entries.{History, faults_of, is_stop, is_tick}
 use Rattle.broker_history.specs.Legal.{none}
-use Rattle.broker_history.specs.Step.{DoesAct, DoesSend, IsAllowedAct}
+use Rattle.broker_history.specs.Step.{DoesAct, IsAllowedAct}
 use Rattle.channel_core.specs.declared.answers.Next.{Next}
 use Rattle.channel_core.specs.declared.answers.Next.TheVariants as next
 use Rattle.channel_core.specs.Seen.{Seen as ChannelSeen}
@@ -26,12 +22,9 @@ use Rattle.desk.specs.declared.call.Call.TheVariants as call
 use Rattle.desk.specs.declared.turned.Turned.{Turned}
 use Rattle.desk.specs.declared.turned.Turned.TheVariants as turned
 use Rattle.desk.specs.Answers.{Answers, IsShortAnswer}
-use Rattle.floor_clients.specs.Places.{AreInOrder, StandsAt}
-use Rattle.floor_clients.proofs.Putting.{found_put}
 use Rattle.floor_rooms.specs.declared.stall.Stall.{Stall}
 use Rattle.floor_rooms.specs.declared.room.Room.{Room}
 use Rattle.floor_rooms.specs.declared.hall.Hall.{Hall}
-use Rattle.floor_rooms.specs.Changes.{KeepsRooms}
 use Rattle.floor_rooms.specs.Rooms.{channel_name, client_in, topic_name}
 use Rattle.floor_rooms.specs.Sound.{IsSound}
 use Rattle.floor_rooms.specs.Standing.{Carries, HoldsFor}
@@ -39,20 +32,16 @@ use Rattle.floor_rooms.proofs.Dating.{since_kept}
 use Rattle.floor_rooms.proofs.Naming.{names_kept}
 use Rattle.floor_rooms.proofs.Orders.{holds_at}
 use Rattle.floor_rooms.proofs.Placing.{at_place}
-use Rattle.floor_replies.specs.Replies.{IsShortFrame}
 use Rattle.floor_moves.specs.declared.due.Place.{Place}
-use Rattle.floor_moves.specs.Moves.{Keeps, NothingNoted, RoseBy, Sight, sight}
+use Rattle.floor_moves.specs.Moves.{Keeps, RoseBy, sight}
 use Rattle.floor_moves.proofs.Keeping.{keeps_marked}
-use Rattle.floor_acts.specs.Acts.{ChangesAt}
-use Rattle.floor_acts.specs.Sending.{HasDrawn, IsUndrawn}
+use Rattle.floor_acts.specs.Sending.{HasDrawn}
 use Rattle.floor_acts.proofs.Drawing.{draw_faults, draw_keeps}
 use Rattle.floor_acts.proofs.Flying.{some_same, stands_now}
-use Rattle.floor_acts.proofs.Putting.{put_at_place}
-use Rattle.turn_laws.specs.Laid.{IsActFor}
 use Rattle.floor_turns.specs.Acting.{Acts, ActsTo, FaultsRose, LeavesClients, SameClients, StaysSet, there_after}
 use Rattle.floor_turns.proofs.Carrying.{acts_none}
 use Rattle.floor_drawing.specs.Drawing.{IsIdleBy, IsServedAt, SticksAt, entry_of}
-use Rattle.floor_drawing.proofs.Serving.{drawn_channel, drawn_topic, may_stick, no_credit_rests, no_damage, none_rests, paused_rests, sends_now}
+use Rattle.floor_drawing.proofs.Serving.{may_stick, no_credit_rests, no_damage, none_rests, paused_rests}
 
 -- a hall that keeps what moves do
 pub stays_kept : (h h' : Hall) → Keeps h h' → StaysSet h h'

@@ -1,5 +1,5 @@
 -- What was held back so far, one copy after another, and the act behind it.
-use Rattle.std.proofs.Common.{◌≡◌, ◌≢◌, ◌⊎◌, inl, inr, ◌<◌, ◌≤◌, ◌||◌, ◌^◌, ℕ, Bool, true, false, List, [], ◌∷◌, ◌++◌, length, Option, Some, None, is_some, refl, sym, ap, subst, ◌∙◌, append_assoc, arith}
+use Rattle.std.proofs.Common.{◌≡◌, inr, ◌<◌, ◌≤◌, ◌||◌, ◌^◌, ℕ, Bool, false, List, [], ◌∷◌, ◌++◌, is_some, refl, sym, ap, subst, ◌∙◌, append_assoc, arith}
 use Rattle.std.specs.Prelude.{IsTrue, slice_get}
 use Rattle.std.specs.Global.{Vec}
 use Rattle.std.proofs.lemmas.List.{append-nil}
@@ -35,8 +35,7 @@ use Rattle.floor_acts.proofs.Flying.{stands_now}
 use Rattle.turn_laws.specs.Laid.{AreHeldBack, IsHeld}
 use Rattle.turn_laws.proofs.Allowing.{held_calm}
 use Rattle.turn_laws.proofs.Laying.{all_both}
-use Rattle.floor_turns.specs.Acting.{Acts, ActsBy, ClientsBy, FaultRose, FaultsRose, Passes, StaysSet, there_after}
-use Rattle.floor_turns.proofs.Carrying.{acts_none, stays_same}
+use Rattle.floor_turns.specs.Acting.{Acts, ActsBy, ClientsBy, FaultRose, FaultsRose, StaysSet, there_after}
 use Rattle.floor_turns.proofs.Owing.{held_loose, loose_paid, notes_on}
 use Rattle.floor_drawing.proofs.Answering.{wants}
 

@@ -10,7 +10,7 @@ use Rattle.v2_frame.specs.declared.message.Message.{Message}
 use Rattle.backlog.specs.Seen.{FitsLimit}
 use Rattle.broker_history.specs.declared.entry.Act.TheVariants.{Sent}
 use Rattle.broker_history.specs.declared.entry.Entry.{Entry}
-use Rattle.broker_history.specs.State.{Client, State, counted}
+use Rattle.broker_history.specs.State.{Client, counted}
 use Rattle.broker_history.specs.Reply.{message_frame}
 use Rattle.broker_history.specs.Entries.{History}
 use Rattle.broker_history.specs.Step.{DoesSend}
@@ -29,7 +29,7 @@ use Rattle.floor_rooms.specs.declared.hall.Hall.{Hall}
 use Rattle.floor_rooms.specs.Changes.{KeepsRooms}
 use Rattle.floor_rooms.specs.Rooms.{client_in}
 use Rattle.floor_rooms.specs.Sound.{IsSound}
-use Rattle.floor_rooms.specs.Standing.{Carries, HoldsFor}
+use Rattle.floor_rooms.specs.Standing.{Carries}
 use Rattle.floor_rooms.proofs.Dating.{since_kept}
 use Rattle.floor_rooms.proofs.Naming.{names_kept}
 use Rattle.floor_replies.specs.Replies.{IsShortFrame}

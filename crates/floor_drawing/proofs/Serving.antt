@@ -12,7 +12,7 @@ use Rattle.broker_history.specs.State.{Channel, Client, Phase, Fresh, Subscribed
 use Rattle.broker_history.specs.Channels.{can_send, has_credit, is_free}
 use Rattle.broker_history.specs.Credit.{has_message, is_quiet, may_get}
 use Rattle.broker_history.specs.Reply.{copies_in}
-use Rattle.broker_history.specs.Step.{IsAllowedAct, IsIdle, MayBeSent, OfClient}
+use Rattle.broker_history.specs.Step.{IsAllowedAct, MayBeSent}
 use Rattle.broker_history.specs.declared.entry.Act.TheVariants.{Idle, Sent, Stuck}
 use Rattle.broker_history.proofs.Lists.{find_passes}
 use Rattle.channel_copies.specs.Clients.{client_of}
@@ -21,7 +21,7 @@ use Rattle.channel_core.specs.declared.about.About.{About}
 use Rattle.channel_core.specs.declared.answers.Next.{Next}
 use Rattle.channel_core.specs.declared.answers.Next.TheVariants as next
 use Rattle.channel_core.specs.Drawing.{Draws, NextWhere, ready_of}
-use Rattle.channel_core.specs.Seen.{channel_with, queued_in, seen_channel}
+use Rattle.channel_core.specs.Seen.{queued_in, seen_channel}
 use Rattle.floor_clients.specs.Seen.{held_channel}
 use Rattle.floor_laws.proofs.Counting.{counts_alike, none_sent}
 use Rattle.floor_laws.proofs.Pairs.{IfBoth}
@@ -42,7 +42,7 @@ use Rattle.floor_acts.specs.declared.spots.Spot.{Spot}
 use Rattle.floor_acts.specs.Sending.{DrawsStall, HasDrawn}
 use Rattle.floor_acts.specs.Spots.{StandsIn}
 use Rattle.floor_acts.proofs.Finding.{member_here, room_here}
-use Rattle.floor_acts.proofs.Flying.{channel_there, some_same, topic_there}
+use Rattle.floor_acts.proofs.Flying.{channel_there, topic_there}
 use Rattle.floor_drawing.specs.Drawing.{IsServedAt}
 
 -- a place of a channel is a spot

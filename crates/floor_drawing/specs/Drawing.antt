@@ -1,5 +1,5 @@
 -- What one drawing for a client makes of a hall, and of what is noted.
-use Rattle.std.specs.Prelude.{◌≡◌, ℕ, Bool, true, List, [], ◌∷◌, ◌++◌, IsTrue, Option, Some, None, slice_get}
+use Rattle.std.specs.Prelude.{◌≡◌, ℕ, Bool, true, [], ◌∷◌, ◌++◌, IsTrue, Option, Some, None, slice_get}
 use Rattle.nsq_outside.specs.declared.journal.End.{End}
 use Rattle.nsq_outside.specs.declared.journal.End.TheVariants.{Faulted}
 use Rattle.v2_frame.specs.declared.message.Message.{Message}

@@ -11,7 +11,7 @@ use Rattle.floor_rooms.specs.Standing.{Carries}
 use Rattle.floor_replies.specs.Replies.{IsShortFrame}
 use Rattle.floor_acts.specs.Sending.{IsToSend}
 use Rattle.floor_drawing.specs.Drawing.{entry_of}
-use Rattle.floor_drawing.proofs.Sent.{acts_back, at_its_place, if_ok, lent_drawn, lent_to_send, no_place, of_client, on_ok, sending_acts, undo_drawn}
+use Rattle.floor_drawing.proofs.Sent.{acts_back, at_its_place, if_ok, lent_drawn, lent_to_send, of_client, on_ok, sending_acts, undo_drawn}
 use Rattle.floor_drawing.proofs.sending.send.Goals as goal
 
 pub undo_sent-requires-clause-drawn : goal.undo_sent-requires-clause-drawn

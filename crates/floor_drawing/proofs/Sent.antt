@@ -21,7 +21,7 @@ use Rattle.channel_core.specs.Drawing.{IsDrawnFor}
 use Rattle.channel_core.specs.Seen.{Seen as ChannelSeen}
 use Rattle.desk.specs.declared.call.Call.TheVariants as call
 use Rattle.desk.specs.declared.turned.Turned.TheVariants as turned
-use Rattle.floor_clients.specs.Places.{AreInOrder, BelongsAt, StandsAt}
+use Rattle.floor_clients.specs.Places.{AreInOrder, StandsAt}
 use Rattle.floor_clients.proofs.Putting.{found_put}
 use Rattle.floor_rooms.specs.declared.stall.Stall.{Stall}
 use Rattle.floor_rooms.specs.declared.room.Room.{Room}
@@ -60,10 +60,6 @@ on_ok r x Q is h = subst (λ o. OnOk o Q) is h
 pub some_of : {X : Type 0} (o : Option X) → IsSome o → (x : X) × (o ≡ Some x)
 some_of None h = absurd (let no : ⊥ = cc in no)
 some_of (Some x) h = (x, refl)
-
--- a client that is there has a place
-pub no_place : (cs : List Client) (number k : ℕ) → IsSome (client_in cs number) → BelongsAt cs number k → ⊥
-no_place cs number k there b = let no = subst (λ (o : Option Client). IsSome o) b.found there in let gone : ⊥ = cc in gone
 
 -- what holds by the number of the client at its place
 pub by_number : (P : ℕ → Type 0) (cs : List Client) (number k : ℕ) → IsSome (client_in cs number) → StandsAt cs number k → HoldsAt (λ (c : Client). P c.number) cs k → P number

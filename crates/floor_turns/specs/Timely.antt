@@ -1,5 +1,5 @@
 -- What a tick leaves unsaved.
-use Rattle.std.specs.Prelude.{◌≡◌, ◌⊎◌, ◌<◌, ℕ, ◌+◌, All, Option, IfSome}
+use Rattle.std.specs.Prelude.{◌⊎◌, ◌<◌, ℕ, ◌+◌, All, Option, Some, None}
 use Rattle.nsq_outside.specs.Causes.{Rose}
 use Rattle.disk_queue.specs.Seen.{Seen as Queue}
 use Rattle.backlog.specs.Seen.{QueueIsSaved}
@@ -11,9 +11,14 @@ use Rattle.floor_rooms.specs.declared.hall.Hall.{Hall}
 use Rattle.floor_rooms.specs.declared.room.Room.{Room}
 use Rattle.floor_rooms.specs.declared.stall.Stall.{Stall}
 
+-- marked as unsaved, less than the timeout before this moment
+abbrev pub IsMarkedLately : (at timeout : ℕ) → (since : Option ℕ) → Type 0
+IsMarkedLately at timeout None = ⊥
+IsMarkedLately at timeout (Some moment) = at < moment + timeout
+
 -- a queue is saved, or was marked as unsaved less than the sync timeout ago
 abbrev pub IsQueueTimely : (at timeout : ℕ) → (since : Option ℕ) → Option Queue → Type 0
-IsQueueTimely at timeout since queue = QueueIsSaved queue ⊎ IfSome since (λ moment. at < moment + timeout)
+IsQueueTimely at timeout since queue = QueueIsSaved queue ⊎ IsMarkedLately at timeout since
 
 pub record IsRoomTimely (at timeout : ℕ) (r : Room) : Type 0 where
   pub queue : IsQueueTimely at timeout r.since r.queue.backlog.queue

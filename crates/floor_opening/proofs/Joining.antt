@@ -1,5 +1,5 @@
 -- Channels are opened into a topic one after another, and the topic is put into a hall.
-use Rattle.std.proofs.Common.{◌≡◌, ◌≢◌, ◌≤◌, ◌<◌, ◌^◌, ℕ, Bool, true, false, ◌||◌, ◌&&◌, if◌then◌else◌, List, [], ◌∷◌, ◌++◌, ◌+◌, map, take, drop, get_or, length, append_assoc, add-one, Option, Some, None, is_none, is_some, refl, sym, ap, subst, ◌∙◌, arith}
+use Rattle.std.proofs.Common.{◌≡◌, ◌≢◌, inl, inr, ◌≤◌, ◌<◌, ℕ, Bool, true, false, if◌then◌else◌, List, [], ◌∷◌, ◌++◌, ◌+◌, take, drop, get_or, length, append_assoc, add-one, Option, Some, None, is_some, refl, sym, ap, subst, ◌∙◌, arith}
 use Rattle.std.specs.Prelude.{IfSome, IsSome, IsTrue, nat_eq, option_and_then}
 use Rattle.std.specs.List.{All, Contains, list_any}
 use Rattle.std.specs.Str.{bytes_eq}
@@ -9,7 +9,7 @@ use Rattle.std.proofs.lemmas.List.{map-append, take-append-drop}
 use Rattle.std.proofs.lemmas.List.Elements.{All-cons, All-nil, All-weaker, Contains-append_left, Contains-get_or, Contains-push}
 use Rattle.std.proofs.lemmas.List.Folds.{list_any-append}
 use Rattle.nsq_base.specs.Name.{IsName}
-use Rattle.nsq_base.specs.Names.{IsAscendingBy}
+use Rattle.nsq_base.specs.Names.{IsAscendingBy, is_before}
 use Rattle.nsq_base.specs.declared.options.Options.{Options}
 use Rattle.nsq_base.proofs.PutBy.{All-put_by, IsAscendingBy-put_by}
 use Rattle.nsq_outside.specs.Files.{Files}
@@ -27,7 +27,6 @@ use Rattle.channel_copies.specs.Clients.{client_of}
 use Rattle.topic_core.specs.Kept.{IsNamed}
 use Rattle.topic_core.specs.Laws.{DiskStays, OwnFilesStay}
 use Rattle.topic_core.specs.Seen.{owed_of}
-use Rattle.topic_core.specs.Rows.{found_topic, paused_in}
 use Rattle.topic_core.proofs.Keeping.{opening_stays, save_stays, topic_stays}
 use Rattle.channel_core.specs.Seen.{queue_name}
 use Rattle.floor_laws.proofs.Pairs.{pairs_become, pairs_put}
@@ -35,16 +34,16 @@ use Rattle.floor_rooms.specs.declared.hall.Hall.{Hall}
 use Rattle.floor_rooms.specs.declared.room.Room.{Room}
 use Rattle.floor_rooms.specs.declared.stall.Stall.{Stall}
 use Rattle.floor_rooms.specs.Rooms.{channel_name, client_in, put_room, put_stall, room_in, stall_at, stall_in, stall_names, topic_name}
-use Rattle.floor_rooms.specs.Sound.{AreMembers, IsMarked, IsPast, IsRoomSound, IsSound, IsStallSound, member_of, rests}
+use Rattle.floor_rooms.specs.Sound.{AreMembers, IsMarked, IsRoomSound, IsSound, IsStallSound, member_of}
 use Rattle.floor_rooms.specs.Standing.{IsRoomOf, IsStallOf, StandsFor}
-use Rattle.floor_rooms.proofs.Changing.{all_found}
 use Rattle.floor_rooms.proofs.Dating.{pairs_weaker}
 use Rattle.floor_rooms.proofs.Forming.{fresh_past, none_of_none}
 use Rattle.floor_rooms.proofs.Growing.{no_members}
 use Rattle.floor_rooms.proofs.Holding.{StaysElse, stands_put_room}
 use Rattle.floor_rooms.proofs.Sounding.{KeepsRest, sound_put_room}
 use Rattle.floor_rooms.proofs.Staying.{other_channels, stall_named, stall_stays, topic_is_no_channel}
-use Rattle.floor_opening.specs.Opened.{AreApart, HasOpened, IsOpenedRoom, IsOpenedStall, OnlyTopicFiles, kept_channels, with_channels}
+use Rattle.queue_opening.specs.declared.refusal.Open.{Open}
+use Rattle.floor_opening.specs.Opened.{AreApart, HasOpened, RefusesChannel, IsOpenedRoom, IsOpenedStall, OnlyTopicFiles, kept_channels, with_channels}
 use Rattle.floor_opening.proofs.Parting.{all_front, all_last, last_of, name_apart, or_parts, queues_apart}
 use Rattle.floor_opening.proofs.Starting.{messages_stay}
 
@@ -52,7 +51,7 @@ use Rattle.floor_opening.proofs.Starting.{messages_stay}
 pub opened_none : (tells : Bool) (o : Options) (topic : List ℕ) (files : Files) (k : ℕ) (r : Room) → r.stalls.items ≡ [] → HasOpened tells o topic [] files files k k r r
 opened_none tells o topic files k r empty = record {
   rest = refl;
-  order = subst (IsAscendingBy channel_name) (sym empty) (none_of_none _);
+  order = subst (IsAscendingBy channel_name) (sym empty) (none_of_none (λ (x y : Stall). IsTrue (is_before (channel_name x) (channel_name y))));
   stalls = subst (All (IsOpenedStall o topic)) (sym empty) (All-nil (IsOpenedStall o topic));
   names = λ name none. ap (λ xs. stall_in xs name) empty;
   told = λ tells t found of pairs. with_none t found of pairs;
@@ -99,12 +98,12 @@ module _ (o : Options) (topic : List ℕ) (c : List ℕ × Bool) (f1 f2 : Files)
 found_is : (c : List ℕ × Bool) (z : FoundChannel) → z.name ≡ c.0 → z.paused ≡ c.1 → z ≡ record { name = c.0; paused = c.1; messages = z.messages }
 found_is c z n p = ap (λ m. record { name = m; paused = z.paused; messages = z.messages }) n ∙ ap (λ on. record { name = c.0; paused = on; messages = z.messages }) p
 
+-- the queue that comes next is as it was
+pub next_stays : (tells : Bool) (o : Options) (topic : List ℕ) (done : List (List ℕ × Bool)) (c : List ℕ × Bool) (f0 f1 : Files) (k0 k1 : ℕ) (a b : Room) → IsName topic → HasOpened tells o topic done f0 f1 k0 k1 a b → list_any (λ d. bytes_eq c.0 d.0) done ≡ false → IsTrue tells → OwnFilesStay (queue_name topic c.0) f0 f1
+next_stays tells o topic done c f0 f1 k0 k1 a b named h apart told = h.others told (queue_name topic c.0) (λ e. topic_is_no_channel topic topic c.0 named (sym e)) (queues_apart topic c.0 named done apart)
+
 module _ (tells : Bool) (o : Options) (topic : List ℕ) (done : List (List ℕ × Bool)) (c : List ℕ × Bool) (f0 f1 f2 : Files) (k0 k1 k2 : ℕ) (a b b' : Room) (s : Stall) (named : IsName topic) (h : HasOpened tells o topic done f0 f1 k0 k1 a b) (queue : IfSome a.queue.backlog.queue (λ q. q.name ≡ topic))
     (apart : list_any (λ d. bytes_eq c.0 d.0) done ≡ false) where
-  -- the queue that comes next is as it was
-  pub next_stays : IsTrue tells → OwnFilesStay (queue_name topic c.0) f0 f1
-  next_stays told = h.others told (queue_name topic c.0) (λ e. topic_is_no_channel topic topic c.0 named (sym e)) (queues_apart topic c.0 named done apart)
-
   module _ (opened : IsOpenedStall o topic s) (called : channel_name s ≡ c.0) (finds : IsTrue tells → (ms : List Message) → HasMessages f1 (queue_name topic c.0) ms → IsStallOf f2 s (started_channel (record { name = c.0; paused = c.1; messages = ms })))
       (change : IsTrue tells → FilesOfChange (queue_name topic c.0) f1 f2) (faults : k1 ≤ k2) (is : b' ≡ record b { stalls = b'.stalls }) (stalls : b'.stalls.items ≡ put_stall b.stalls.items s) where
     told_one : IsTrue tells → (t : Topic) (found : List FoundChannel) → IsRoomOf f0 a t → Pairwise (FindsChannel f0 topic) (kept_channels (done ++ c ∷ [])) found → IsRoomOf f2 b' (with_channels t found)
@@ -114,7 +113,7 @@ module _ (tells : Bool) (o : Options) (topic : List ℕ) (done : List (List ℕ 
         let z : FoundChannel = split.last in
         let one = split.pair in
         let stall : IsStallOf f2 s (started_channel z) =
-        subst (λ x. IsStallOf f2 s (started_channel x)) (sym (found_is c z one.name one.paused)) (finds told z.messages (messages_stay (queue_name topic c.0) f0 f1 z.messages (next_stays told) one.messages)) in
+        subst (λ x. IsStallOf f2 s (started_channel x)) (sym (found_is c z one.name one.paused)) (finds told z.messages (messages_stay (queue_name topic c.0) f0 f1 z.messages (next_stays tells o topic done c f0 f1 k0 k1 a b named h apart told) one.messages)) in
         let before : IsRoomOf f1 b (with_channels t split.front) = h.told told t split.front of split.pairs in
         subst (λ xs. IsRoomOf f2 b' (with_channels t xs)) (sym split.whole)
         (subst (IsRoomOf f2 b') (sym (with_last t split.front z))
@@ -185,6 +184,15 @@ opened_sound h o topic on r options x order stalls listed = record {
   rests = λ l. absurd (false≢true (sym l ∙ x.listed));
 }
 
+-- where none is found each has another name
+none_first : (topic : List ℕ) (x : Room) (xs : List Room) (b : Bool) → bytes_eq topic (topic_name x) ≡ b → (room_in xs topic ≡ None → All (λ (y : Room). topic_name y ≢ topic) xs) → (if b then Some x else room_in xs topic) ≡ None → All (λ (y : Room). topic_name y ≢ topic) (x ∷ xs)
+none_first topic x xs true is rest e = absurd cc
+none_first topic x xs false is rest e = All-cons (λ (y : Room). topic_name y ≢ topic) x xs (λ same. name_apart topic (topic_name x) is (sym same)) (rest e)
+
+none_named : (topic : List ℕ) (xs : List Room) → room_in xs topic ≡ None → All (λ (x : Room). topic_name x ≢ topic) xs
+none_named topic [] e = All-nil (λ (x : Room). topic_name x ≢ topic)
+none_named topic (x ∷ xs) e = none_first topic x xs (bytes_eq topic (topic_name x)) refl (λ f. none_named topic xs f) e
+
 -- the topic is put into the hall
 module _ (h h' : Hall) (o : Options) (topic : List ℕ) (on : Bool) (r : Room) (sound : IsSound h) (none : room_in h.rooms.items topic ≡ None) (rest : h' ≡ record h { rooms = h'.rooms; pending = h'.pending }) (rooms : h'.rooms.items ≡ put_room h.rooms.items r) (opened : IsOpenedRoom o topic on r)
     (stalls : All (IsOpenedStall o topic) r.stalls.items) where
@@ -253,15 +261,7 @@ module _ (h h' : Hall) (o : Options) (topic : List ℕ) (on : Bool) (r : Room) (
         }
 
     rooms_apart : All (λ (x : Room). topic_name x ≢ topic) h.rooms.items
-    rooms_apart = none_named h.rooms.items none
-      where
-        none_named : (xs : List Room) → room_in xs topic ≡ None → All (λ (x : Room). topic_name x ≢ topic) xs
-        none_named [] e = All-nil (λ (x : Room). topic_name x ≢ topic)
-        none_named (x ∷ xs) e = none_first x xs (bytes_eq topic (topic_name x)) refl e
-          where
-            none_first : (x : Room) (xs : List Room) (b : Bool) → bytes_eq topic (topic_name x) ≡ b → (if b then Some x else room_in xs topic) ≡ None → All (λ (y : Room). topic_name y ≢ topic) (x ∷ xs)
-            none_first x xs true is e = absurd cc
-            none_first x xs false is e = All-cons (λ (y : Room). topic_name y ≢ topic) x xs (λ same. name_apart topic (topic_name x) is (sym same)) (none_named xs e)
+    rooms_apart = none_named topic h.rooms.items none
 
     stands_apart : (s : State) → StandsFor h f0 s → StandsFor h f2 s
     stands_apart s stands = record {
@@ -283,10 +283,26 @@ module _ (h h' : Hall) (o : Options) (topic : List ℕ) (on : Bool) (r : Room) (
 -- the channel that a loop comes to, of a list whose names differ
 module _ (xs : List (List ℕ × Bool)) (i : ℕ) (x : List ℕ × Bool) (l : i < length xs) (is : x ≡ get_or xs i x) where
   pub taken_next : take (i + 1) xs ≡ take i xs ++ x ∷ []
-  taken_next = ap (λ k. take k xs) (sym (add-one i)) ∙ take-suc xs i x l ∙ ap (λ y. take i xs ++ y ∷ []) (sym is)
+  taken_next = ap (λ k. take k xs) (add-one i) ∙ take-suc xs i x l ∙ ap (λ y. take i xs ++ y ∷ []) (sym is)
 
   pub next_apart : AreApart xs → list_any (λ d. bytes_eq x.0 d.0) (take i xs) ≡ false
   next_apart apart = apart (take i xs) (drop (i + 1) xs) x (sym (take-append-drop (i + 1) xs) ∙ ap (λ ys. ys ++ drop (i + 1) xs) taken_next ∙ append_assoc (take i xs) (x ∷ []) (drop (i + 1) xs))
 
   pub next_one : Contains xs x
   next_one = subst (Contains xs) (sym is) (Contains-get_or xs i x l)
+
+-- what is found of channels, and what is refused, by the files before the topic's own queue was opened
+module _ (topic : List ℕ) (f0 f1 : Files) (named : IsName topic) (change : FilesOfChange topic f0 f1) where
+  pub channel_stays : (channel : List ℕ) → OwnFilesStay (queue_name topic channel) f0 f1
+  channel_stays channel = opening_stays (queue_name topic channel) topic f0 f1 (topic_is_no_channel topic topic channel named) change
+
+  pub found_later : (kept : List KeptChannel) (found : List FoundChannel) → Pairwise (FindsChannel f0 topic) kept found → Pairwise (FindsChannel f1 topic) kept found
+  found_later kept found pairs =
+      pairs_weaker (FindsChannel f0 topic) (FindsChannel f1 topic) (λ k z x. record { name = x.name; paused = x.paused; messages = messages_stay (queue_name topic k.name) f0 f1 z.messages (channel_stays k.name) x.messages }) kept found pairs
+
+  pub refuses_later : (channels : List (List ℕ × Bool)) (f2 : Files) (why : Open) → RefusesChannel topic channels f1 f2 why → RefusesChannel topic channels f0 f2 why
+  refuses_later channels f2 why (inl memory) = inl memory
+  refuses_later channels f2 why (inr x) = inr (record { channel = x.channel; one = x.one; before = x.before; same = λ file its. x.same file its ∙ channel_stays x.channel.0 file its; refused = x.refused })
+
+pub rest_both : (h h1 h2 : Hall) → h1 ≡ record h { rooms = h1.rooms; pending = h1.pending } → h2 ≡ record h1 { rooms = h2.rooms; pending = h2.pending } → h2 ≡ record h { rooms = h2.rooms; pending = h2.pending }
+rest_both h h1 h2 a b = b ∙ ap (λ (x : Hall). record x { rooms = h2.rooms; pending = h2.pending }) a

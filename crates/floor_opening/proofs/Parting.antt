@@ -1,5 +1,6 @@
 -- Lists with one more at their end, and names that differ.
-use Rattle.std.proofs.Common.{◌≡◌, ◌≢◌, ℕ, Bool, true, false, ◌||◌, List, [], ◌∷◌, ◌++◌, map, Option, Some, None, refl, sym, ap, subst, ◌∙◌}
+use Rattle.std.proofs.Common.{◌≡◌, ◌≢◌, ℕ, Bool, true, false, ◌||◌, List, [], ◌∷◌, ◌++◌, Some, None, Result, Ok, Err, refl, sym, ap, subst, ◌∙◌}
+use Rattle.std.specs.Prelude.{IfErr, IsErrAnd}
 use Rattle.std.specs.List.{All, find, list_any}
 use Rattle.std.specs.Str.{bytes_eq}
 use Rattle.std.proofs.lemmas.Bool.{false≢true}
@@ -61,3 +62,8 @@ none_is x e = absurd cc
 
 pub no_place : {X : Type 0} (key : X → List ℕ) (xs : List X) (k k' : List ℕ) (i : ℕ) (d : X) → k' ≡ k → find (λ x. bytes_eq k (key x)) xs ≡ None → StandsAt key xs k' i → ⊥
 no_place key xs k k' i d same none at = none_is _ (sym none ∙ found_standing key xs k i d (subst (λ n. StandsAt key xs n i) same at))
+
+-- an error that is handed on
+pub handed_on : {T E : Type 0} (r : Result T E) (e : E) (Q : E → Type 0) → IsErrAnd r (λ f. f ≡ e) → Q e → IfErr r Q
+handed_on (Ok x) e Q h q = tt
+handed_on (Err f) e Q h q = subst Q (sym h) q

@@ -1,6 +1,6 @@
 -- A channel and a topic as they are opened.
-use Rattle.std.proofs.Common.{◌≡◌, ◌≢◌, ◌≤◌, ℕ, Bool, true, false, ◌||◌, ◌&&◌, not, List, [], ◌∷◌, ◌++◌, map, count_by, Option, Some, None, is_some, refl, sym, ap, subst, ◌∙◌, arith}
-use Rattle.std.specs.Prelude.{IfSome, IsSome, MatchBool}
+use Rattle.std.proofs.Common.{◌≡◌, ◌≤◌, ℕ, Bool, true, false, ◌&&◌, List, [], ◌∷◌, ◌++◌, map, count_by, Option, Some, None, is_some, refl, sym, ap, subst, ◌∙◌, arith}
+use Rattle.std.specs.Prelude.{IfSome, MatchBool}
 use Rattle.std.specs.List.{All}
 use Rattle.std.proofs.lemmas.Bool.{false≢true}
 use Rattle.std.proofs.lemmas.List.{append-nil}
@@ -17,8 +17,8 @@ use Rattle.disk_queue.specs.Seen.{Seen as Queue}
 use Rattle.backlog.specs.Seen.{IsOpenedAt, Seen as Backlog}
 use Rattle.backlog.specs.Lists.{OnDisk, Stands}
 use Rattle.broker_history.specs.Found.{started_channel}
-use Rattle.broker_history.specs.State.{Channel, Copy, Queued, Topic, Waiting, is_ephemeral_channel, is_live}
-use Rattle.broker_history.specs.Channels.{HasLive, IsKept, copy_at}
+use Rattle.broker_history.specs.State.{Channel, Copy, Waiting, is_ephemeral_channel, is_live}
+use Rattle.broker_history.specs.Channels.{IsKept}
 use Rattle.broker_history.proofs.Counting.{count-cons}
 use Rattle.topic_core.specs.Laws.{OwnFilesStay}
 use Rattle.topic_core.specs.Rows.{FindsMessages, IsTopicOf, found_topic, paused_in}

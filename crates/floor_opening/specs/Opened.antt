@@ -1,5 +1,5 @@
 -- What opening a topic with its channels makes of a hall, and what it leaves of files.
-use Rattle.std.specs.Prelude.{◌≡◌, ◌≢◌, ◌⊎◌, ◌≤◌, ℕ, Bool, false, true, IsTrue, List, [], ◌∷◌, ◌++◌, All, Contains, map, Option, Some, None}
+use Rattle.std.specs.Prelude.{◌≡◌, ◌≢◌, ◌⊎◌, ◌≤◌, ℕ, Bool, false, true, IsTrue, List, [], ◌∷◌, ◌++◌, All, Contains, map, None}
 use Rattle.std.specs.List.{list_any}
 use Rattle.std.specs.Str.{bytes_eq}
 use Rattle.nsq_base.specs.Name.{IsName}

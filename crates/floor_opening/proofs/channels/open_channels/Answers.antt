@@ -1,8 +1,8 @@
-use Rattle.std.proofs.Common.{◌≡◌, ◌∙◌, ◌++◌, ◌∷◌, [], List, Bool, ℕ, inr, Some, None, take, refl, sym, ap, subst}
-use Rattle.channel_core.specs.Seen.{queue_name}
-use Rattle.floor_rooms.specs.declared.room.Room.{Room}
+use Rattle.std.proofs.Common.{◌∙◌, ℕ, inr, take, sym, ap, subst}
+use Rattle.nsq_base.specs.Name.{IsName}
 use Rattle.floor_rooms.specs.Rooms.{stall_in}
-use Rattle.floor_opening.specs.Opened.{HasOpened}
+use Rattle.floor_opening.specs.Opened.{HasOpened, RefusesChannel}
+use Rattle.floor_opening.proofs.Parting.{handed_on}
 use Rattle.floor_opening.proofs.Joining.{next_apart, next_one, next_stays, opened_one, taken_next}
 use Rattle.floor_opening.proofs.channels.open_channels.Goals as goal
 
@@ -11,14 +11,14 @@ returns-in_err-stall-clause-refused g c = λ told.
     let xs = c.args.channels.now in
     let i : ℕ = c.channels.item-index in
     let apart = next_apart xs i c.item-item.result c.channels-test.true c.item-item.is c.requires.apart in
-    inr (record {
+    handed_on c.from_residual.result c.in_err-stall.field-0.0 (λ e. RefusesChannel c.args.topic xs (g.F.Folder.files c.args.folder.now) (g.F.Folder.files c.open_stall.new.folder) e) c.from_residual.ensures.1 (inr (record {
       channel = c.item-item.result;
       one = next_one xs i c.item-item.result c.channels-test.true c.item-item.is;
       before = g.F.Folder.files c.channels.folder;
-      same = next_stays g.F.Folder.tells_files c.args.hall.now.options c.args.topic (take i xs) c.item-item.result (g.F.Folder.files c.args.folder.now) (g.F.Folder.files c.channels.folder) (g.F.Folder.files c.open_stall.new.folder) (g.F.Folder.folder_faults c.args.folder.now) (g.F.Folder.folder_faults c.channels.folder)
-          (g.F.Folder.folder_faults c.open_stall.new.folder) c.args.room.now c.channels.room c.channels.room _ c.bytes.ensures.is_name c.channels.invariant c.requires.named.queue apart told;
+      same = next_stays g.F.Folder.tells_files c.args.hall.now.options c.args.topic (take i xs) c.item-item.result (g.F.Folder.files c.args.folder.now) (g.F.Folder.files c.channels.folder) (g.F.Folder.folder_faults c.args.folder.now) (g.F.Folder.folder_faults c.channels.folder) c.args.room.now c.channels.room
+          (subst IsName c.bytes.ensures.value c.bytes.ensures.is_name) c.channels.invariant apart told;
       refused = c.in_err-stall.ensures.refused told;
-    })
+    }))
 
 pub returns-in_err-stall-clause-files : goal.returns-in_err-stall-clause-files
 returns-in_err-stall-clause-files g c = λ told file no_topic no_channel. c.open_stall.ensures.others told file (no_channel c.item-item.result.0) ∙ c.channels.invariant.only told file no_topic no_channel
@@ -40,5 +40,5 @@ channels-preserved g c =
     (λ done. HasOpened g.F.Folder.tells_files c.args.hall.now.options c.args.topic done (g.F.Folder.files c.args.folder.now) (g.F.Folder.files c.open_stall.new.folder) (g.F.Folder.folder_faults c.args.folder.now) (g.F.Folder.folder_faults c.open_stall.new.folder) c.args.room.now c.put_stall.new.room)
     (sym (taken_next xs i c.item-item.result c.channels-test.true c.item-item.is))
     (opened_one g.F.Folder.tells_files c.args.hall.now.options c.args.topic (take i xs) c.item-item.result (g.F.Folder.files c.args.folder.now) (g.F.Folder.files c.channels.folder) (g.F.Folder.files c.open_stall.new.folder) (g.F.Folder.folder_faults c.args.folder.now) (g.F.Folder.folder_faults c.channels.folder)
-    (g.F.Folder.folder_faults c.open_stall.new.folder) c.args.room.now c.channels.room c.put_stall.new.room c.in_ok-stall.stall c.bytes.ensures.is_name c.channels.invariant c.requires.named.queue apart c.in_ok-stall.ensures.stall c.in_ok-stall.ensures.named c.in_ok-stall.ensures.told c.open_stall.ensures.others
+    (g.F.Folder.folder_faults c.open_stall.new.folder) c.args.room.now c.channels.room c.put_stall.new.room c.in_ok-stall.stall (subst IsName c.bytes.ensures.value c.bytes.ensures.is_name) c.channels.invariant c.requires.named.queue apart c.in_ok-stall.ensures.stall c.in_ok-stall.ensures.named c.in_ok-stall.ensures.told c.open_stall.ensures.others
     c.open_stall.ensures.faults c.put_stall.ensures.rest c.in_ok-put_stall.ensures.ok)

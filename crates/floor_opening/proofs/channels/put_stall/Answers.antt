@@ -1,4 +1,3 @@
-use Rattle.std.proofs.Common.{sym}
 use Rattle.floor_rooms.specs.Rooms.{channel_name}
 use Rattle.floor_opening.proofs.Parting.{no_place}
 use Rattle.floor_opening.proofs.channels.put_stall.Goals as goal

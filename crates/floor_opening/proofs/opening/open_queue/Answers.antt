@@ -1,4 +1,4 @@
-use Rattle.std.proofs.Common.{None, refl, sym, subst, true}
+use Rattle.std.proofs.Common.{None, sym, subst, true}
 use Rattle.topic_core.specs.Rows.{found_topic}
 use Rattle.topic_core.specs.Seen.{Seen as TopicSeen}
 use Rattle.backlog.specs.Lists.{Stands}

@@ -38,7 +38,7 @@ impl<F: Folder, C: Clock, J: Journal<Entry>> Floor<F, C, J> {
         requires name { blank.name ≡ L.name }
         requires parts { blank.parts ≡ L.parts }
         requires some { 0 < L.parts }
-        requires open { self.old.held.flushed ≡ false }
+        requires unflushed { self.old.held.flushed ≡ false }
         ensures left { IsTrue F.tells_files → (s : State) → HoldsFor self.old.held.hall (F.files self.old.folder) s → LeavesWhere result s (F.files self.new.folder) }
         ensures kept { hall_kept self.new.held.hall ≡ hall_kept self.old.held.hall }
         ensures held { self.new.held ≡ record { hall = record (self.old.held.hall) { rooms = self.new.held.hall.rooms }; flushed = true } }

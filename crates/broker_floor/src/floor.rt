@@ -53,7 +53,7 @@ impl<F: Folder, C: Clock, J: Journal<Entry>> Floor<F, C, J> {
         requires aside { J.is_aside kit.journal ≡ false }
         requires empty { IsTrue J.tells_notes → J.notes kit.journal ≡ [] }
         ensures hall { IfOk result (λ floor. IsEmptyHall options.now epoch floor.held.hall.moment floor.held.hall) }
-        ensures open { IfOk result (λ floor. floor.held.flushed ≡ false) }
+        ensures unflushed { IfOk result (λ floor. floor.held.flushed ≡ false) }
         ensures opens { (files : Files) → IfOk result (λ floor. StandsFor floor.held.hall files (empty_state options.now epoch floor.held.hall.moment)) }
         ensures stands { (files : Files) → IsUnused files → IfOk result (λ floor. HoldsFor floor.held.hall files (empty_state options.now epoch floor.held.hall.moment)) }
         ensures moment { IfOk result (λ floor. IsTrue C.tells_readings → floor.held.hall.moment ≡ moment_of (C.coming kit.clock) 1) }

@@ -3,6 +3,7 @@
 //! `floor_turns`' `specs/Turns.antt` says what one turn does, its `specs/Leads.antt` what turns of a number lead to.
 #![tactic(auto)]
 
+mod adding;
 mod ending;
 mod floor;
 mod serving;

@@ -22,10 +22,10 @@ impl<F: Folder, C: Clock, J: Journal<Entry>> Floor<F, C, J> {
     /// one that a Stop keeps off is answered Stopping: neither moves anything. After Memory the moves that were made stand, and no act was made. Requires that
     /// the floor wasn't flushed.
     pub fn turn(&mut self, alloc: Global, number: u64, call: Call) -> Turned
-        requires open { self.old.held.flushed ≡ false }
+        requires unflushed { self.old.held.flushed ≡ false }
         requires can { CanCall call }
         requires may { IsTrue J.tells_notes → MayCall number (own number (J.notes self.old.journal)) call }
-        ensures open { self.new.held.flushed ≡ false }
+        ensures unflushed { self.new.held.flushed ≡ false }
         ensures turn { IsTurn J.tells_notes F.tells_files C.tells_readings number call result (scene self.old.held.hall (J.notes self.old.journal) (F.files self.old.folder) (F.folder_faults self.old.folder) (C.coming self.old.clock)) (scene self.new.held.hall (J.notes self.new.journal) (F.files self.new.folder) (F.folder_faults self.new.folder) (C.coming self.new.clock)) }
         ensures timely { TicksTimely call result self.new.held.hall (F.folder_faults self.old.folder) (F.folder_faults self.new.folder) }
         ensures grows { IsTrue J.tells_notes → Grows (J.notes self.old.journal) (J.notes self.new.journal) }
@@ -43,10 +43,10 @@ impl<F: Folder, C: Clock, J: Journal<Entry>> Floor<F, C, J> {
         requires name { blank.name ≡ L.name }
         requires parts { blank.parts ≡ L.parts }
         requires some { 0 < L.parts }
-        requires open { self.old.held.flushed ≡ false }
+        requires unflushed { self.old.held.flushed ≡ false }
         requires can { CanCall call }
         requires may { IsTrue J.tells_notes → MayCall number (own number (J.notes self.old.journal)) call }
-        ensures open { self.new.held.flushed ≡ false }
+        ensures unflushed { self.new.held.flushed ≡ false }
         ensures turn { IsTurn J.tells_notes F.tells_files C.tells_readings number call result (scene self.old.held.hall (J.notes self.old.journal) (F.files self.old.folder) (F.folder_faults self.old.folder) (C.coming self.old.clock)) (scene self.new.held.hall (J.notes self.new.journal) (F.files self.new.folder) (F.folder_faults self.new.folder) (C.coming self.new.clock)) }
     {
         let mut steps: Steps<L> = Steps::new(blank);

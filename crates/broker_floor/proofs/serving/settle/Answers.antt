@@ -4,8 +4,8 @@ use Rattle.floor_turns.proofs.Whole.{sound_marked}
 use Rattle.broker_floor.proofs.Settling.{settles_marked, settles_saved, stuck_saved, timely_other, timely_saved}
 use Rattle.broker_floor.proofs.serving.settle.Goals as goal
 
-pub sync_all-requires-clause-sound : goal.sync_all-requires-clause-sound
-sync_all-requires-clause-sound g c = sound_marked c.args.hall.now (record (c.args.hall.now) { stuck = c.is_stuck_stop-hall.result }) c.requires refl
+pub sync_all-requires : goal.sync_all-requires
+sync_all-requires g c = sound_marked c.args.hall.now (record (c.args.hall.now) { stuck = c.is_stuck_stop-hall.result }) c.requires refl
 
 pub returns-then-not-is_saving-clause-settles : goal.returns-then-not-is_saving-clause-settles
 returns-then-not-is_saving-clause-settles g c =

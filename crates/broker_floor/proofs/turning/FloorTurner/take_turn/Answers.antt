@@ -18,4 +18,4 @@ pub returns-then-is_flushed-clause-leads : goal.returns-then-is_flushed-clause-l
 returns-then-is_flushed-clause-leads g c = (refl, leads_stay _ _ _ _ _)
 
 pub returns-clause-leads : goal.returns-clause-leads
-returns-clause-leads g c = (c.turn.ensures.open ∙ sym (sym c.is_flushed.ensures ∙ c.if-is_flushed.false), turn_leads _ _ _ c.args.conn c.args.call c.turn.result _ _ c.requires.may c.turn.ensures.turn)
+returns-clause-leads g c = (c.turn.ensures.unflushed ∙ sym (sym c.is_flushed.ensures ∙ c.if-is_flushed.false), turn_leads _ _ _ c.args.conn c.args.call c.turn.result _ _ c.requires.may c.turn.ensures.turn)

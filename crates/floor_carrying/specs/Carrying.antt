@@ -17,27 +17,27 @@ use Rattle.floor_turns.specs.Acting.{ActCarries, IsNoted, LeavesClients, SameCli
 use Rattle.floor_carrying.specs.declared.carried.Carried.{Carried}
 
 -- a hall in a folder's files, and the folder's count of faults
-pub record Ground : Type 0 where
+pub record Basis : Type 0 where
   pub hall : Hall
   pub files : Files
   pub faults : ℕ
 
-abbrev pub ground : Hall → Files → ℕ → Ground
-ground h f n = record { hall = h; files = f; faults = n }
+abbrev pub basis : Hall → Files → ℕ → Basis
+basis h f n = record { hall = h; files = f; faults = n }
 
 -- what carrying out leaves, however it ends
-pub record Around (tells : Bool) (old new : Ground) : Type 0 where
+pub record Around (tells : Bool) (old new : Basis) : Type 0 where
   pub stays : StaysSet old.hall new.hall
   pub sound : IsSound new.hall
   pub files : IsTrue tells → OnlyQueueFiles old.files new.files
   pub faults : old.faults ≤ new.faults
 
 -- from each state that the hall stood for, the change leads to one that it stands for
-abbrev pub Leads : (tells : Bool) → (old new : Ground) → (Does : State → State → Type 0) → Type 0
+abbrev pub Leads : (tells : Bool) → (old new : Basis) → (Does : State → State → Type 0) → Type 0
 Leads tells old new Does = IsTrue tells → Carries old.hall old.files new.hall new.files Does
 
 -- an act of a number was carried out, ended and was answered so
-pub record Ends (tells : Bool) (number : ℕ) (a : Act) (old new : Ground) (c : Carried) : Type 0 where
+pub record Ends (tells : Bool) (number : ℕ) (a : Act) (old new : Basis) (c : Carried) : Type 0 where
   pub does : IsTrue tells → ActCarries old.hall old.files new.hall new.files number a c.end
   pub answer : c.answer ≡ answer_of old.hall.moment a c.end
   pub noted : IsNoted c.end
@@ -46,15 +46,15 @@ pub record Ends (tells : Bool) (number : ℕ) (a : Act) (old new : Ground) (c : 
   pub short : IsShortAnswer c.answer
 
 -- or memory was wanting, and all is as it was
-pub record Rests (tells : Bool) (old new : Ground) : Type 0 where
+pub record Rests (tells : Bool) (old new : Basis) : Type 0 where
   pub rests : Leads tells old new (λ s t. t ≡ s)
   pub same : SameClients old.hall new.hall
 
-abbrev pub EndsBy : {E : Type 0} → (tells : Bool) → (number : ℕ) → Act → (old new : Ground) → Result Carried E → Type 0
+abbrev pub EndsBy : {E : Type 0} → (tells : Bool) → (number : ℕ) → Act → (old new : Basis) → Result Carried E → Type 0
 EndsBy tells number a old new (Ok c) = Ends tells number a old new c
 EndsBy tells number a old new (Err e) = Rests tells old new
 
-pub record CarriesOut {E : Type 0} (tells : Bool) (number : ℕ) (a : Act) (old new : Ground) (r : Result Carried E) : Type 0 where
+pub record CarriesOut {E : Type 0} (tells : Bool) (number : ℕ) (a : Act) (old new : Basis) (r : Result Carried E) : Type 0 where
   pub around : Around tells old new
   pub ends : EndsBy tells number a old new r
 

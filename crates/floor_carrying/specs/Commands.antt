@@ -18,7 +18,7 @@ use Rattle.floor_acts.specs.Acts.{DoesAt}
 use Rattle.floor_turns.specs.Acting.{SameClients}
 use Rattle.floor_carrying.specs.declared.commanded.Commanded.{Commanded}
 use Rattle.floor_carrying.specs.declared.commanded.Commanded.TheVariants.{Done, Fault}
-use Rattle.floor_carrying.specs.Carrying.{Around, Ground, Leads}
+use Rattle.floor_carrying.specs.Carrying.{Around, Basis, Leads}
 
 -- the client at a place gives the command, and its reply is no error
 pub record IsAccepted (h : Hall) (k : ℕ) (c : Command) : Type 0 where
@@ -35,22 +35,22 @@ KnowsSaid o (command.Identify body) found = SaysOf o body found
 KnowsSaid o _ found = Unit {0}
 
 -- a disk fault kept the command off, and this frame says so
-pub record KeepsOff (tells : Bool) (k : ℕ) (c : Command) (old new : Ground) (frame : Frame) : Type 0 where
+pub record KeepsOff (tells : Bool) (k : ℕ) (c : Command) (old new : Basis) (frame : Frame) : Type 0 where
   pub does : IsTrue tells → DoesAt k c true old.hall old.files new.hall new.files
   pub says : disk_reply c ≡ Some frame
   pub short : IsShortFrame frame
   pub rose : Rose old.faults new.faults
 
 -- so the command of the client at a place ended
-abbrev pub CommandsSo : (tells : Bool) → (k : ℕ) → Command → (old new : Ground) → Commanded → Type 0
+abbrev pub CommandsSo : (tells : Bool) → (k : ℕ) → Command → (old new : Basis) → Commanded → Type 0
 CommandsSo tells k c old new Done = IsTrue tells → DoesAt k c false old.hall old.files new.hall new.files
 CommandsSo tells k c old new (Fault frame) = KeepsOff tells k c old new frame
 
-abbrev pub CommandsBy : {E : Type 0} → (tells : Bool) → (k : ℕ) → Command → (old new : Ground) → Result Commanded E → Type 0
+abbrev pub CommandsBy : {E : Type 0} → (tells : Bool) → (k : ℕ) → Command → (old new : Basis) → Result Commanded E → Type 0
 CommandsBy tells k c old new (Ok ended) = CommandsSo tells k c old new ended
 CommandsBy tells k c old new (Err e) = Leads tells old new (λ s t. t ≡ s)
 
-pub record CarriesCommand {E : Type 0} (tells : Bool) (k : ℕ) (c : Command) (old new : Ground) (r : Result Commanded E) : Type 0 where
+pub record CarriesCommand {E : Type 0} (tells : Bool) (k : ℕ) (c : Command) (old new : Basis) (r : Result Commanded E) : Type 0 where
   pub around : Around tells old new
   pub same : SameClients old.hall new.hall
   pub ends : CommandsBy tells k c old new r

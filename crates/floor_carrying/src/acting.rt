@@ -8,7 +8,7 @@ ghost use Rattle.floor_rooms.specs.Standing.{Carries};
 ghost use Rattle.floor_moves.specs.Moves.{sight};
 ghost use Rattle.desk.specs.declared.call.Call.{Call};
 ghost use Rattle.floor_turns.specs.Acting.{ActCarries, Acts, IsNoted, IsPlanned, IsPlannedFor, LeavesClients, SameClients, StaysSet, answer_of, conn_of};
-ghost use Rattle.floor_carrying.specs.Carrying.{CarriesOut, ground};
+ghost use Rattle.floor_carrying.specs.Carrying.{CarriesOut, basis};
 
 use crate::Carried;
 use crate::acts::{carry_beat, carry_begin, carry_gone, carry_stop, leave};
@@ -67,7 +67,7 @@ fn carry_act<F: Folder, L: Ledger>(
     requires sound { IsSound hall.old }
     requires plan { IsPlanned hall.old number act said }
     requires scratch { 16777242 ≤ length scratch.old }
-    ensures { CarriesOut F.tells_files number act (ground hall.old (F.files folder.old) (F.folder_faults folder.old)) (ground hall.new (F.files folder.new) (F.folder_faults folder.new)) result }
+    ensures { CarriesOut F.tells_files number act (basis hall.old (F.files folder.old) (F.folder_faults folder.old)) (basis hall.new (F.files folder.new) (F.folder_faults folder.new)) result }
 {
     match act {
         Act::Began => carry_begin(hall, number),

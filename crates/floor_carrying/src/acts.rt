@@ -5,7 +5,7 @@ ghost use Rattle.nsq_outside.specs.declared.journal.End.TheVariants as end;
 ghost use Rattle.floor_rooms.specs.Rooms.{client_in};
 ghost use Rattle.floor_rooms.specs.Sound.{IsSound};
 ghost use Rattle.floor_turns.specs.Acting.{answer_of};
-ghost use Rattle.floor_carrying.specs.Carrying.{CarriesOut, IsLeft, ground};
+ghost use Rattle.floor_carrying.specs.Carrying.{CarriesOut, IsLeft, basis};
 
 use crate::Carried;
 use broker_history::Act;
@@ -21,7 +21,7 @@ use nsq_outside::{End, Folder};
 pub(crate) fn carry_begin(hall: &mut Hall, number: u64) -> Result<Carried, Memory>
     requires sound { IsSound hall.old }
     requires new { client_in hall.old.clients.items number ≡ None }
-    ensures { (tells : Bool) (files : Files) (faults : ℕ) → CarriesOut tells number Began (ground hall.old files faults) (ground hall.new files faults) result }
+    ensures { (tells : Bool) (files : Files) (faults : ℕ) → CarriesOut tells number Began (basis hall.old files faults) (basis hall.new files faults) result }
 {
     begin(hall, number)?;
     Ok(done(Turned::Begun))
@@ -31,7 +31,7 @@ pub(crate) fn carry_begin(hall: &mut Hall, number: u64) -> Result<Carried, Memor
 pub(crate) fn carry_beat(hall: &mut Hall, number: u64) -> Result<Carried, Memory>
     requires sound { IsSound hall.old }
     requires there { is_some (client_in hall.old.clients.items number) ≡ true }
-    ensures { (tells : Bool) (files : Files) (faults : ℕ) → CarriesOut tells number Beat (ground hall.old files faults) (ground hall.new files faults) result }
+    ensures { (tells : Bool) (files : Files) (faults : ℕ) → CarriesOut tells number Beat (basis hall.old files faults) (basis hall.new files faults) result }
 {
     let frame = beat_frame(hall.alloc)?;
     let Some(k) = hall.client_place(number) else {
@@ -49,7 +49,7 @@ pub(crate) fn carry_gone<F: Folder>(
 ) -> Result<Carried, Memory>
     requires sound { IsSound hall.old }
     requires there { is_some (client_in hall.old.clients.items number) ≡ true }
-    ensures { CarriesOut F.tells_files number Gone (ground hall.old (F.files folder.old) (F.folder_faults folder.old)) (ground hall.new (F.files folder.new) (F.folder_faults folder.new)) result }
+    ensures { CarriesOut F.tells_files number Gone (basis hall.old (F.files folder.old) (F.folder_faults folder.old)) (basis hall.new (F.files folder.new) (F.folder_faults folder.new)) result }
 {
     let Some(k) = hall.client_place(number) else {
         unreachable!()
@@ -61,7 +61,7 @@ pub(crate) fn carry_gone<F: Folder>(
 // The Stop is noted.
 pub(crate) fn carry_stop(hall: &mut Hall) -> Result<Carried, Memory>
     requires { IsSound hall.old }
-    ensures { (tells : Bool) (number : ℕ) (files : Files) (faults : ℕ) → CarriesOut tells number Stop (ground hall.old files faults) (ground hall.new files faults) result }
+    ensures { (tells : Bool) (number : ℕ) (files : Files) (faults : ℕ) → CarriesOut tells number Stop (basis hall.old files faults) (basis hall.new files faults) result }
 {
     stop(hall);
     Ok(done(Turned::Stopping))

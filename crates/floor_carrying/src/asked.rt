@@ -3,7 +3,7 @@ ghost use Rattle.broker_history.specs.declared.entry.Act.TheVariants.{Asked};
 ghost use Rattle.broker_history.specs.declared.ask.Ask.TheVariants as ask;
 ghost use Rattle.desk.specs.Calls.{CanAsk};
 ghost use Rattle.floor_rooms.specs.Sound.{IsSound};
-ghost use Rattle.floor_carrying.specs.Carrying.{CarriesOut, ground};
+ghost use Rattle.floor_carrying.specs.Carrying.{CarriesOut, basis};
 ghost use Rattle.floor_carrying.specs.Asks.{CarriesAsk};
 
 use crate::Carried;
@@ -27,7 +27,7 @@ pub(crate) fn carry_asked<F: Folder>(
     requires sound { IsSound hall.old }
     requires can { CanAsk ask }
     requires scratch { 16777242 ≤ length scratch.old }
-    ensures { (number : ℕ) → CarriesOut F.tells_files number (Asked ask said) (ground hall.old (F.files folder.old) (F.folder_faults folder.old)) (ground hall.new (F.files folder.new) (F.folder_faults folder.new)) result }
+    ensures { (number : ℕ) → CarriesOut F.tells_files number (Asked ask said) (basis hall.old (F.files folder.old) (F.folder_faults folder.old)) (basis hall.new (F.files folder.new) (F.folder_faults folder.new)) result }
 {
     if !is_done(&said) {
         return Ok(Carried {
@@ -57,7 +57,7 @@ fn do_ask<F: Folder>(
     requires sound { IsSound hall.old }
     requires can { CanAsk ask }
     requires scratch { 16777242 ≤ length scratch.old }
-    ensures { CarriesAsk F.tells_files ask (ground hall.old (F.files folder.old) (F.folder_faults folder.old)) (ground hall.new (F.files folder.new) (F.folder_faults folder.new)) result }
+    ensures { CarriesAsk F.tells_files ask (basis hall.old (F.files folder.old) (F.folder_faults folder.old)) (basis hall.new (F.files folder.new) (F.folder_faults folder.new)) result }
 {
     match ask {
         Ask::Publish(topic, delay, bodies) => {

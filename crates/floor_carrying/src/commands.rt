@@ -4,7 +4,7 @@ ghost use Rattle.v2_frame.specs.declared.command.Command.TheVariants as command;
 ghost use Rattle.broker_history.specs.declared.entry.Act.TheVariants.{Did};
 ghost use Rattle.floor_rooms.specs.Sound.{IsSound};
 ghost use Rattle.floor_turns.specs.Acting.{IsPlanned};
-ghost use Rattle.floor_carrying.specs.Carrying.{CarriesOut, ground};
+ghost use Rattle.floor_carrying.specs.Carrying.{CarriesOut, basis};
 ghost use Rattle.floor_carrying.specs.Commands.{CarriesCommand, IsAccepted, KnowsSaid};
 
 use crate::Carried;
@@ -37,7 +37,7 @@ pub(crate) fn carry_command<F: Folder, L: Ledger>(
     requires sound { IsSound hall.old }
     requires plan { IsPlanned hall.old number (Did command reply) said }
     requires scratch { 16777242 ≤ length scratch.old }
-    ensures { CarriesOut F.tells_files number (Did command reply) (ground hall.old (F.files folder.old) (F.folder_faults folder.old)) (ground hall.new (F.files folder.new) (F.folder_faults folder.new)) result }
+    ensures { CarriesOut F.tells_files number (Did command reply) (basis hall.old (F.files folder.old) (F.folder_faults folder.old)) (basis hall.new (F.files folder.new) (F.folder_faults folder.new)) result }
 {
     let Some(k) = hall.client_place(number) else {
         unreachable!()
@@ -66,7 +66,7 @@ fn do_command<F: Folder, L: Ledger>(
     requires accepted { IsAccepted hall.old k command }
     requires said { KnowsSaid hall.old.options command said }
     requires scratch { 16777242 ≤ length scratch.old }
-    ensures { CarriesCommand F.tells_files k command (ground hall.old (F.files folder.old) (F.folder_faults folder.old)) (ground hall.new (F.files folder.new) (F.folder_faults folder.new)) result }
+    ensures { CarriesCommand F.tells_files k command (basis hall.old (F.files folder.old) (F.folder_faults folder.old)) (basis hall.new (F.files folder.new) (F.folder_faults folder.new)) result }
 {
     match command {
         Command::Identify(body) => introduce(hall, k, body, said),
@@ -95,10 +95,11 @@ fn introduce(
     requires sound { IsSound hall.old }
     requires accepted { IsAccepted hall.old k (command.Identify body) }
     requires said { KnowsSaid hall.old.options (command.Identify body) said }
-    ensures { (tells : Bool) (files : Files) (faults : ℕ) → CarriesCommand tells k (command.Identify body) (ground hall.old files faults) (ground hall.new files faults) result }
+    ensures { (tells : Bool) (files : Files) (faults : ℕ) → CarriesCommand tells k (command.Identify body) (basis hall.old files faults) (basis hall.new files faults) result }
 {
     let _ = body;
     let Some(identity) = said else { unreachable!() };
+    hall.clients[k].fresh_has_none();
     identify(hall, k, identity);
     Ok(Commanded::Done)
 }
@@ -107,8 +108,9 @@ fn introduce(
 fn join(hall: &mut Hall, k: usize, topic: Topic, channel: Chan) -> Result<Commanded, Memory>
     requires sound { IsSound hall.old }
     requires accepted { IsAccepted hall.old k (command.Sub topic channel) }
-    ensures { (tells : Bool) (files : Files) (faults : ℕ) → CarriesCommand tells k (command.Sub topic channel) (ground hall.old files faults) (ground hall.new files faults) result }
+    ensures { (tells : Bool) (files : Files) (faults : ℕ) → CarriesCommand tells k (command.Sub topic channel) (basis hall.old files faults) (basis hall.new files faults) result }
 {
+    hall.clients[k].fresh_has_none();
     subscribe(hall, k, topic, channel)?;
     Ok(Commanded::Done)
 }
@@ -117,7 +119,7 @@ fn join(hall: &mut Hall, k: usize, topic: Topic, channel: Chan) -> Result<Comman
 fn ready(hall: &mut Hall, k: usize, count: i64) -> Result<Commanded, Memory>
     requires sound { IsSound hall.old }
     requires accepted { IsAccepted hall.old k (command.Rdy count) }
-    ensures { (tells : Bool) (files : Files) (faults : ℕ) → CarriesCommand tells k (command.Rdy count) (ground hall.old files faults) (ground hall.new files faults) result }
+    ensures { (tells : Bool) (files : Files) (faults : ℕ) → CarriesCommand tells k (command.Rdy count) (basis hall.old files faults) (basis hall.new files faults) result }
 {
     set_ready(hall, k, count_of(count));
     Ok(Commanded::Done)
@@ -127,7 +129,7 @@ fn ready(hall: &mut Hall, k: usize, count: i64) -> Result<Commanded, Memory>
 fn end(hall: &mut Hall, k: usize) -> Result<Commanded, Memory>
     requires sound { IsSound hall.old }
     requires accepted { IsAccepted hall.old k command.Cls }
-    ensures { (tells : Bool) (files : Files) (faults : ℕ) → CarriesCommand tells k command.Cls (ground hall.old files faults) (ground hall.new files faults) result }
+    ensures { (tells : Bool) (files : Files) (faults : ℕ) → CarriesCommand tells k command.Cls (basis hall.old files faults) (basis hall.new files faults) result }
 {
     close(hall, k);
     Ok(Commanded::Done)
@@ -137,7 +139,7 @@ fn end(hall: &mut Hall, k: usize) -> Result<Commanded, Memory>
 fn nothing(hall: &mut Hall, k: usize) -> Result<Commanded, Memory>
     requires sound { IsSound hall.old }
     requires accepted { IsAccepted hall.old k command.Nop }
-    ensures { (tells : Bool) (files : Files) (faults : ℕ) → CarriesCommand tells k command.Nop (ground hall.old files faults) (ground hall.new files faults) result }
+    ensures { (tells : Bool) (files : Files) (faults : ℕ) → CarriesCommand tells k command.Nop (basis hall.old files faults) (basis hall.new files faults) result }
 {
     speak(hall, k);
     Ok(Commanded::Done)

@@ -4,7 +4,7 @@ ghost use Rattle.v2_frame.specs.declared.command.Command.TheVariants as command;
 ghost use Rattle.broker_history.specs.Reply.{disk_fault};
 ghost use Rattle.floor_rooms.specs.Sound.{IsSound};
 ghost use Rattle.floor_replies.specs.Replies.{IsShort};
-ghost use Rattle.floor_carrying.specs.Carrying.{ground};
+ghost use Rattle.floor_carrying.specs.Carrying.{basis};
 ghost use Rattle.floor_carrying.specs.Commands.{CarriesCommand, IsAccepted};
 
 use crate::commanded::Commanded;
@@ -28,7 +28,7 @@ pub(crate) fn finish_own<L: Ledger>(
 ) -> Result<Commanded, Memory>
     requires sound { IsSound hall.old }
     requires accepted { IsAccepted hall.old k (command.Fin id) }
-    ensures { (tells : Bool) (files : Files) (faults : ℕ) → CarriesCommand tells k (command.Fin id) (ground hall.old files faults) (ground hall.new files faults) result }
+    ensures { (tells : Bool) (files : Files) (faults : ℕ) → CarriesCommand tells k (command.Fin id) (basis hall.old files faults) (basis hall.new files faults) result }
 {
     finish(hall, k, id, steps);
     Ok(Commanded::Done)
@@ -43,7 +43,7 @@ pub(crate) fn touch_own<L: Ledger>(
 ) -> Result<Commanded, Memory>
     requires sound { IsSound hall.old }
     requires accepted { IsAccepted hall.old k (command.Touch id) }
-    ensures { (tells : Bool) (files : Files) (faults : ℕ) → CarriesCommand tells k (command.Touch id) (ground hall.old files faults) (ground hall.new files faults) result }
+    ensures { (tells : Bool) (files : Files) (faults : ℕ) → CarriesCommand tells k (command.Touch id) (basis hall.old files faults) (basis hall.new files faults) result }
 {
     touch(hall, k, id, steps);
     Ok(Commanded::Done)
@@ -62,7 +62,7 @@ pub(crate) fn requeue_own<F: Folder, L: Ledger>(
     requires sound { IsSound hall.old }
     requires accepted { IsAccepted hall.old k (command.Req id delay) }
     requires scratch { 16777242 ≤ length scratch.old }
-    ensures { CarriesCommand F.tells_files k (command.Req id delay) (ground hall.old (F.files folder.old) (F.folder_faults folder.old)) (ground hall.new (F.files folder.new) (F.folder_faults folder.new)) result }
+    ensures { CarriesCommand F.tells_files k (command.Req id delay) (basis hall.old (F.files folder.old) (F.folder_faults folder.old)) (basis hall.new (F.files folder.new) (F.folder_faults folder.new)) result }
 {
     let span = span_of(delay, hall.options.max_req_timeout);
     let refusal = refusal_at(hall.alloc, span)?;

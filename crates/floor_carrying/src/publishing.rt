@@ -4,7 +4,7 @@ ghost use Rattle.v2_frame.specs.declared.command.Command.TheVariants as command;
 ghost use Rattle.broker_history.specs.Reply.{span_of};
 ghost use Rattle.floor_rooms.specs.Sound.{IsSound};
 ghost use Rattle.floor_rooms.specs.Standing.{longest_delay};
-ghost use Rattle.floor_carrying.specs.Carrying.{ground};
+ghost use Rattle.floor_carrying.specs.Carrying.{basis};
 ghost use Rattle.floor_carrying.specs.Commands.{CarriesCommand, IsAccepted, IsPublish};
 
 use crate::commanded::Commanded;
@@ -29,7 +29,7 @@ pub(crate) fn publish_one<F: Folder>(
     requires sound { IsSound hall.old }
     requires accepted { IsAccepted hall.old k (command.Pub topic body) }
     requires scratch { 16777242 ≤ length scratch.old }
-    ensures { CarriesCommand F.tells_files k (command.Pub topic body) (ground hall.old (F.files folder.old) (F.folder_faults folder.old)) (ground hall.new (F.files folder.new) (F.folder_faults folder.new)) result }
+    ensures { CarriesCommand F.tells_files k (command.Pub topic body) (basis hall.old (F.files folder.old) (F.folder_faults folder.old)) (basis hall.new (F.files folder.new) (F.folder_faults folder.new)) result }
 {
     let bodies = one(hall.alloc, body)?;
     publish_as(hall, k, topic, 0, bodies, b"E_PUB_FAILED", folder, scratch)
@@ -47,7 +47,7 @@ pub(crate) fn publish_batch<F: Folder>(
     requires sound { IsSound hall.old }
     requires accepted { IsAccepted hall.old k (command.Mpub topic bodies) }
     requires scratch { 16777242 ≤ length scratch.old }
-    ensures { CarriesCommand F.tells_files k (command.Mpub topic bodies) (ground hall.old (F.files folder.old) (F.folder_faults folder.old)) (ground hall.new (F.files folder.new) (F.folder_faults folder.new)) result }
+    ensures { CarriesCommand F.tells_files k (command.Mpub topic bodies) (basis hall.old (F.files folder.old) (F.folder_faults folder.old)) (basis hall.new (F.files folder.new) (F.folder_faults folder.new)) result }
 {
     let bodies = bodies.spend();
     publish_as(hall, k, topic, 0, bodies, b"E_MPUB_FAILED", folder, scratch)
@@ -66,7 +66,7 @@ pub(crate) fn publish_delayed<F: Folder>(
     requires sound { IsSound hall.old }
     requires accepted { IsAccepted hall.old k (command.Dpub topic delay body) }
     requires scratch { 16777242 ≤ length scratch.old }
-    ensures { CarriesCommand F.tells_files k (command.Dpub topic delay body) (ground hall.old (F.files folder.old) (F.folder_faults folder.old)) (ground hall.new (F.files folder.new) (F.folder_faults folder.new)) result }
+    ensures { CarriesCommand F.tells_files k (command.Dpub topic delay body) (basis hall.old (F.files folder.old) (F.folder_faults folder.old)) (basis hall.new (F.files folder.new) (F.folder_faults folder.new)) result }
 {
     let bodies = one(hall.alloc, body)?;
     let delay = span_of(delay, hall.options.max_req_timeout);
@@ -101,7 +101,7 @@ fn publish_as<F: Folder>(
     requires delay { delay ≤ longest_delay }
     requires word { length word.now ≤ 100 }
     requires scratch { 16777242 ≤ length scratch.old }
-    ensures { (c : Command) → IsPublish c topic delay bodies.items word.now → CarriesCommand F.tells_files k c (ground hall.old (F.files folder.old) (F.folder_faults folder.old)) (ground hall.new (F.files folder.new) (F.folder_faults folder.new)) result }
+    ensures { (c : Command) → IsPublish c topic delay bodies.items word.now → CarriesCommand F.tells_files k c (basis hall.old (F.files folder.old) (F.folder_faults folder.old)) (basis hall.new (F.files folder.new) (F.folder_faults folder.new)) result }
 {
     match publish(hall, topic, delay, bodies, folder, scratch)? {
         Published::Done => {

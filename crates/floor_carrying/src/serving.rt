@@ -3,7 +3,7 @@ ghost use Rattle.nsq_outside.specs.Files.{Files};
 ghost use Rattle.broker_history.specs.declared.ask.Ask.TheVariants as ask;
 ghost use Rattle.desk.specs.Calls.{CanAsk};
 ghost use Rattle.floor_rooms.specs.Sound.{IsSound};
-ghost use Rattle.floor_carrying.specs.Carrying.{ground};
+ghost use Rattle.floor_carrying.specs.Carrying.{basis};
 ghost use Rattle.floor_carrying.specs.Asks.{CarriesAsk, pauses};
 
 use crate::served::Served;
@@ -27,7 +27,7 @@ pub(crate) fn serve_publish<F: Folder>(
     requires sound { IsSound hall.old }
     requires can { CanAsk (ask.Publish topic delay bodies) }
     requires scratch { 16777242 ≤ length scratch.old }
-    ensures { CarriesAsk F.tells_files (ask.Publish topic delay bodies) (ground hall.old (F.files folder.old) (F.folder_faults folder.old)) (ground hall.new (F.files folder.new) (F.folder_faults folder.new)) result }
+    ensures { CarriesAsk F.tells_files (ask.Publish topic delay bodies) (basis hall.old (F.files folder.old) (F.folder_faults folder.old)) (basis hall.new (F.files folder.new) (F.folder_faults folder.new)) result }
 {
     if !are_left(hall.ids_used, bodies.count() as u64) {
         return Ok(Served::Done);
@@ -45,7 +45,7 @@ pub(crate) fn serve_nothing(
     channel: Option<Chan>,
 ) -> Result<Served, Memory>
     requires { IsSound hall.old }
-    ensures { (tells : Bool) (files : Files) (faults : ℕ) → CarriesAsk tells (ask.Stats topic channel) (ground hall.old files faults) (ground hall.new files faults) result }
+    ensures { (tells : Bool) (files : Files) (faults : ℕ) → CarriesAsk tells (ask.Stats topic channel) (basis hall.old files faults) (basis hall.new files faults) result }
 {
     let _ = (hall.moment, topic, channel);
     Ok(Served::Done)
@@ -58,7 +58,7 @@ pub(crate) fn serve_creation(
     channel: Option<Chan>,
 ) -> Result<Served, Memory>
     requires { IsSound hall.old }
-    ensures { (tells : Bool) (files : Files) (faults : ℕ) → CarriesAsk tells (ask.Create topic channel) (ground hall.old files faults) (ground hall.new files faults) result }
+    ensures { (tells : Bool) (files : Files) (faults : ℕ) → CarriesAsk tells (ask.Create topic channel) (basis hall.old files faults) (basis hall.new files faults) result }
 {
     create(hall, topic, channel)?;
     Ok(Served::Done)
@@ -72,7 +72,7 @@ pub(crate) fn serve_deletion<F: Folder>(
     folder: &mut F,
 ) -> Result<Served, Memory>
     requires { IsSound hall.old }
-    ensures { CarriesAsk F.tells_files (ask.Delete topic channel) (ground hall.old (F.files folder.old) (F.folder_faults folder.old)) (ground hall.new (F.files folder.new) (F.folder_faults folder.new)) result }
+    ensures { CarriesAsk F.tells_files (ask.Delete topic channel) (basis hall.old (F.files folder.old) (F.folder_faults folder.old)) (basis hall.new (F.files folder.new) (F.folder_faults folder.new)) result }
 {
     match channel {
         None => delete_whole(hall, topic, folder),
@@ -87,7 +87,7 @@ fn delete_whole<F: Folder>(
     folder: &mut F,
 ) -> Result<Served, Memory>
     requires { IsSound hall.old }
-    ensures { CarriesAsk F.tells_files (ask.Delete topic None) (ground hall.old (F.files folder.old) (F.folder_faults folder.old)) (ground hall.new (F.files folder.new) (F.folder_faults folder.new)) result }
+    ensures { CarriesAsk F.tells_files (ask.Delete topic None) (basis hall.old (F.files folder.old) (F.folder_faults folder.old)) (basis hall.new (F.files folder.new) (F.folder_faults folder.new)) result }
 {
     match delete_topic(hall, topic, folder) {
         Deleted::Done => Ok(Served::Done),
@@ -103,7 +103,7 @@ fn delete_one<F: Folder>(
     folder: &mut F,
 ) -> Result<Served, Memory>
     requires { IsSound hall.old }
-    ensures { CarriesAsk F.tells_files (ask.Delete topic (Some channel)) (ground hall.old (F.files folder.old) (F.folder_faults folder.old)) (ground hall.new (F.files folder.new) (F.folder_faults folder.new)) result }
+    ensures { CarriesAsk F.tells_files (ask.Delete topic (Some channel)) (basis hall.old (F.files folder.old) (F.folder_faults folder.old)) (basis hall.new (F.files folder.new) (F.folder_faults folder.new)) result }
 {
     match delete_channel(hall, topic, channel, folder) {
         Lost::Done => Ok(Served::Done),
@@ -119,7 +119,7 @@ pub(crate) fn serve_emptying<F: Folder>(
     folder: &mut F,
 ) -> Result<Served, Memory>
     requires { IsSound hall.old }
-    ensures { CarriesAsk F.tells_files (ask.Empty topic channel) (ground hall.old (F.files folder.old) (F.folder_faults folder.old)) (ground hall.new (F.files folder.new) (F.folder_faults folder.new)) result }
+    ensures { CarriesAsk F.tells_files (ask.Empty topic channel) (basis hall.old (F.files folder.old) (F.folder_faults folder.old)) (basis hall.new (F.files folder.new) (F.folder_faults folder.new)) result }
 {
     match channel {
         None => empty_whole(hall, topic, folder),
@@ -134,7 +134,7 @@ fn empty_whole<F: Folder>(
     folder: &mut F,
 ) -> Result<Served, Memory>
     requires { IsSound hall.old }
-    ensures { CarriesAsk F.tells_files (ask.Empty topic None) (ground hall.old (F.files folder.old) (F.folder_faults folder.old)) (ground hall.new (F.files folder.new) (F.folder_faults folder.new)) result }
+    ensures { CarriesAsk F.tells_files (ask.Empty topic None) (basis hall.old (F.files folder.old) (F.folder_faults folder.old)) (basis hall.new (F.files folder.new) (F.folder_faults folder.new)) result }
 {
     let Some(i) = hall.room_place(topic) else {
         return Ok(Served::Done);
@@ -153,7 +153,7 @@ fn empty_one<F: Folder>(
     folder: &mut F,
 ) -> Result<Served, Memory>
     requires { IsSound hall.old }
-    ensures { CarriesAsk F.tells_files (ask.Empty topic (Some channel)) (ground hall.old (F.files folder.old) (F.folder_faults folder.old)) (ground hall.new (F.files folder.new) (F.folder_faults folder.new)) result }
+    ensures { CarriesAsk F.tells_files (ask.Empty topic (Some channel)) (basis hall.old (F.files folder.old) (F.folder_faults folder.old)) (basis hall.new (F.files folder.new) (F.folder_faults folder.new)) result }
 {
     let Some(i) = hall.room_place(topic) else {
         return Ok(Served::Done);
@@ -175,7 +175,7 @@ pub(crate) fn serve_pause(
     on: bool,
 ) -> Result<Served, Memory>
     requires { IsSound hall.old }
-    ensures { (tells : Bool) (files : Files) (faults : ℕ) → CarriesAsk tells (pauses on topic channel) (ground hall.old files faults) (ground hall.new files faults) result }
+    ensures { (tells : Bool) (files : Files) (faults : ℕ) → CarriesAsk tells (pauses on topic channel) (basis hall.old files faults) (basis hall.new files faults) result }
 {
     match channel {
         None => pause_whole(hall, topic, on),
@@ -190,7 +190,7 @@ fn pause_whole(
     on: bool,
 ) -> Result<Served, Memory>
     requires { IsSound hall.old }
-    ensures { (tells : Bool) (files : Files) (faults : ℕ) → CarriesAsk tells (pauses on topic None) (ground hall.old files faults) (ground hall.new files faults) result }
+    ensures { (tells : Bool) (files : Files) (faults : ℕ) → CarriesAsk tells (pauses on topic None) (basis hall.old files faults) (basis hall.new files faults) result }
 {
     let Some(i) = hall.room_place(topic) else {
         return Ok(Served::Done);
@@ -207,7 +207,7 @@ fn pause_one(
     on: bool,
 ) -> Result<Served, Memory>
     requires { IsSound hall.old }
-    ensures { (tells : Bool) (files : Files) (faults : ℕ) → CarriesAsk tells (pauses on topic (Some channel)) (ground hall.old files faults) (ground hall.new files faults) result }
+    ensures { (tells : Bool) (files : Files) (faults : ℕ) → CarriesAsk tells (pauses on topic (Some channel)) (basis hall.old files faults) (basis hall.new files faults) result }
 {
     let Some(i) = hall.room_place(topic) else {
         return Ok(Served::Done);

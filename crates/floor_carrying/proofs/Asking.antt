@@ -51,20 +51,20 @@ said_found : (h : Hall) (topic : List ℕ) (channel : Option (List ℕ)) (f : Fi
 said_found h topic channel f s holds says = said_is h topic channel f s holds ∙ sym says
 
 -- nothing was done, as it isn't said to be done
-serves_none : (tells : Bool) (a : Ask) (h : Hall) (f : Files) (n : ℕ) {E : Type 0} → IsSound h → ((s : State) → HoldsFor h f s → Says s a said.Done → ⊥) → CarriesAsk {E} tells a (basis h f n) (basis h f n) (Ok Done)
+serves_none : (tells : Bool) (a : Ask) (h : Hall) (f : Files) (n : ℕ) {E : Type 0} → IsSound h → ((s : State) → HoldsFor h f s → Says s a said.Done → ⊥) → CarriesAsk {E = E} tells a (basis h f n) (basis h f n) (Ok Done)
 serves_none tells a h f n sound never = record { around = around_same tells h f n sound; same = same_hall h; ends = λ told s holds says. absurd (never s holds says) }
 
 -- the topic of an ask that names one, or a channel of it, is there where it is said to be done
 abbrev Names : Ask → (topic : List ℕ) → (channel : Option (List ℕ)) → Type 0
 Names a topic channel = (s : State) → Says s a said.Done → said.Done ≡ said_of (topic_of s topic) channel
 
-pub no_room : (tells : Bool) (a : Ask) (topic : List ℕ) (channel : Option (List ℕ)) (h : Hall) (f : Files) (n : ℕ) {E : Type 0} → IsSound h → Names a topic channel → room_in h.rooms.items topic ≡ None → CarriesAsk {E} tells a (basis h f n) (basis h f n) (Ok Done)
+pub no_room : (tells : Bool) (a : Ask) (topic : List ℕ) (channel : Option (List ℕ)) (h : Hall) (f : Files) (n : ℕ) {E : Type 0} → IsSound h → Names a topic channel → room_in h.rooms.items topic ≡ None → CarriesAsk {E = E} tells a (basis h f n) (basis h f n) (Ok Done)
 no_room tells a topic channel h f n sound names none = serves_none tells a h f n sound (λ s holds says. none_there h topic channel none (said_found h topic channel f s holds (names s says)))
 
-pub no_stall : (tells : Bool) (a : Ask) (topic channel : List ℕ) (r : Room) (h : Hall) (f : Files) (n : ℕ) {E : Type 0} → IsSound h → Names a topic (Some channel) → room_in h.rooms.items topic ≡ Some r → stall_in r.stalls.items channel ≡ None → CarriesAsk {E} tells a (basis h f n) (basis h f n) (Ok Done)
+pub no_stall : (tells : Bool) (a : Ask) (topic channel : List ℕ) (r : Room) (h : Hall) (f : Files) (n : ℕ) {E : Type 0} → IsSound h → Names a topic (Some channel) → room_in h.rooms.items topic ≡ Some r → stall_in r.stalls.items channel ≡ None → CarriesAsk {E = E} tells a (basis h f n) (basis h f n) (Ok Done)
 no_stall tells a topic channel r h f n sound names there none = serves_none tells a h f n sound (λ s holds says. none_in h topic channel r there none (said_found h topic (Some channel) f s holds (names s says)))
 
-pub no_ids : (tells : Bool) (topic : List ℕ) (delay : ℕ) (bodies : List (List ℕ)) (h : Hall) (f : Files) (n : ℕ) {E : Type 0} → IsSound h → are_left h.ids_used (length bodies) ≡ false → CarriesAsk {E} tells (ask.Publish topic delay bodies) (basis h f n) (basis h f n) (Ok Done)
+pub no_ids : (tells : Bool) (topic : List ℕ) (delay : ℕ) (bodies : List (List ℕ)) (h : Hall) (f : Files) (n : ℕ) {E : Type 0} → IsSound h → are_left h.ids_used (length bodies) ≡ false → CarriesAsk {E = E} tells (ask.Publish topic delay bodies) (basis h f n) (basis h f n) (Ok Done)
 no_ids tells topic delay bodies h f n sound none =
     serves_none tells (ask.Publish topic delay bodies) h f n sound
     (λ s holds says. false≢true (ap is_done (sym (says ∙ ap (λ used. if are_left used (length bodies) then said.Done else said.Ids) holds.stands.ids_used ∙ ap (λ b. if b then said.Done else said.Ids) none))))
@@ -104,13 +104,13 @@ module _ (tells : Bool) (h h' : Hall) (f f' : Files) (topic : List ℕ) (i : ℕ
 
 -- it was done, or a disk fault kept it off, or memory was wanting
 module _ (tells : Bool) (a : Ask) (h h' : Hall) (f f' : Files) (n n' : ℕ) (around : Around tells (basis h f n) (basis h' f' n')) (same : SameClients h h') {E : Type 0} where
-  pub ask_done : (IsTrue tells → Carries h f h' f' (λ s t. t ≡ carried_out s h.moment a)) → CarriesAsk {E} tells a (basis h f n) (basis h' f' n') (Ok Done)
+  pub ask_done : (IsTrue tells → Carries h f h' f' (λ s t. t ≡ carried_out s h.moment a)) → CarriesAsk {E = E} tells a (basis h f n) (basis h' f' n') (Ok Done)
   ask_done told = record { around = around; same = same; ends = λ tell s holds says. told tell s holds }
 
-  pub ask_fault : (count : ℕ) → BreaksOff tells a count (basis h f n) (basis h' f' n') → CarriesAsk {E} tells a (basis h f n) (basis h' f' n') (Ok (Fault count))
+  pub ask_fault : (count : ℕ) → BreaksOff tells a count (basis h f n) (basis h' f' n') → CarriesAsk {E = E} tells a (basis h f n) (basis h' f' n') (Ok (Fault count))
   ask_fault count x = record { around = around; same = same; ends = x }
 
-  pub ask_not : (e : E) → (IsTrue tells → Carries h f h' f' (λ s t. t ≡ s)) → CarriesAsk {E} tells a (basis h f n) (basis h' f' n') (Err e)
+  pub ask_not : (e : E) → (IsTrue tells → Carries h f h' f' (λ s t. t ≡ s)) → CarriesAsk {E = E} tells a (basis h f n) (basis h' f' n') (Err e)
   ask_not e told = record { around = around; same = same; ends = told }
 
 -- faults that leave all as it was
@@ -146,7 +146,7 @@ or_false false = refl
 leaves_asked : (a : Ask) (answer : Said) (number : ℕ) (h h' : Hall) → SameClients h h' → LeavesClients (Asked a answer) number h h'
 leaves_asked a answer number h h' same = record { there = same.there; stopped = same.stopped ∙ or_false h.stopped }
 
-pub asked_not : (tells : Bool) (number : ℕ) (a : Ask) (answer : Said) (h : Hall) (f : Files) (n : ℕ) {E : Type 0} → IsSound h → is_done answer ≡ false → CarriesOut {E} tells number (Asked a answer) (basis h f n) (basis h f n) (Ok (record { end = end.Done; answer = turned.Said answer }))
+pub asked_not : (tells : Bool) (number : ℕ) (a : Ask) (answer : Said) (h : Hall) (f : Files) (n : ℕ) {E : Type 0} → IsSound h → is_done answer ≡ false → CarriesOut {E = E} tells number (Asked a answer) (basis h f n) (basis h f n) (Ok (record { end = end.Done; answer = turned.Said answer }))
 asked_not tells number a answer h f n sound no = record {
   around = around_same tells h f n sound;
   ends = record {
@@ -168,7 +168,7 @@ done_is said.Disk e = absurd (false≢true e)
 done_is (said.Stats stats) e = absurd (false≢true e)
 
 module _ (tells : Bool) (number : ℕ) (a : Ask) (old new : Basis) {E : Type 0} where
-  done_out : CarriesAsk {E} tells a old new (Ok Done) → CarriesOut {E} tells number (Asked a said.Done) old new (Ok (record { end = end.Done; answer = turned.Said said.Done }))
+  done_out : CarriesAsk {E = E} tells a old new (Ok Done) → CarriesOut {E = E} tells number (Asked a said.Done) old new (Ok (record { end = end.Done; answer = turned.Said said.Done }))
   done_out x = record {
     around = x.around;
     ends = record {
@@ -181,7 +181,7 @@ module _ (tells : Bool) (number : ℕ) (a : Ask) (old new : Basis) {E : Type 0} 
     };
   }
 
-  fault_out : (count : ℕ) → CarriesAsk {E} tells a old new (Ok (Fault count)) → CarriesOut {E} tells number (Asked a said.Done) old new (Ok (record { end = end.Faulted count; answer = turned.Said said.Disk }))
+  fault_out : (count : ℕ) → CarriesAsk {E = E} tells a old new (Ok (Fault count)) → CarriesOut {E = E} tells number (Asked a said.Done) old new (Ok (record { end = end.Faulted count; answer = turned.Said said.Disk }))
   fault_out count x = record {
     around = x.around;
     ends = record {
@@ -195,11 +195,11 @@ module _ (tells : Bool) (number : ℕ) (a : Ask) (old new : Basis) {E : Type 0} 
   }
 
   module _ (answer : Said) (yes : is_done answer ≡ true) where
-    pub asked_done : CarriesAsk {E} tells a old new (Ok Done) → CarriesOut {E} tells number (Asked a answer) old new (Ok (record { end = end.Done; answer = turned.Said answer }))
-    asked_done x = subst (λ (y : Said). CarriesOut {E} tells number (Asked a y) old new (Ok (record { end = end.Done; answer = turned.Said y }))) (sym (done_is answer yes)) (done_out x)
+    pub asked_done : CarriesAsk {E = E} tells a old new (Ok Done) → CarriesOut {E = E} tells number (Asked a answer) old new (Ok (record { end = end.Done; answer = turned.Said answer }))
+    asked_done x = subst (λ (y : Said). CarriesOut {E = E} tells number (Asked a y) old new (Ok (record { end = end.Done; answer = turned.Said y }))) (sym (done_is answer yes)) (done_out x)
 
-    pub asked_fault : (count : ℕ) → CarriesAsk {E} tells a old new (Ok (Fault count)) → CarriesOut {E} tells number (Asked a answer) old new (Ok (record { end = end.Faulted count; answer = turned.Said said.Disk }))
-    asked_fault count x = subst (λ (y : Said). CarriesOut {E} tells number (Asked a y) old new (Ok (record { end = end.Faulted count; answer = turned.Said said.Disk }))) (sym (done_is answer yes)) (fault_out count x)
+    pub asked_fault : (count : ℕ) → CarriesAsk {E = E} tells a old new (Ok (Fault count)) → CarriesOut {E = E} tells number (Asked a answer) old new (Ok (record { end = end.Faulted count; answer = turned.Said said.Disk }))
+    asked_fault count x = subst (λ (y : Said). CarriesOut {E = E} tells number (Asked a y) old new (Ok (record { end = end.Faulted count; answer = turned.Said said.Disk }))) (sym (done_is answer yes)) (fault_out count x)
 
-  pub asked_err : (answer : Said) (e : E) → CarriesAsk {E} tells a old new (Err e) → CarriesOut {E} tells number (Asked a answer) old new (Err e)
+  pub asked_err : (answer : Said) (e : E) → CarriesAsk {E = E} tells a old new (Err e) → CarriesOut {E = E} tells number (Asked a answer) old new (Err e)
   asked_err answer e x = record { around = x.around; ends = record { rests = x.ends; same = x.same } }

@@ -42,7 +42,7 @@ module _ (tells : Bool) (k : ℕ) (h h1 : Hall) (f f1 : Files) (n n1 : ℕ) (res
   in_range within = subst (λ cs. k < length cs) (sym clients1) within
 
   -- memory was wanting
-  pub publish_not : {E : Type 0} (e : E) (c : Command) → (IsTrue tells → Carries h f h1 f1 (λ s t. t ≡ s)) → CarriesCommand {E} tells k c (basis h f n) (basis h1 f1 n1) (Err e)
+  pub publish_not : {E : Type 0} (e : E) (c : Command) → (IsTrue tells → Carries h f h1 f1 (λ s t. t ≡ s)) → CarriesCommand {E = E} tells k c (basis h f n) (basis h1 f1 n1) (Err e)
   publish_not e c rests = record { around = record { stays = stays1; sound = sound1; files = files; faults = faults }; same = same1; ends = rests }
 
   module _ (h2 : Hall) (within : k < length h.clients.items) (rest2 : h2 ≡ record h1 { clients = h2.clients }) (changes : ChangesAt k (spoke h1.moment) h1.clients.items h2.clients.items) (sound2 : IsSound h2) (spoken : (g : Files) (c : Command) → DoesAt k c true h1 g h2 g) where
@@ -55,7 +55,7 @@ module _ (tells : Bool) (k : ℕ) (h h1 : Hall) (f f1 : Files) (n n1 : ℕ) (res
     spoke_same : (d : Client) (s t : State) → t ≡ with_client s (spoke h1.moment (get_or h1.clients.items k d)) → t ≡ with_client s (spoke h.moment (get_or h.clients.items k d))
     spoke_same d s t is = is ∙ ap (λ m. with_client s (spoke m (get_or h1.clients.items k d))) moment1 ∙ ap (λ cs. with_client s (spoke h.moment (get_or cs k d))) clients1
 
-    pub publish_done : {E : Type 0} (c : Command) (topic : List ℕ) (delay : ℕ) (bodies : List (List ℕ)) (word : List ℕ) → IsPublish c topic delay bodies word → (IsTrue tells → Carries h f h1 f1 (λ s t. t ≡ published s h.moment delay topic bodies)) → CarriesCommand {E} tells k c (basis h f n) (basis h2 f1 n1) (Ok commanded.Done)
+    pub publish_done : {E : Type 0} (c : Command) (topic : List ℕ) (delay : ℕ) (bodies : List (List ℕ)) (word : List ℕ) → IsPublish c topic delay bodies word → (IsTrue tells → Carries h f h1 f1 (λ s t. t ≡ published s h.moment delay topic bodies)) → CarriesCommand {E = E} tells k c (basis h f n) (basis h2 f1 n1) (Ok commanded.Done)
     publish_done c topic delay bodies word p told = record {
       around = around2;
       same = same2;
@@ -67,7 +67,7 @@ module _ (tells : Bool) (k : ℕ) (h h1 : Hall) (f f1 : Files) (n n1 : ℕ) (res
     }
 
     pub publish_fault : {E : Type 0} (c : Command) (topic : List ℕ) (delay : ℕ) (bodies : List (List ℕ)) (word : List ℕ) (frame : Frame) → IsPublish c topic delay bodies word → frame ≡ disk_fault word → IsShortFrame frame → Rose n n1 → (IsTrue tells → Carries h f h1 f1 (λ s t. t ≡ s))
-        → CarriesCommand {E} tells k c (basis h f n) (basis h2 f1 n1) (Ok (commanded.Fault frame))
+        → CarriesCommand {E = E} tells k c (basis h f n) (basis h2 f1 n1) (Ok (commanded.Fault frame))
     publish_fault c topic delay bodies word frame p is short rose told = record {
       around = around2;
       same = same2;

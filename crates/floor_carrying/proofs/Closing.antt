@@ -34,7 +34,7 @@ use Rattle.floor_carrying.proofs.Staying.{around_same, same_hall, stays_kept}
 
 -- an act that ended Done
 pub act_done : (tells : Bool) (number : ℕ) (a : Act) (old new : Basis) (answer : Turned) {E : Type 0} → Around tells old new → (IsTrue tells → Carries old.hall old.files new.hall new.files (λ s t. DoesAct s old.hall.moment number a end.Done t)) → answer ≡ answer_of old.hall.moment a end.Done → LeavesClients a number old.hall new.hall → IsShortAnswer answer
-    → CarriesOut {E} tells number a old new (Ok (record { end = end.Done; answer = answer }))
+    → CarriesOut {E = E} tells number a old new (Ok (record { end = end.Done; answer = answer }))
 act_done tells number a old new answer around does is clients short = record {
   around = around;
   ends = record {
@@ -47,8 +47,12 @@ act_done tells number a old new answer around does is clients short = record {
   };
 }
 
+pub act_made : (tells : Bool) (number : ℕ) (a : Act) (old new : Basis) (answer : Turned) (r : Carried) {E : Type 0} → r ≡ record { end = end.Done; answer = answer } → Around tells old new → (IsTrue tells → Carries old.hall old.files new.hall new.files (λ s t. DoesAct s old.hall.moment number a end.Done t))
+    → answer ≡ answer_of old.hall.moment a end.Done → LeavesClients a number old.hall new.hall → IsShortAnswer answer → CarriesOut {E = E} tells number a old new (Ok r)
+act_made tells number a old new answer r {E} same around does is clients short = subst (λ (x : Carried). CarriesOut {E = E} tells number a old new (Ok x)) (sym same) (act_done tells number a old new answer around does is clients short)
+
 -- memory was wanting for it
-pub act_not : (tells : Bool) (number : ℕ) (a : Act) (old new : Basis) {E : Type 0} (e : E) → Around tells old new → (IsTrue tells → Carries old.hall old.files new.hall new.files (λ s t. t ≡ s)) → SameClients old.hall new.hall → CarriesOut {E} tells number a old new (Err e)
+pub act_not : (tells : Bool) (number : ℕ) (a : Act) (old new : Basis) {E : Type 0} (e : E) → Around tells old new → (IsTrue tells → Carries old.hall old.files new.hall new.files (λ s t. t ≡ s)) → SameClients old.hall new.hall → CarriesOut {E = E} tells number a old new (Err e)
 act_not tells number a old new e around rests same = record { around = around; ends = record { rests = rests; same = same } }
 
 or_false : (b : Bool) → b ≡ (b || false)
@@ -142,11 +146,11 @@ left_short (Listed names) is at short = tt
 left_short Ticked is at short = tt
 left_short a is at short = absurd is
 
-pub act_left : (tells : Bool) (number : ℕ) (a : Act) (h : Hall) (f : Files) (n : ℕ) (r : Carried) {E : Type 0} → IsSound h → IsLeft a → IsShortAct a → r.end ≡ end.Done → r.answer ≡ answer_of h.moment a end.Done → CarriesOut {E} tells number a (basis h f n) (basis h f n) (Ok r)
+pub act_left : (tells : Bool) (number : ℕ) (a : Act) (h : Hall) (f : Files) (n : ℕ) (r : Carried) {E : Type 0} → IsSound h → IsLeft a → IsShortAct a → r.end ≡ end.Done → r.answer ≡ answer_of h.moment a end.Done → CarriesOut {E = E} tells number a (basis h f n) (basis h f n) (Ok r)
 act_left tells number a h f n r {E} sound is short ends answers =
     let g : Carried = record { end = end.Done; answer = r.answer } in
     let same : r ≡ g = ap (λ e. record { end = e; answer = r.answer }) ends in
-    subst (λ (x : Carried). CarriesOut {E} tells number a (basis h f n) (basis h f n) (Ok x)) (sym same)
+    subst (λ (x : Carried). CarriesOut {E = E} tells number a (basis h f n) (basis h f n) (Ok x)) (sym same)
     (act_done tells number a (basis h f n) (basis h f n) r.answer (around_same tells h f n sound) (λ told s holds. (s, left_does a is s h.moment number, holds)) answers
     (record { there = λ m. left_there a is number m (is_some (client_in h.clients.items m)); stopped = or_false h.stopped ∙ ap (λ b. h.stopped || b) (sym (left_stop a is)) })
     (subst IsShortAnswer (sym answers) (left_short a is h.moment short)))

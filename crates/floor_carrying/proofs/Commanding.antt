@@ -32,7 +32,7 @@ use Rattle.floor_carrying.specs.declared.commanded.Commanded.TheVariants as comm
 use Rattle.floor_carrying.specs.Carrying.{Around, Basis, CarriesOut, Leads, basis}
 use Rattle.floor_carrying.specs.Commands.{CarriesCommand, CommandsBy, IsAccepted, KeepsOff, KnowsSaid}
 use Rattle.floor_carrying.proofs.Conditions.{at_accepted, can_fault}
-use Rattle.floor_carrying.proofs.Kinds.{IsDid, planned_did}
+use Rattle.floor_carrying.proofs.Planning.{IsDid, planned_did}
 use Rattle.floor_carrying.proofs.Staying.{around_kept}
 use Rattle.floor_topics.proofs.Marks.{some_same}
 
@@ -102,7 +102,7 @@ module _ (tells : Bool) (number k : ℕ) (command : Command) (reply : Option Fra
   did = planned_did old.hall number command reply said p
 
   -- it was carried out or refused as its reply says
-  taken : (refused : Bool) → is_error reply ≡ refused → (IsTrue tells → DoesAt k command refused old.hall old.files new.hall new.files) → {E : Type 0} → CarriesOut {E} tells number (Did command reply) old new (Ok (record { end = end.Done; answer = answer_to reply }))
+  taken : (refused : Bool) → is_error reply ≡ refused → (IsTrue tells → DoesAt k command refused old.hall old.files new.hall new.files) → {E : Type 0} → CarriesOut {E = E} tells number (Did command reply) old new (Ok (record { end = end.Done; answer = answer_to reply }))
   taken refused is does = record {
     around = around;
     ends = record {
@@ -116,7 +116,7 @@ module _ (tells : Bool) (number k : ℕ) (command : Command) (reply : Option Fra
   }
 
   -- or a disk fault kept it off
-  faulted : (frame : Frame) → is_error reply ≡ false → KeepsOff tells k command old new frame → {E : Type 0} → CarriesOut {E} tells number (Did command reply) old new (Ok (record { end = end.Faulted 0; answer = answer_to (Some frame) }))
+  faulted : (frame : Frame) → is_error reply ≡ false → KeepsOff tells k command old new frame → {E : Type 0} → CarriesOut {E = E} tells number (Did command reply) old new (Ok (record { end = end.Faulted 0; answer = answer_to (Some frame) }))
   faulted frame e off = record {
     around = around;
     ends = record {
@@ -132,27 +132,27 @@ module _ (tells : Bool) (number k : ℕ) (command : Command) (reply : Option Fra
 
 -- a command that is refused
 pub refused : (tells : Bool) (number k : ℕ) (command : Command) (reply : Option Frame) (said : Option Identity) (old new : Basis) (r : Carried) {E : Type 0} → IsPlanned old.hall number (Did command reply) said → IsClientPlace old.hall.clients.items number (Some k) → Around tells old new → SameClients old.hall new.hall
-    → is_error reply ≡ true → DoesAt k command true old.hall old.files new.hall new.files → r ≡ record { end = end.Done; answer = answer_to reply } → CarriesOut {E} tells number (Did command reply) old new (Ok r)
+    → is_error reply ≡ true → DoesAt k command true old.hall old.files new.hall new.files → r ≡ record { end = end.Done; answer = answer_to reply } → CarriesOut {E = E} tells number (Did command reply) old new (Ok r)
 refused tells number k command reply said old new r {E} p at around same e does is =
-    subst (λ (x : Carried). CarriesOut {E} tells number (Did command reply) old new (Ok x)) (sym is) (taken tells number k command reply said old new p at around same true e (λ told. does))
+    subst (λ (x : Carried). CarriesOut {E = E} tells number (Did command reply) old new (Ok x)) (sym is) (taken tells number k command reply said old new p at around same true e (λ told. does))
 
 -- one that isn't, by how it ended
 module _ (tells : Bool) (number k : ℕ) (command : Command) (reply : Option Frame) (said : Option Identity) (old new : Basis) (p : IsPlanned old.hall number (Did command reply) said) (at : IsClientPlace old.hall.clients.items number (Some k)) (e : is_error reply ≡ false) {E : Type 0} where
-  pub did_done : (r : Carried) → CarriesCommand {E} tells k command old new (Ok commanded.Done) → r ≡ record { end = end.Done; answer = answer_to reply } → CarriesOut {E} tells number (Did command reply) old new (Ok r)
-  did_done r x is = subst (λ (y : Carried). CarriesOut {E} tells number (Did command reply) old new (Ok y)) (sym is) (taken tells number k command reply said old new p at x.around x.same false e x.ends)
+  pub did_done : (r : Carried) → CarriesCommand {E = E} tells k command old new (Ok commanded.Done) → r ≡ record { end = end.Done; answer = answer_to reply } → CarriesOut {E = E} tells number (Did command reply) old new (Ok r)
+  did_done r x is = subst (λ (y : Carried). CarriesOut {E = E} tells number (Did command reply) old new (Ok y)) (sym is) (taken tells number k command reply said old new p at x.around x.same false e x.ends)
 
-  pub did_fault : (frame : Frame) (r : Carried) → CarriesCommand {E} tells k command old new (Ok (commanded.Fault frame)) → r ≡ record { end = end.Faulted 0; answer = answer_to (Some frame) } → CarriesOut {E} tells number (Did command reply) old new (Ok r)
-  did_fault frame r x is = subst (λ (y : Carried). CarriesOut {E} tells number (Did command reply) old new (Ok y)) (sym is) (faulted tells number k command reply said old new p at x.around x.same frame e x.ends)
+  pub did_fault : (frame : Frame) (r : Carried) → CarriesCommand {E = E} tells k command old new (Ok (commanded.Fault frame)) → r ≡ record { end = end.Faulted 0; answer = answer_to (Some frame) } → CarriesOut {E = E} tells number (Did command reply) old new (Ok r)
+  did_fault frame r x is = subst (λ (y : Carried). CarriesOut {E = E} tells number (Did command reply) old new (Ok y)) (sym is) (faulted tells number k command reply said old new p at x.around x.same frame e x.ends)
 
-  pub did_not : (err : E) → CarriesCommand {E} tells k command old new (Err err) → CarriesOut {E} tells number (Did command reply) old new (Err err)
+  pub did_not : (err : E) → CarriesCommand {E = E} tells k command old new (Err err) → CarriesOut {E = E} tells number (Did command reply) old new (Err err)
   did_not err x = record { around = x.around; ends = record { rests = x.ends; same = x.same } }
 
 -- a command that needs no folder was carried out
-pub command_done : (tells : Bool) (k : ℕ) (command : Command) (h h' : Hall) (f : Files) (n : ℕ) {E : Type 0} → StaysSet h h' → IsSound h' → SameClients h h' → DoesAt k command false h f h' f → CarriesCommand {E} tells k command (basis h f n) (basis h' f n) (Ok commanded.Done)
+pub command_done : (tells : Bool) (k : ℕ) (command : Command) (h h' : Hall) (f : Files) (n : ℕ) {E : Type 0} → StaysSet h h' → IsSound h' → SameClients h h' → DoesAt k command false h f h' f → CarriesCommand {E = E} tells k command (basis h f n) (basis h' f n) (Ok commanded.Done)
 command_done tells k command h h' f n stays sound same does = record { around = around_kept tells h h' f n stays sound; same = same; ends = λ told. does }
 
 -- or memory was wanting for it
-pub command_not : (tells : Bool) (k : ℕ) (command : Command) (h h' : Hall) (f : Files) (n : ℕ) {E : Type 0} (e : E) → StaysSet h h' → IsSound h' → SameClients h h' → Carries h f h' f (λ s t. t ≡ s) → CarriesCommand {E} tells k command (basis h f n) (basis h' f n) (Err e)
+pub command_not : (tells : Bool) (k : ℕ) (command : Command) (h h' : Hall) (f : Files) (n : ℕ) {E : Type 0} (e : E) → StaysSet h h' → IsSound h' → SameClients h h' → Carries h f h' f (λ s t. t ≡ s) → CarriesCommand {E = E} tells k command (basis h f n) (basis h' f n) (Err e)
 command_not tells k command h h' f n e stays sound same rests = record { around = around_kept tells h h' f n stays sound; same = same; ends = λ told. rests }
 
 -- the client at a place has no channel

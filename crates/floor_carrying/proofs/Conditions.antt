@@ -21,7 +21,7 @@ use Rattle.desk.specs.Calls.{IsAllowedBody, IsWhole}
 use Rattle.floor_rooms.specs.declared.hall.Hall.{Hall}
 use Rattle.floor_rooms.specs.Standing.{longest_delay}
 use Rattle.floor_replies.specs.Replies.{SaysOf, flies_in, reply_in}
-use Rattle.negotiation.specs.Said.{said}
+use Rattle.negotiation.specs.Said.{IsTimely, said}
 use Rattle.negotiation.specs.declared.identity.Identity.{Identity}
 use Rattle.floor_acts.specs.Acts.{DoesAt, FliesAt}
 use Rattle.floor_carrying.specs.Commands.{IsAccepted}
@@ -151,7 +151,7 @@ pub ready_told : (h h' : Hall) (k : ℕ) (count : ℤ) (r : ℕ) (files : Files)
     → DoesAt k (command.Rdy count) false h files h' files
 ready_told h h' k count r files a range is told =
     elim (ready_by h.options a.client.phase count range a.stays a.accepted) [
-      inl small ↦ told count (sym (is small))
+      | inl small ↦ told count (sym (is small))
       | inr vain ↦ λ d s holds.
           let c : Client = get_or h.clients.items k d in
           let by : (n : ℕ) → ready_for c.phase n c.ready ≡ c.ready = λ n. ap (λ (x : Client). ready_for x.phase n c.ready) (a.reads d) ∙ vain n c.ready in
@@ -172,6 +172,15 @@ pub identify_said : (h : Hall) (k : ℕ) (body : List ℕ) (found : Option Ident
 identify_said h k body found a says =
     sym (some_mapped said found) ∙ ap is_some says.value
     ∙ identified_some h.options (identity_of h.options body) (passed (is_fresh a.client.phase) (identified h.options (identity_of h.options body)) wrong_state refl a.accepted).1
+
+pub none_said : (h : Hall) (k : ℕ) (body : List ℕ) (found : Option Identity) (a : IsAccepted h k (command.Identify body)) → SaysOf h.options body found → found ≡ None → ⊥
+none_said h k body found a says none = false≢true (sym (ap is_some none) ∙ identify_said h k body found a says)
+
+pub says_value : (o : Options) (body : List ℕ) (found : Option Identity) (i : Identity) → SaysOf o body found → found ≡ Some i → identity_of o body ≡ Some (said i)
+says_value o body found i says is = sym says.value ∙ ap (option_map said) is
+
+pub says_timely : (o : Options) (body : List ℕ) (found : Option Identity) (i : Identity) → SaysOf o body found → found ≡ Some i → IsTimely o i
+says_timely o body found i says is = subst (λ (x : Option Identity). IfSome x (IsTimely o)) is says.timely
 
 -- no body is longer than any options allow
 size_short : (most : ℕ) → most ≤ 16777216 → (body : List ℕ) → IsSize most (length body) → length body ≤ 16777216

@@ -1,7 +1,8 @@
-pub mod Staying
-pub mod Conditions
-pub mod Kinds
-pub mod Commanding
-pub mod Bodies
 pub mod Asking
+pub mod Bodies
 pub mod Closing
+pub mod Commanding
+pub mod Conditions
+pub mod Planning
+pub mod Returning
+pub mod Staying

@@ -23,8 +23,10 @@ pub(crate) fn carry_begin(hall: &mut Hall, number: u64) -> Result<Carried, Memor
     requires new { client_in hall.old.clients.items number ≡ None }
     ensures { (tells : Bool) (files : Files) (faults : ℕ) → CarriesOut tells number Began (basis hall.old files faults) (basis hall.new files faults) result }
 {
-    begin(hall, number)?;
-    Ok(done(Turned::Begun))
+    match begin(hall, number) {
+        Ok(()) => Ok(done(Turned::Begun)),
+        Err(_) => Err(Memory),
+    }
 }
 
 // A heartbeat is sent to the client of this number.
@@ -33,7 +35,9 @@ pub(crate) fn carry_beat(hall: &mut Hall, number: u64) -> Result<Carried, Memory
     requires there { is_some (client_in hall.old.clients.items number) ≡ true }
     ensures { (tells : Bool) (files : Files) (faults : ℕ) → CarriesOut tells number Beat (basis hall.old files faults) (basis hall.new files faults) result }
 {
-    let frame = beat_frame(hall.alloc)?;
+    let Ok(frame) = beat_frame(hall.alloc) else {
+        return Err(Memory);
+    };
     let Some(k) = hall.client_place(number) else {
         unreachable!()
     };
@@ -54,8 +58,10 @@ pub(crate) fn carry_gone<F: Folder>(
     let Some(k) = hall.client_place(number) else {
         unreachable!()
     };
-    gone(hall, k, folder)?;
-    Ok(done(Turned::Ended))
+    match gone(hall, k, folder) {
+        Ok(()) => Ok(done(Turned::Ended)),
+        Err(_) => Err(Memory),
+    }
 }
 
 // The Stop is noted.

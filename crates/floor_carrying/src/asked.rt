@@ -9,7 +9,9 @@ ghost use Rattle.floor_carrying.specs.Asks.{CarriesAsk};
 use crate::Carried;
 use crate::replied::is_done;
 use crate::served::Served;
-use crate::serving::{serve_creation, serve_deletion, serve_emptying, serve_nothing, serve_pause, serve_publish};
+use crate::serving::{
+    serve_creation, serve_deletion, serve_emptying, serve_nothing, serve_pause, serve_publish,
+};
 use broker_history::{Ask, Said};
 use desk::Turned;
 use floor_rooms::Hall;
@@ -35,15 +37,16 @@ pub(crate) fn carry_asked<F: Folder>(
             answer: Turned::Said(said),
         });
     }
-    match do_ask(hall, ask, folder, scratch)? {
-        Served::Done => Ok(Carried {
+    match do_ask(hall, ask, folder, scratch) {
+        Ok(Served::Done) => Ok(Carried {
             end: End::Done,
             answer: Turned::Said(said),
         }),
-        Served::Fault(count) => Ok(Carried {
+        Ok(Served::Fault(count)) => Ok(Carried {
             end: End::Faulted(count),
             answer: Turned::Said(Said::Disk),
         }),
+        Err(_) => Err(Memory),
     }
 }
 

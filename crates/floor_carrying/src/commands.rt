@@ -46,9 +46,10 @@ pub(crate) fn carry_command<F: Folder, L: Ledger>(
         speak(hall, k);
         return Ok(replied(reply));
     }
-    match do_command(hall, k, command, said, folder, scratch, steps)? {
-        Commanded::Done => Ok(replied(reply)),
-        Commanded::Fault(frame) => Ok(kept_off(frame)),
+    match do_command(hall, k, command, said, folder, scratch, steps) {
+        Ok(Commanded::Done) => Ok(replied(reply)),
+        Ok(Commanded::Fault(frame)) => Ok(kept_off(frame)),
+        Err(_) => Err(Memory),
     }
 }
 
@@ -111,8 +112,10 @@ fn join(hall: &mut Hall, k: usize, topic: Topic, channel: Chan) -> Result<Comman
     ensures { (tells : Bool) (files : Files) (faults : ℕ) → CarriesCommand tells k (command.Sub topic channel) (basis hall.old files faults) (basis hall.new files faults) result }
 {
     hall.clients[k].fresh_has_none();
-    subscribe(hall, k, topic, channel)?;
-    Ok(Commanded::Done)
+    match subscribe(hall, k, topic, channel) {
+        Ok(()) => Ok(Commanded::Done),
+        Err(_) => Err(Memory),
+    }
 }
 
 // RDY of the client at a place.

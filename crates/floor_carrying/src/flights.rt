@@ -65,7 +65,9 @@ pub(crate) fn requeue_own<F: Folder, L: Ledger>(
     ensures { CarriesCommand F.tells_files k (command.Req id delay) (basis hall.old (F.files folder.old) (F.folder_faults folder.old)) (basis hall.new (F.files folder.new) (F.folder_faults folder.new)) result }
 {
     let span = span_of(delay, hall.options.max_req_timeout);
-    let refusal = refusal_at(hall.alloc, span)?;
+    let Ok(refusal) = refusal_at(hall.alloc, span) else {
+        return Err(Memory);
+    };
     match requeue(hall, k, id, span, folder, scratch, steps) {
         Requeue::Done => Ok(Commanded::Done),
         Requeue::Fault => {

@@ -31,7 +31,9 @@ pub(crate) fn publish_one<F: Folder>(
     requires scratch { 16777242 ≤ length scratch.old }
     ensures { CarriesCommand F.tells_files k (command.Pub topic body) (basis hall.old (F.files folder.old) (F.folder_faults folder.old)) (basis hall.new (F.files folder.new) (F.folder_faults folder.new)) result }
 {
-    let bodies = one(hall.alloc, body)?;
+    let Ok(bodies) = one(hall.alloc, body) else {
+        return Err(Memory);
+    };
     publish_as(hall, k, topic, 0, bodies, b"E_PUB_FAILED", folder, scratch)
 }
 
@@ -68,9 +70,20 @@ pub(crate) fn publish_delayed<F: Folder>(
     requires scratch { 16777242 ≤ length scratch.old }
     ensures { CarriesCommand F.tells_files k (command.Dpub topic delay body) (basis hall.old (F.files folder.old) (F.folder_faults folder.old)) (basis hall.new (F.files folder.new) (F.folder_faults folder.new)) result }
 {
-    let bodies = one(hall.alloc, body)?;
+    let Ok(bodies) = one(hall.alloc, body) else {
+        return Err(Memory);
+    };
     let delay = span_of(delay, hall.options.max_req_timeout);
-    publish_as(hall, k, topic, delay, bodies, b"E_DPUB_FAILED", folder, scratch)
+    publish_as(
+        hall,
+        k,
+        topic,
+        delay,
+        bodies,
+        b"E_DPUB_FAILED",
+        folder,
+        scratch,
+    )
 }
 
 // A list of one body. Want of memory is the only error.
@@ -103,15 +116,18 @@ fn publish_as<F: Folder>(
     requires scratch { 16777242 ≤ length scratch.old }
     ensures { (c : Command) → IsPublish c topic delay bodies.items word.now → CarriesCommand F.tells_files k c (basis hall.old (F.files folder.old) (F.folder_faults folder.old)) (basis hall.new (F.files folder.new) (F.folder_faults folder.new)) result }
 {
-    match publish(hall, topic, delay, bodies, folder, scratch)? {
-        Published::Done => {
+    match publish(hall, topic, delay, bodies, folder, scratch) {
+        Ok(Published::Done) => {
             speak(hall, k);
             Ok(Commanded::Done)
         }
-        Published::Fault => {
-            let frame = disk_fault(hall.alloc, word)?;
+        Ok(Published::Fault) => {
+            let Ok(frame) = disk_fault(hall.alloc, word) else {
+                return Err(Memory);
+            };
             speak(hall, k);
             Ok(Commanded::Fault(frame))
         }
+        Err(_) => Err(Memory),
     }
 }

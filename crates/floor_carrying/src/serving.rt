@@ -11,7 +11,10 @@ use disk_queue::Emptied;
 use floor_changes::Lost;
 use floor_replies::are_left;
 use floor_rooms::Hall;
-use floor_topics::{Deleted, Published, create, delete_channel, delete_topic, empty_channel, empty_topic, pause, pause_channel, publish};
+use floor_topics::{
+    Deleted, Published, create, delete_channel, delete_topic, empty_channel, empty_topic, pause,
+    pause_channel, publish,
+};
 use nsq_base::{Bodies, Chan, Memory, Topic};
 use nsq_outside::Folder;
 
@@ -32,9 +35,10 @@ pub(crate) fn serve_publish<F: Folder>(
     if !are_left(hall.ids_used, bodies.count() as u64) {
         return Ok(Served::Done);
     }
-    match publish(hall, topic, delay, bodies.spend(), folder, scratch)? {
-        Published::Done => Ok(Served::Done),
-        Published::Fault => Ok(Served::Fault(0)),
+    match publish(hall, topic, delay, bodies.spend(), folder, scratch) {
+        Ok(Published::Done) => Ok(Served::Done),
+        Ok(Published::Fault) => Ok(Served::Fault(0)),
+        Err(_) => Err(Memory),
     }
 }
 
@@ -60,8 +64,10 @@ pub(crate) fn serve_creation(
     requires { IsSound hall.old }
     ensures { (tells : Bool) (files : Files) (faults : ℕ) → CarriesAsk tells (ask.Create topic channel) (basis hall.old files faults) (basis hall.new files faults) result }
 {
-    create(hall, topic, channel)?;
-    Ok(Served::Done)
+    match create(hall, topic, channel) {
+        Ok(()) => Ok(Served::Done),
+        Err(_) => Err(Memory),
+    }
 }
 
 // Deletes a topic, or a channel of one.
@@ -81,11 +87,7 @@ pub(crate) fn serve_deletion<F: Folder>(
 }
 
 // Deletes a topic with its channels.
-fn delete_whole<F: Folder>(
-    hall: &mut Hall,
-    topic: Topic,
-    folder: &mut F,
-) -> Result<Served, Memory>
+fn delete_whole<F: Folder>(hall: &mut Hall, topic: Topic, folder: &mut F) -> Result<Served, Memory>
     requires { IsSound hall.old }
     ensures { CarriesAsk F.tells_files (ask.Delete topic None) (basis hall.old (F.files folder.old) (F.folder_faults folder.old)) (basis hall.new (F.files folder.new) (F.folder_faults folder.new)) result }
 {
@@ -128,11 +130,7 @@ pub(crate) fn serve_emptying<F: Folder>(
 }
 
 // Drops what waits in a topic, where it is there.
-fn empty_whole<F: Folder>(
-    hall: &mut Hall,
-    topic: Topic,
-    folder: &mut F,
-) -> Result<Served, Memory>
+fn empty_whole<F: Folder>(hall: &mut Hall, topic: Topic, folder: &mut F) -> Result<Served, Memory>
     requires { IsSound hall.old }
     ensures { CarriesAsk F.tells_files (ask.Empty topic None) (basis hall.old (F.files folder.old) (F.folder_faults folder.old)) (basis hall.new (F.files folder.new) (F.folder_faults folder.new)) result }
 {
@@ -184,28 +182,21 @@ pub(crate) fn serve_pause(
 }
 
 // Pauses a topic, or ends that, where it is there.
-fn pause_whole(
-    hall: &mut Hall,
-    topic: Topic,
-    on: bool,
-) -> Result<Served, Memory>
+fn pause_whole(hall: &mut Hall, topic: Topic, on: bool) -> Result<Served, Memory>
     requires { IsSound hall.old }
     ensures { (tells : Bool) (files : Files) (faults : ℕ) → CarriesAsk tells (pauses on topic None) (basis hall.old files faults) (basis hall.new files faults) result }
 {
     let Some(i) = hall.room_place(topic) else {
         return Ok(Served::Done);
     };
-    pause(hall, i, on)?;
-    Ok(Served::Done)
+    match pause(hall, i, on) {
+        Ok(()) => Ok(Served::Done),
+        Err(_) => Err(Memory),
+    }
 }
 
 // Pauses a channel, or ends that, where it is there.
-fn pause_one(
-    hall: &mut Hall,
-    topic: Topic,
-    channel: Chan,
-    on: bool,
-) -> Result<Served, Memory>
+fn pause_one(hall: &mut Hall, topic: Topic, channel: Chan, on: bool) -> Result<Served, Memory>
     requires { IsSound hall.old }
     ensures { (tells : Bool) (files : Files) (faults : ℕ) → CarriesAsk tells (pauses on topic (Some channel)) (basis hall.old files faults) (basis hall.new files faults) result }
 {

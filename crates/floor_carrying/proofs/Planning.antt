@@ -147,7 +147,7 @@ pub gone_there : (h : Hall) (number : ℕ) (said : Option Identity) → IsPlanne
 gone_there h number said p = goes p.of (is_some (client_in h.clients.items number)) (kinds h number p.of Gone p.is) p.serves.fits
 
 -- what is asked can be asked
-asked_of : Ask → Act → Ask
+abbrev asked_of : Ask → Act → Ask
 asked_of d (Asked a answer) = a
 asked_of d _ = d
 
@@ -173,11 +173,11 @@ pub record IsDid (h : Hall) (number : ℕ) (command : Command) (reply : Option F
   pub is : reply ≡ reply_in h client command
   pub whole : IsWhole command
 
-command_of : Command → Act → Command
+abbrev command_of : Command → Act → Command
 command_of d (Did command reply) = command
 command_of d _ = d
 
-reply_of : Option Frame → Act → Option Frame
+abbrev reply_of : Option Frame → Act → Option Frame
 reply_of d (Did command reply) = reply
 reply_of d _ = d
 

@@ -1,4 +1,4 @@
-use Rattle.std.proofs.Common.{subst, sym, ap}
+use Rattle.std.proofs.Common.{subst, sym}
 use Rattle.broker_history.specs.declared.entry.Act.{Act}
 use Rattle.floor_turns.specs.Acting.{IsPlanned}
 use Rattle.floor_carrying.specs.Carrying.{CarriesOut, basis}
@@ -38,3 +38,9 @@ returns-in-Asked g c = subst (λ (a : Act). CarriesOut g.F.Folder.tells_files c.
 
 pub returns-in-Stop : goal.returns-in-Stop
 returns-in-Stop g c = subst (λ (a : Act). CarriesOut g.F.Folder.tells_files c.args.number a (basis c.args.hall.now (g.F.Folder.files c.args.folder.now) (g.F.Folder.folder_faults c.args.folder.now)) (basis c.carry_stop.new.hall (g.F.Folder.files c.args.folder.now) (g.F.Folder.folder_faults c.args.folder.now)) c.carry_stop.result) (sym c.in-Stop.is) (c.carry_stop.ensures g.F.Folder.tells_files c.args.number (g.F.Folder.files c.args.folder.now) (g.F.Folder.folder_faults c.args.folder.now))
+
+pub leave-requires : goal.leave-requires
+leave-requires g c = left c.args.act (planned_most c.args.hall.now c.args.number c.args.act c.args.said c.requires.plan) c.in_default.not-Began c.in_default.not-Did c.in_default.not-Beat c.in_default.not-Gone c.in_default.not-Asked c.in_default.not-Stop
+
+pub returns-in_default : goal.returns-in_default
+returns-in_default g c = act_left g.F.Folder.tells_files c.args.number c.args.act c.args.hall.now (g.F.Folder.files c.args.folder.now) (g.F.Folder.folder_faults c.args.folder.now) c.leave.result c.requires.sound (left c.args.act (planned_most c.args.hall.now c.args.number c.args.act c.args.said c.requires.plan) c.in_default.not-Began c.in_default.not-Did c.in_default.not-Beat c.in_default.not-Gone c.in_default.not-Asked c.in_default.not-Stop) c.requires.plan.short c.leave.ensures.end c.leave.ensures.answer

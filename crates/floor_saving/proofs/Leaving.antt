@@ -1,5 +1,5 @@
 -- What flushes leave of a topic's channels, of a topic and of all topics.
-use Rattle.std.proofs.Common.{◌≡◌, ◌≢◌, ◌⊎◌, inl, inr, ◌≤◌, ◌<◌, ◌+◌, ◌-◌, ◌^◌, ℕ, suc, zero, set, min, Bool, true, false, nat_le, List, [], ◌∷◌, ◌++◌, length, map, get_or, Option, Some, None, refl, sym, ap, subst, ◌∙◌, arith}
+use Rattle.std.proofs.Common.{◌≡◌, ◌≢◌, ◌⊎◌, inl, inr, ◌≤◌, ◌<◌, ◌+◌, ◌-◌, ◌^◌, ℕ, suc, zero, set, min, Bool, true, false, nat_le, List, [], ◌∷◌, ◌++◌, length, get_or, Option, Some, None, refl, sym, ap, subst, ◌∙◌, arith}
 use Rattle.std.specs.Prelude.{IfSome, IsTrue}
 use Rattle.std.specs.List.{Contains, slice_get}
 use Rattle.std.specs.Ordering.{is_lt}
@@ -14,10 +14,8 @@ use Rattle.nsq_outside.specs.Files.{Files}
 use Rattle.queue_image.specs.Finds.{Records}
 use Rattle.queue_image.proofs.Keeping.{finding_keeps}
 use Rattle.v2_frame.specs.declared.message.Message.{Message}
-use Rattle.v2_frame.specs.Written.{message_bytes}
-use Rattle.history.specs.Found.{Pairwise}
+use Rattle.history.specs.Found.{HasMessages, Pairwise}
 use Rattle.disk_queue.specs.Seen.{Seen as Queue}
-use Rattle.backlog.specs.Seen.{longest_body}
 use Rattle.backlog.specs.Lists.{DiskChanges, OnDisk, Stands}
 use Rattle.backlog.specs.Answers.{FlushFails}
 use Rattle.backlog.specs.declared.answers.Flushed.{Flushed}
@@ -26,7 +24,7 @@ use Rattle.broker_history.specs.State.{Channel, is_ephemeral_channel}
 use Rattle.broker_history.specs.Left.{SameMessages, left_in_channel}
 use Rattle.topic_core.specs.Laws.{DiskStays, OwnFilesStay}
 use Rattle.channel_core.specs.Seen.{Seen as ChannelSeen, queue_name, seen_channel}
-use Rattle.channel_core.specs.Storing.{FindsAll, FlushLeaves}
+use Rattle.channel_core.specs.Storing.{FlushLeaves, FlushStores}
 use Rattle.floor_laws.proofs.Counting.{counts_alike}
 use Rattle.floor_rooms.specs.declared.stall.Stall.{Stall}
 use Rattle.floor_rooms.specs.declared.room.Room.{Room}
@@ -37,14 +35,18 @@ use Rattle.floor_rooms.proofs.Staying.{other_channel, others_stay, stall_stays}
 use Rattle.floor_rooms.proofs.Orders.{tied}
 use Rattle.floor_rooms.proofs.Dating.{pairs_one, pairs_same, pairs_then}
 use Rattle.floor_rooms.proofs.Filing.{only_of_channel, only_same, only_then}
-use Rattle.floor_saving.specs.Flushing.{CanFlushRoom, CanFlushStall, KeepsStallNames, MissesFew, StallsLeft, StallsSoFar, both_flushed}
+use Rattle.floor_saving.proofs.Reading.{finds_queue}
+use Rattle.floor_saving.specs.Flushing.{CanFlushRoom, CanFlushStall, FindsQueue, KeepsStallNames, MissesFew, StallsLeft, StallsSoFar, both_flushed}
 
 -- files that stay, and what an opening finds in them
 pub own_then : (name : List ℕ) (a b c : Files) → OwnFilesStay name a b → OwnFilesStay name b c → OwnFilesStay name a c
 own_then name a b c x y = λ file of. y file of ∙ x file of
 
-pub found_stays : (left : List Message) (name : List ℕ) (old new : Files) → OwnFilesStay name old new → FindsAll left name old → FindsAll left name new
-found_stays left name old new stays f = record { messages = f.messages; found = finding_keeps 26 (26 + longest_body) old new name (Records (map message_bytes f.messages) []) stays f.found; same = f.same }
+messages_stay : (name : List ℕ) (old new : Files) (messages : List Message) → OwnFilesStay name old new → HasMessages old name messages → HasMessages new name messages
+messages_stay name old new messages stays has = record { bodies = has.bodies; bad = has.bad; queue = finding_keeps 26 16777242 old new name (Records has.bodies has.bad) stays has.queue; records = has.records }
+
+pub found_stays : (left : List Message) (name : List ℕ) (old new : Files) → OwnFilesStay name old new → FindsQueue left name old → FindsQueue left name new
+found_stays left name old new stays f = record { messages = f.messages; found = messages_stay name old new f.messages stays f.found; same = f.same }
 
 pub named_disk : (name : List ℕ) (queue : Option Queue) (old new : Files) → IfSome queue (λ q. q.name ≡ name) → OwnFilesStay name old new → DiskStays queue old new
 named_disk name None old new is stays = tt
@@ -139,17 +141,20 @@ one_more {A} k j below first here =
     ] refl
 
 -- a channel that is flushed next
-channel_found : (topic : List ℕ) (s : Stall) (c : Channel) (b : Flushed) (missed : List (List ℕ)) (f1 f2 : Files) → s.channel.about.topic ≡ topic → (of : IsStallOf f1 s c) → FlushLeaves (left_in_channel (seen_channel s.channel of.disk)) s.channel.about f2 b
-    → is_ephemeral_channel topic (channel_name s) ≡ false → Contains (missed_with b (queue_name topic (channel_name s)) missed) (queue_name topic (channel_name s)) ⊎ FindsAll (left_in_channel c) (queue_name topic (channel_name s)) f2
-channel_found topic s c Done missed f1 f2 is of leaves lasts =
-    let f : FindsAll (left_in_channel (seen_channel s.channel of.disk)) (queue_name topic (channel_name s)) f2 =
-    subst (λ n. FindsAll (left_in_channel (seen_channel s.channel of.disk)) (queue_name n (channel_name s)) f2) is (leaves (ap (λ n. is_ephemeral_channel n (channel_name s)) is ∙ lasts)) in
-    let alike : SameMessages (left_in_channel (seen_channel s.channel of.disk)) (left_in_channel c) = (counts_alike (seen_channel s.channel of.disk) c of.is_kept).left in
+channel_found : (topic : List ℕ) (s : Stall) (v : ChannelSeen) (c : Channel) (b : Flushed) (missed : List (List ℕ)) (f1 f2 : Files) → s.channel.about.topic ≡ topic → (of : IsStallOf f1 s c)
+    → FlushLeaves (left_in_channel (seen_channel s.channel of.disk)) s.channel.about f2 b → FlushStores (left_in_channel (seen_channel s.channel of.disk)) s.channel.about v f2 b → is_ephemeral_channel topic (channel_name s) ≡ false
+    → Contains (missed_with b (queue_name topic (channel_name s)) missed) (queue_name topic (channel_name s)) ⊎ FindsQueue (left_in_channel c) (queue_name topic (channel_name s)) f2
+channel_found topic s v c Done missed f1 f2 is of leaves stores lasts =
+    let own : is_ephemeral_channel s.channel.about.topic (channel_name s) ≡ false = ap (λ n. is_ephemeral_channel n (channel_name s)) is ∙ lasts in
+    let left : List Message = left_in_channel (seen_channel s.channel of.disk) in
+    let f : FindsQueue left (queue_name topic (channel_name s)) f2 = subst (λ n. FindsQueue left (queue_name n (channel_name s)) f2) is (finds_queue left (queue_name s.channel.about.topic (channel_name s)) v f2 (leaves own) (stores own)) in
+    let alike : SameMessages left (left_in_channel c) = (counts_alike (seen_channel s.channel of.disk) c of.is_kept).left in
     inr (record { messages = f.messages; found = f.found; same = λ p. sym (alike p) ∙ f.same p })
-channel_found topic s c Fault missed f1 f2 is of leaves lasts = inl (missed_here (queue_name topic (channel_name s)) missed)
+channel_found topic s v c Fault missed f1 f2 is of leaves stores lasts = inl (missed_here (queue_name topic (channel_name s)) missed)
 
-module _ (topic : List ℕ) (xs : List Stall) (j : ℕ) (s : Stall) (answer b : Flushed) (f0 f1 f2 : Files) (n0 n1 n2 : ℕ) (up : IsAscendingBy channel_name xs) (named : IsName topic) (can : CanFlushStall topic s) (there : slice_get xs j ≡ Some s)
+module _ (topic : List ℕ) (xs : List Stall) (j : ℕ) (s : Stall) (v : ChannelSeen) (answer b : Flushed) (f0 f1 f2 : Files) (n0 n1 n2 : ℕ) (up : IsAscendingBy channel_name xs) (named : IsName topic) (can : CanFlushStall topic s) (there : slice_get xs j ≡ Some s)
     (low : n0 ≤ n1) (high : n1 ≤ n2) (cause : FlushFails n1 n2 b) (leaves : (disk : List Message) → OnDisk s.channel.backlog.queue f1 disk → Stands s.channel.backlog.queue f1 → FlushLeaves (left_in_channel (seen_channel s.channel disk)) s.channel.about f2 b)
+    (stores : (disk : List Message) → OnDisk s.channel.backlog.queue f1 disk → FlushStores (left_in_channel (seen_channel s.channel disk)) s.channel.about v f2 b)
     (change : DiskChanges s.channel.backlog.queue f1 f2) (so : StallsLeft answer n0 n1 j topic xs f0 f1) where
   abbrev own : List ℕ
   own = queue_name topic (channel_name s)
@@ -169,15 +174,15 @@ module _ (topic : List ℕ) (xs : List Stall) (j : ℕ) (s : Stall) (answer b : 
   abbrev missed_now : List (List ℕ)
   missed_now = missed_with b own so.missed
 
-  still_found : (x : Stall) (c : Channel) → queue_name topic (channel_name x) ≢ own → Contains so.missed (queue_name topic (channel_name x)) ⊎ FindsAll (left_in_channel c) (queue_name topic (channel_name x)) f1
-      → Contains missed_now (queue_name topic (channel_name x)) ⊎ FindsAll (left_in_channel c) (queue_name topic (channel_name x)) f2
+  still_found : (x : Stall) (c : Channel) → queue_name topic (channel_name x) ≢ own → Contains so.missed (queue_name topic (channel_name x)) ⊎ FindsQueue (left_in_channel c) (queue_name topic (channel_name x)) f1
+      → Contains missed_now (queue_name topic (channel_name x)) ⊎ FindsQueue (left_in_channel c) (queue_name topic (channel_name x)) f2
   still_found x c apart (inl m) = inl (missed_still b own so.missed (queue_name topic (channel_name x)) m)
   still_found x c apart (inr f) = inr (found_stays (left_in_channel c) (queue_name topic (channel_name x)) f1 f2 (others (queue_name topic (channel_name x)) apart) f)
 
-  here_found : (c : Channel) → IsStallOf f0 s c → is_ephemeral_channel topic (channel_name s) ≡ false → Contains missed_now own ⊎ FindsAll (left_in_channel c) own f2
+  here_found : (c : Channel) → IsStallOf f0 s c → is_ephemeral_channel topic (channel_name s) ≡ false → Contains missed_now own ⊎ FindsQueue (left_in_channel c) own f2
   here_found c of lasts =
       let now : IsStallOf f1 s c = stall_stays f0 f1 topic s c can.queue own_stays of in
-      channel_found topic s c b so.missed f1 f2 can.topic_is now (leaves now.disk now.on_disk now.stands) lasts
+      channel_found topic s v c b so.missed f1 f2 can.topic_is now (leaves now.disk now.on_disk now.stands) (stores now.disk now.on_disk) lasts
 
   pub stalls_left_more : StallsLeft (both_flushed answer b) n0 n2 (j + 1) topic xs f0 f2
   stalls_left_more = record {
@@ -187,7 +192,7 @@ module _ (topic : List ℕ) (xs : List Stall) (j : ℕ) (s : Stall) (answer b : 
         one_more k j below (λ first. still_found x c (apart_channel k x (less_apart k j first) at) (so.left k x first at c of lasts))
         (λ here.
         let same : s ≡ x = some_same s x (sym there ∙ ap (slice_get xs) (sym here) ∙ at) in
-        subst (λ (y : Stall). IsStallOf f0 y c → is_ephemeral_channel topic (channel_name y) ≡ false → Contains missed_now (queue_name topic (channel_name y)) ⊎ FindsAll (left_in_channel c) (queue_name topic (channel_name y)) f2) same (here_found c) of lasts);
+        subst (λ (y : Stall). IsStallOf f0 y c → is_ephemeral_channel topic (channel_name y) ≡ false → Contains missed_now (queue_name topic (channel_name y)) ⊎ FindsQueue (left_in_channel c) (queue_name topic (channel_name y)) f2) same (here_found c) of lasts);
     stays = λ name apart. own_then name f0 f1 f2 (so.stays name (λ k x below at. apart k x (omega (arith, below)) at)) (others name (apart j s (omega arith) there));
   }
 
@@ -212,8 +217,9 @@ stalls_begin tells r files faults = record {
 pub stalls_go_on : (tells : Bool) (j : ℕ) (a b c : Room) (s : Stall) (v : ChannelSeen) (answer next both : Flushed) (f0 f1 f2 : Files) (n0 n1 n2 : ℕ) → both ≡ both_flushed answer next → CanFlushRoom a → StallsSoFar tells j a b answer f0 f1 n0 n1 → slice_get b.stalls.items j ≡ Some s → c ≡ record b { stalls = c.stalls }
     → c.stalls.items ≡ set b.stalls.items j (record s { channel = v }) → v ≡ record (s.channel) { backlog = v.backlog; flights = v.flights; deferred = v.deferred; spare = v.spare; deferred_spare = v.deferred_spare }
     → (IsTrue tells → (disk : List Message) → OnDisk s.channel.backlog.queue f1 disk → Stands s.channel.backlog.queue f1 → FlushLeaves (left_in_channel (seen_channel s.channel disk)) s.channel.about f2 next)
+    → (IsTrue tells → (disk : List Message) → OnDisk s.channel.backlog.queue f1 disk → FlushStores (left_in_channel (seen_channel s.channel disk)) s.channel.about v f2 next)
     → (IsTrue tells → DiskChanges s.channel.backlog.queue f1 f2) → n1 ≤ n2 → FlushFails n1 n2 next → StallsSoFar tells (j + 1) a c both f0 f2 n0 n2
-stalls_go_on tells j a b c s v answer next both f0 f1 f2 n0 n1 n2 is can so at same stalls rest leaves change high cause =
+stalls_go_on tells j a b c s v answer next both f0 f1 f2 n0 n1 n2 is can so at same stalls rest leaves stores change high cause =
     let was : slice_get a.stalls.items j ≡ Some s = sym (so.later j (omega arith)) ∙ at in
     let ready : CanFlushStall (topic_name a) s = subst (CanFlushStall (topic_name a)) (get_or_from_slice_get a.stalls.items j s s was) (can.stalls j s (slice_get_within a.stalls.items j s was)) in
     let low = so.faults in
@@ -222,7 +228,7 @@ stalls_go_on tells j a b c s v answer next both f0 f1 f2 n0 n1 n2 is can so at s
       keeps = pairs_then KeepsStallNames names_then a.stalls.items b.stalls.items c.stalls.items so.keeps
           (subst (Pairwise KeepsStallNames b.stalls.items) (sym stalls) (pairs_one KeepsStallNames names_same b.stalls.items j s (record s { channel = v }) at (record { about = ap (λ (w : ChannelSeen). w.about) rest; paused = ap (λ (w : ChannelSeen). w.paused) rest })));
       later = λ k from. ap (λ ys. slice_get ys k) stalls ∙ slice_apart b.stalls.items j k (record s { channel = v }) (omega (arith, from)) ∙ so.later k (omega (arith, from));
-      left = λ told. subst (λ u. StallsLeft u n0 n2 (j + 1) (topic_name a) a.stalls.items f0 f2) (sym is) (stalls_left_more (topic_name a) a.stalls.items j s answer next f0 f1 f2 n0 n1 n2 can.order can.named ready was low high cause (leaves told) (change told) (so.left told));
+      left = λ told. subst (λ u. StallsLeft u n0 n2 (j + 1) (topic_name a) a.stalls.items f0 f2) (sym is) (stalls_left_more (topic_name a) a.stalls.items j s v answer next f0 f1 f2 n0 n1 n2 can.order can.named ready was low high cause (leaves told) (stores told) (change told) (so.left told));
       files = λ told. only_then f0 f1 f2 (so.files told) (only_of_channel (topic_name a) (channel_name s) s.channel.backlog.queue f1 f2 can.named ready.named ready.queue (change told));
       faults = omega (arith, low, high);
       cause = subst (FlushFails n0 n2) (sym is) (fails_both n0 n1 n2 answer next low high so.cause cause);

@@ -3,5 +3,6 @@ pub mod Clearing
 pub mod Syncing
 pub mod Beginning
 pub mod Raising
+pub mod Reading
 pub mod Leaving
 pub mod Stopping

@@ -21,7 +21,6 @@ use Rattle.topic_core.specs.Seen.{Seen as TopicSeen, IsSettled}
 use Rattle.topic_core.proofs.Keeping.{left_stays, save_stays, topic_stays}
 use Rattle.channel_core.specs.declared.about.About.{About}
 use Rattle.channel_core.specs.Seen.{queue_name}
-use Rattle.channel_core.specs.Storing.{FindsAll}
 use Rattle.floor_laws.proofs.Pairs.{pairs_become}
 use Rattle.floor_rooms.specs.declared.stall.Stall.{Stall}
 use Rattle.floor_rooms.specs.declared.room.Room.{Room}
@@ -36,7 +35,7 @@ use Rattle.floor_rooms.proofs.Orders.{pairs_all}
 use Rattle.floor_rooms.proofs.Dating.{pairs_one, pairs_same, pairs_then, pairs_weaker}
 use Rattle.floor_rooms.proofs.Filing.{only_of_topic, only_same, only_then}
 use Rattle.floor_rooms.proofs.Naming.{KeptAlike, kept_pairs}
-use Rattle.floor_saving.specs.Flushing.{CanFlushRoom, CanFlushStall, FlushesRoom, IsOfOther, KeepsRoomNames, KeepsStallNames, LeavesBut, LeavesChannel, LeavesOthers, LeavesTopic, LeavesTopicBut, LeavesWhere, MissesFew, RoomsLeft, RoomsSoFar, StallsLeft, StallsSoFar, both_flushed}
+use Rattle.floor_saving.specs.Flushing.{CanFlushRoom, CanFlushStall, FindsQueue, FlushesRoom, IsOfOther, KeepsRoomNames, KeepsStallNames, LeavesBut, LeavesChannel, LeavesOthers, LeavesTopic, LeavesTopicBut, LeavesWhere, MissesFew, RoomsLeft, RoomsSoFar, StallsLeft, StallsSoFar, both_flushed}
 use Rattle.floor_saving.proofs.Leaving.{apart_at, fails_both, few_both, few_more, few_none, found_stays, missed_here, missed_still, missed_with, named_disk, names_same, names_then, one_more, own_then, slice_apart, some_same}
 
 -- a topic and its channels may be flushed where the hall is sound
@@ -93,9 +92,9 @@ module _ (a after : Room) (answer b both : Flushed) (f0 f1 f2 : Files) (n0 n1 n2
       leaves t (subst (λ (q : TopicSeen). IsTopicOf q f1 t) (sym same) (topic_stays a.queue f0 f1 t own_disk of.queue)) (subst (λ (q : TopicSeen). Stands q.backlog.queue f1) (sym same) (save_stays a.queue.backlog.queue f0 f1 own_disk of.stands))
 
   abbrev Found : Stall → Channel → Type 0
-  Found s c = Contains missed_then (queue_name (topic_name a) (channel_name s)) ⊎ FindsAll (left_in_channel c) (queue_name (topic_name a) (channel_name s)) f2
+  Found s c = Contains missed_then (queue_name (topic_name a) (channel_name s)) ⊎ FindsQueue (left_in_channel c) (queue_name (topic_name a) (channel_name s)) f2
 
-  still : (s : Stall) (c : Channel) → Contains so.missed (queue_name (topic_name a) (channel_name s)) ⊎ FindsAll (left_in_channel c) (queue_name (topic_name a) (channel_name s)) f1 → Found s c
+  still : (s : Stall) (c : Channel) → Contains so.missed (queue_name (topic_name a) (channel_name s)) ⊎ FindsQueue (left_in_channel c) (queue_name (topic_name a) (channel_name s)) f1 → Found s c
   still s c (inl m) = inl (missed_still b (topic_name a) so.missed (queue_name (topic_name a) (channel_name s)) m)
   still s c (inr f) = inr (found_stays (left_in_channel c) (queue_name (topic_name a) (channel_name s)) f1 f2 (own_others (queue_name (topic_name a) (channel_name s)) (no_own (channel_name s))) f)
 
@@ -111,7 +110,7 @@ module _ (a after : Room) (answer b both : Flushed) (f0 f1 f2 : Files) (n0 n1 n2
   channel_of_stall : is_ephemeral (topic_name a) ≡ false → (s : Stall) (c : Channel) → IsFoundStall s → IsStallOf f0 s c → is_ephemeral c.name ≡ false → IsFoundChannel (topic_name a) c
   channel_of_stall lasts s c found of e =
       let name : c.name ≡ channel_name s = stall_named f0 s c of in
-      subst (λ (n : List ℕ). Contains missed_then (queue_name (topic_name a) n) ⊎ FindsAll (left_in_channel c) (queue_name (topic_name a) n) f2) (sym name)
+      subst (λ (n : List ℕ). Contains missed_then (queue_name (topic_name a) n) ⊎ FindsQueue (left_in_channel c) (queue_name (topic_name a) n) f2) (sym name)
       (found c of (both_last (is_ephemeral (topic_name a)) (is_ephemeral (channel_name s)) lasts (ap is_ephemeral (sym name) ∙ e)))
 
   topic_left : (t : Topic) → IsRoomOf f0 a t → is_ephemeral t.name ≡ false → LeavesTopicBut missed_then f2 t

@@ -3,17 +3,17 @@ use Rattle.std.specs.Prelude.{◌≡◌, ◌≢◌, ◌⊎◌, ◌≤◌, ◌<�
 use Rattle.nsq_base.specs.Name.{IsName, is_ephemeral}
 use Rattle.nsq_base.specs.Names.{IsAscendingBy}
 use Rattle.nsq_outside.specs.Files.{Files}
-use Rattle.history.specs.Found.{Pairwise}
+use Rattle.v2_frame.specs.declared.message.Message.{Message}
+use Rattle.history.specs.Found.{HasMessages, Pairwise}
 use Rattle.backlog.specs.Answers.{FlushFails}
 use Rattle.backlog.specs.declared.answers.Flushed.{Flushed}
 use Rattle.backlog.specs.declared.answers.Flushed.TheVariants.{Done, Fault}
 use Rattle.broker_history.specs.State.{Channel, State, Topic, is_ephemeral_channel}
-use Rattle.broker_history.specs.Left.{durable_channels, durable_topics, left_in_channel}
+use Rattle.broker_history.specs.Left.{SameMessages, durable_channels, durable_topics, left_in_channel}
 use Rattle.topic_core.specs.Laws.{OwnFilesStay}
 use Rattle.topic_core.specs.Rows.{FindsLeft}
 use Rattle.topic_core.specs.Seen.{IsSettled}
 use Rattle.channel_core.specs.Seen.{queue_name}
-use Rattle.channel_core.specs.Storing.{FindsAll}
 use Rattle.channel_core.specs.declared.drawn.Drawn.TheVariants.{Nothing}
 use Rattle.floor_rooms.specs.declared.hall.Hall.{Hall}
 use Rattle.floor_rooms.specs.declared.room.Room.{Room}
@@ -22,9 +22,15 @@ use Rattle.floor_rooms.specs.Rooms.{channel_name, topic_name}
 use Rattle.floor_rooms.specs.Standing.{HoldsFor, IsRoomOf, IsStallOf}
 use Rattle.floor_rooms.specs.Changes.{OnlyQueueFiles}
 
--- an opening finds all that was left of a channel of this topic, each message as often
+-- an opening finds messages in the queue of this name: those that were left, each as often
+pub record FindsQueue (left : List Message) (name : List ℕ) (files : Files) : Type 0 where
+  pub messages : List Message
+  pub found : HasMessages files name messages
+  pub same : SameMessages left messages
+
+-- so it finds all that was left of a channel of this topic
 abbrev pub LeavesChannel : Files → (topic : List ℕ) → Channel → Type 0
-LeavesChannel files topic k = FindsAll (left_in_channel k) (queue_name topic k.name) files
+LeavesChannel files topic k = FindsQueue (left_in_channel k) (queue_name topic k.name) files
 
 -- and all that was left of a topic and of its durable channels
 pub record LeavesTopic (files : Files) (t : Topic) : Type 0 where
@@ -109,7 +115,7 @@ pub record StallsLeft (answer : Flushed) (before now j : ℕ) (topic : List ℕ)
   pub missed : List (List ℕ)
   pub few : MissesFew answer before now missed
   pub left : (k : ℕ) (s : Stall) → k < j → slice_get stalls k ≡ Some s → (c : Channel) → IsStallOf old s c → is_ephemeral_channel topic (channel_name s) ≡ false
-      → Contains missed (queue_name topic (channel_name s)) ⊎ FindsAll (left_in_channel c) (queue_name topic (channel_name s)) new
+      → Contains missed (queue_name topic (channel_name s)) ⊎ FindsQueue (left_in_channel c) (queue_name topic (channel_name s)) new
   pub stays : (name : List ℕ) → ((k : ℕ) (s : Stall) → k < j → slice_get stalls k ≡ Some s → name ≢ queue_name topic (channel_name s)) → OwnFilesStay name old new
 
 -- so many were; the others are as they were

@@ -41,7 +41,7 @@ loop-j-preserved g c =
     let at : slice_get c.loop-j.room.stalls.items c.loop-j.j ≡ Some stall = at_place c.loop-j.room.stalls.items c.loop-j.j stall (omega (arith, below, counted, long)) c.index_mut.ensures.value in
     let after : Room = record (c.loop-j.room) { stalls = with_item c.loop-j.room.stalls c.loop-j.j (record stall { channel = c.flush-stall.new.self }) } in
     stalls_go_on g.F.Folder.tells_files c.loop-j.j c.args.room.now c.loop-j.room after stall c.flush-stall.new.self c.loop-j.done c.flush-stall.result c.both_flushed-done.result f0 f1 f2 n0 n1 n2 c.both_flushed-done.ensures c.requires.ready c.loop-j.invariant at refl refl
-    flush.rest flush.found flush.disk.others flush.disk.faults flush.cause
+    flush.rest flush.found flush.stores flush.disk.others flush.disk.faults flush.cause
 
 pub returns : goal.returns
 returns g c =

@@ -1,0 +1,31 @@
+//! Rows of the daemon's one turn: transcripts of calls with their answers and the entries that they note, each of which the plain program of the
+//! whole broker finds legal, and random turns beside that program.
+//!
+//! The crate has nothing but tests. A row is a transcript; one function says whether it holds, and one test names the row and the line that
+//! doesn't.
+#![tactic(auto)]
+
+#[cfg(test)]
+mod answers;
+#[cfg(test)]
+mod calls;
+#[cfg(test)]
+mod dice;
+#[cfg(test)]
+mod entries;
+#[cfg(test)]
+mod outside;
+#[cfg(test)]
+mod plain;
+#[cfg(test)]
+mod random;
+#[cfg(test)]
+mod rows;
+#[cfg(test)]
+mod script;
+#[cfg(test)]
+mod stats;
+#[cfg(test)]
+mod tables;
+#[cfg(test)]
+mod texts;

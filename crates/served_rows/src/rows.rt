@@ -8,7 +8,9 @@ use crate::texts::{
 use std::test::Fail;
 use v2_session::Ended;
 
-/// Each piece is cut at every place.
+/// No piece is cut, or each one at every place.
+const NOWHERE: (usize, usize) = (0, 1);
+
 const EVERYWHERE: (usize, usize) = (0, usize::MAX);
 
 /// A client that publishes a message.
@@ -63,7 +65,7 @@ const PLAIN: Row = Row {
         steps: &[],
         ended: Ended::EndOfInput,
     }],
-    cuts: EVERYWHERE,
+    cuts: NOWHERE,
     leaves: &[],
 };
 
@@ -187,6 +189,7 @@ const ROWS: [Row; 10] = [
         name: "a message for which there is no place in memory stands in the topic's file",
         memory: 0,
         clients: &[X_WAITS],
+        cuts: EVERYWHERE,
         leaves: &[("t.diskqueue.000000.dat", X_RECORD)],
         ..PLAIN
     },
@@ -205,6 +208,7 @@ const ROWS: [Row; 10] = [
                 ended: Ended::EndOfInput,
             },
         ],
+        cuts: EVERYWHERE,
         ..PLAIN
     },
     Row {
@@ -222,6 +226,7 @@ const ROWS: [Row; 10] = [
                 ended: Ended::EndOfInput,
             },
         ],
+        cuts: EVERYWHERE,
         ..PLAIN
     },
     Row {
@@ -249,6 +254,7 @@ const ROWS: [Row; 10] = [
             ],
             ended: Ended::Closed,
         }],
+        cuts: EVERYWHERE,
         ..PLAIN
     },
     Row {

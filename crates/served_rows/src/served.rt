@@ -52,7 +52,7 @@ pub(crate) struct Row {
     /// How long a client has for a message, in nanoseconds.
     pub timeout: u64,
     pub clients: &'static [Client],
-    /// The places from which and up to which each piece of the last client is cut into two, which changes nothing. At 0 it isn't cut.
+    /// The places from which and up to which each piece of the last client is cut into two, which changes nothing. At 0 none is cut.
     pub cuts: (usize, usize),
     /// Files that stand in the folder in the end.
     pub leaves: &'static [(&'static str, &'static [u8])],
@@ -329,6 +329,7 @@ pub(crate) fn wrong_in<R: Wait>(
     let mut number: usize = 0;
     for step in client.steps {
         let (from, to) = row.cuts;
+        let from = if number == 0 { from } else { from.max(1) };
         for at in from..to.min(step.comes.len().max(1)) {
             let cut = Cut { step: number, at };
             if let Some(wrong) = wrong_with(rt, alloc, row, cut)? {

@@ -1,7 +1,7 @@
 use Rattle.std.proofs.Common.{subst, sym}
 use Rattle.desk.specs.Answers.{IsAnswerTo}
 use Rattle.desk.specs.declared.call.Call.{Call}
-use Rattle.session_rows.proofs.scripted.ScriptedFloorTurner.take_turn.Goals as goal
+use Rattle.session_scripts.proofs.scripted.ScriptedFloorTurner.take_turn.Goals as goal
 
 -- src/scripted.rt:43:78
 pub returns-in-Command-clause-answer : goal.returns-in-Command-clause-answer

@@ -20,7 +20,7 @@ use v2_frame::{Frame, FrameKind};
 ///
 /// The letters of calls: `b` Begin, `c` Command, `f` Bad, `n` Next, `g` Gone, `a` all others.
 #[derive(Drop)]
-pub(crate) struct ScriptedFloor<'a> {
+pub struct ScriptedFloor<'a> {
     /// The letters of the answers, one for each call.
     pub script: Vec<u8>,
     /// The number of calls that were made.

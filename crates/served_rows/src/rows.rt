@@ -306,7 +306,11 @@ const ROWS: [Row; 10] = [
 fn rows(rt: HostRuntime) -> Result<(), Fail> {
     for row in &ROWS {
         if let Some((cut, wrong)) = wrong_in(&rt, rt.alloc(), row)? {
-            assert!(rt; false, "{}, piece {} cut at {}: {:?}", row.name, cut.step, cut.at, wrong);
+            assert!(rt;
+                false,
+                "{}, piece {} cut at {}: {:?}",
+                row.name, cut.step, cut.at, wrong
+            );
         }
     }
     Ok(())

@@ -105,11 +105,7 @@ fn options_of(alloc: Global, row: &Row) -> Result<Options, Memory>
 }
 
 // A floor of the first run over an empty folder.
-fn floor_of<'a>(
-    alloc: Global,
-    options: &Options,
-    dials: &'a Dials,
-) -> Result<MemFloor<'a>, Memory>
+fn floor_of<'a>(alloc: Global, options: &Options, dials: &'a Dials) -> Result<MemFloor<'a>, Memory>
     requires { IsInRange options.now }
 {
     let kit = Kit {
@@ -191,7 +187,11 @@ fn serve_all<R: Wait>(
     let mut left = row.clients.len();
     for client in row.clients {
         left = left.saturating_sub(1);
-        let cut = if left == 0 { cut } else { Cut { step: 0, at: 0 } };
+        let cut = if left == 0 {
+            cut
+        } else {
+            Cut { step: 0, at: 0 }
+        };
         let reads = reads_of(alloc, client, cut)?;
         let number = (all.len() as u64).saturating_add(1);
         all.push(serve(rt, alloc, floor, number, reads, dials)?)?;
@@ -242,7 +242,10 @@ fn wrong_part(
     let mut place: usize = 0;
     for mark in &seen.marks {
         let (frames, acts) = wanted_at(client, place);
-        let written = seen.written.get(before.written..mark.written).unwrap_or(b"?");
+        let written = seen
+            .written
+            .get(before.written..mark.written)
+            .unwrap_or(b"?");
         let noted = entries.get(before.noted..mark.noted).unwrap_or(&[]);
         if !are_frames(written, frames) || letters_of(alloc, noted)?.as_slice() != acts {
             return Ok(Some(place));

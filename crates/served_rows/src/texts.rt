@@ -11,8 +11,7 @@ pub(crate) const CLOSE_WAIT: &[u8] = b"\0\0\0\x0e\0\0\0\0CLOSE_WAIT";
 
 pub(crate) const HEARTBEAT: &[u8] = b"\0\0\0\x0f\0\0\0\0_heartbeat_";
 
-pub(crate) const NOT_IN_FLIGHT: &[u8] =
-    b"\0\0\0\x26\0\0\0\x01E_FIN_FAILED message not in flight";
+pub(crate) const NOT_IN_FLIGHT: &[u8] = b"\0\0\0\x26\0\0\0\x01E_FIN_FAILED message not in flight";
 
 pub(crate) const NOT_IN_THIS_STATE: &[u8] = b"\0\0\0\x1f\0\0\0\x01E_INVALID not in this state";
 

@@ -115,8 +115,8 @@ fn lose_at<F: Folder>(hall: &mut Hall, i: usize, j: usize, folder: &mut F) -> Lo
     }
 }
 
-// An ephemeral topic goes that has no channel.
-fn forget_empty(hall: &mut Hall, i: usize)
+/// An ephemeral topic that has no channel goes, with its messages; any other stays.
+pub fn forget_empty(hall: &mut Hall, i: usize)
     requires sound { IsSound hall.old }
     requires room { i < length hall.old.rooms.items }
     ensures rest { hall.new ≡ record hall.old { rooms = hall.new.rooms } }

@@ -1,5 +1,5 @@
 -- What a call makes of a hall behind what was paid: what is held back where something is to be sent, and one act.
-use Rattle.std.specs.Prelude.{◌≡◌, ◌⊎◌, ◌≤◌, ◌<◌, ◌||◌, ◌&&◌, ◌==◌, not, ℕ, Bool, true, false, if◌then◌else◌, IsTrue, [], ◌∷◌, ◌++◌, Option, Some, None, is_some}
+use Rattle.std.specs.Prelude.{◌≡◌, ◌⊎◌, ◌≤◌, ◌||◌, ◌&&◌, ◌==◌, not, ℕ, Bool, true, false, if◌then◌else◌, IsTrue, [], ◌∷◌, ◌++◌, Option, Some, None, is_some}
 use Rattle.nsq_outside.specs.Causes.{Rose}
 use Rattle.nsq_outside.specs.Files.{Files}
 use Rattle.nsq_outside.specs.declared.journal.End.{End}
@@ -7,7 +7,6 @@ use Rattle.nsq_outside.specs.declared.journal.End.TheVariants as end
 use Rattle.v2_frame.specs.declared.frame.Frame.{Frame}
 use Rattle.broker_history.specs.declared.entry.Act.{Act}
 use Rattle.broker_history.specs.declared.entry.Act.TheVariants as act
-use Rattle.broker_history.specs.declared.entry.Entry.{Entry}
 use Rattle.broker_history.specs.State.{State}
 use Rattle.broker_history.specs.Reply.{beat_frame, closes, did_answered, message_frame}
 use Rattle.broker_history.specs.Entries.{History, faults_of, is_faulted, is_stop, is_tick}
@@ -25,7 +24,7 @@ use Rattle.floor_rooms.specs.declared.hall.Hall.{Hall}
 use Rattle.floor_rooms.specs.Rooms.{client_in}
 use Rattle.floor_rooms.specs.Changes.{KeepsSince}
 use Rattle.floor_rooms.specs.Kept.{NamesTold}
-use Rattle.floor_rooms.specs.Standing.{Carries, HoldsFor}
+use Rattle.floor_rooms.specs.Standing.{HoldsFor}
 use Rattle.floor_words.specs.Plans.{IsAllowedPlan, IsCallsAct, IsShortAct, KnowsAct, MayBegin, Serves, number_of}
 use Rattle.floor_words.specs.declared.plan.Plan.TheVariants as plan
 use Rattle.floor_moves.specs.Moves.{Sight, RoseBy}

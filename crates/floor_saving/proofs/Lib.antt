@@ -1,0 +1,7 @@
+pub mod Marking
+pub mod Clearing
+pub mod Syncing
+pub mod Beginning
+pub mod Raising
+pub mod Leaving
+pub mod Stopping

@@ -21,11 +21,7 @@ use Rattle.desk.specs.declared.call.Call.{Call}
 use Rattle.desk.specs.declared.call.Call.TheVariants as call
 use Rattle.desk.specs.declared.turned.Turned.{Turned}
 use Rattle.desk.specs.declared.turned.Turned.TheVariants as turned
-<<<<<<< HEAD
-use Rattle.desk.specs.Answers.{Answers, AnswersCommand, EndsAtStop, IsShortAnswer}
-=======
 use Rattle.desk.specs.Answers.{Answers, AnswersCommand, IsShortAnswer}
->>>>>>> 221aa85aabd0a0e247bc226b3f85e77715b6f0c5
 use Rattle.negotiation.specs.declared.identity.Identity.{Identity}
 use Rattle.floor_rooms.specs.declared.hall.Hall.{Hall}
 use Rattle.floor_rooms.specs.Sound.{IsSound}

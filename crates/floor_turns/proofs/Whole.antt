@@ -34,10 +34,6 @@ use Rattle.floor_rooms.specs.Rooms.{client_in}
 use Rattle.floor_rooms.specs.Sound.{IsRoomSound, IsSound}
 use Rattle.floor_rooms.specs.Changes.{KeepsSince}
 use Rattle.floor_rooms.specs.declared.room.Room.{Room}
-<<<<<<< HEAD
-use Rattle.floor_rooms.specs.Kept.{NamesTold}
-=======
->>>>>>> 221aa85aabd0a0e247bc226b3f85e77715b6f0c5
 use Rattle.floor_rooms.proofs.Holding.{holds_same}
 use Rattle.floor_rooms.proofs.Sounding.{Lowers, room_lowered}
 use Rattle.floor_rooms.proofs.Dating.{since_kept, since_kept_then}
@@ -52,20 +48,12 @@ use Rattle.turn_laws.proofs.Faulting.{apart-cons, faults-append, no_fault, one_w
 use Rattle.turn_laws.proofs.Laying.{all_both, all_so, free_common, moved_free, sticks_free}
 use Rattle.floor_turns.specs.declared.paying.Paid.{Paid}
 use Rattle.floor_turns.specs.declared.paying.Paid.TheVariants as paid
-<<<<<<< HEAD
-use Rattle.floor_turns.specs.Paying.{AreFew, CountsStuck, Extends, IsPayment, MayActBehind, Pays}
-use Rattle.floor_turns.specs.Acting.{Acts, ActsBy, ClientsBy, FaultRose, FaultsRose, Passes, SameClients, StaysSet, Steps, there_after}
-use Rattle.floor_turns.specs.Leads.{MarksStand}
-use Rattle.floor_turns.specs.Timely.{IsTimely, TicksTimely}
-use Rattle.floor_turns.specs.Turning.{IsAnswered, IsServed, IsStopped, IsStuckStop, IsTurnedAway, PaysFor, Settles, StaysOn, TakesTurn, ends_at_stop, is_enough, is_stopping, is_stuck_stop, most_for, stops_stuck}
-=======
 use Rattle.floor_turns.specs.Paying.{CountsStuck, IsPayment, Pays}
 use Rattle.floor_turns.specs.Acting.{Acts, ActsBy, ClientsBy, FaultRose, FaultsRose, Steps, there_after}
 use Rattle.floor_turns.specs.Leads.{MarksStand}
 use Rattle.floor_saving.specs.Timely.{IsTimely}
 use Rattle.floor_turns.specs.Timely.{TicksTimely}
 use Rattle.floor_turns.specs.Turning.{IsAnswered, IsStuckStop, PaysFor, Settles, StaysOn, TakesTurn, ends_at_stop, is_enough, is_stopping, is_stuck_stop, most_for, stops_stuck}
->>>>>>> 221aa85aabd0a0e247bc226b3f85e77715b6f0c5
 use Rattle.floor_turns.proofs.Clearing.{paid_may_act, paid_may_stop}
 use Rattle.floor_turns.proofs.Following.{marks_follow, marks_stay}
 use Rattle.floor_turns.proofs.Leading.{marks_of}
@@ -229,21 +217,12 @@ module _ (at number : ℕ) (c : Call) (answer : Turned) where
   steps_legal (e ∷ f ∷ h) front s between u by legal may stop step = absurd by
 
 rose_then : (acts : History) (a b c d : ℕ) → a ≤ b → c ≤ d → FaultsRose b c acts → FaultsRose a d acts
-<<<<<<< HEAD
-rose_then [] a b c d le more h = tt
-rose_then (e ∷ acts) a b c d le more h = λ faulted. fault_then e.0.act (h faulted)
-  where
-    fault_then : (act : Act) → FaultRose b c act → FaultRose a d act
-    fault_then (Stuck topic channel) h = tt
-    fault_then act h = omega (arith, le, more, h)
-=======
 rose_then [] a b c d le on h = tt
 rose_then (e ∷ acts) a b c d le on h = λ faulted. fault_then e.0.act (h faulted)
   where
     fault_then : (act : Act) → FaultRose b c act → FaultRose a d act
     fault_then (Stuck topic channel) h = tt
     fault_then act h = omega (arith, le, on, h)
->>>>>>> 221aa85aabd0a0e247bc226b3f85e77715b6f0c5
 
 -- which clients there are, behind a payment that leaves them
 clients_then : (acts : History) (a b c : Hall) → b.clients ≡ a.clients → b.stopped ≡ a.stopped → ClientsBy acts b c → ClientsBy acts a c
@@ -519,13 +498,8 @@ module _ (tells_notes tells_files : Bool) (number : ℕ) (c : Call) (stopping : 
         let whole = faults-append paid_added (acts.held ++ acts.acts) in
         let behind = faults-append acts.held acts.acts in
         let none = held_counts at acts.held back in
-<<<<<<< HEAD
-        let more = settles.faults in
-        omega (arith, first, second, whole, behind, none, more)
-=======
         let third = settles.faults in
         omega (arith, first, second, whole, behind, none, third)
->>>>>>> 221aa85aabd0a0e247bc226b3f85e77715b6f0c5
 
     stays_acted : StaysOn old.hall new.hall
     stays_acted = record {

@@ -147,10 +147,10 @@ leaves_asked : (a : Ask) (answer : Said) (number : ℕ) (h h' : Hall) → SameCl
 leaves_asked a answer number h h' same = record { there = same.there; stopped = same.stopped ∙ or_false h.stopped }
 
 pub asked_not : (tells : Bool) (number : ℕ) (a : Ask) (answer : Said) (h : Hall) (f : Files) (n : ℕ) {E : Type 0} → IsSound h → is_done answer ≡ false → CarriesOut {E = E} tells number (Asked a answer) (basis h f n) (basis h f n) (Ok (record { end = end.Done; answer = turned.Said answer }))
-asked_not tells number a answer h f n sound no = record {
+asked_not tells number a answer h f n sound isnt = record {
   around = around_same tells h f n sound;
   ends = record {
-    does = λ told s holds allowed. record { allowed = allowed; to = s; does = sym (ap (λ b. if b then carried_out s h.moment a else s) no); holds = holds };
+    does = λ told s holds allowed. record { allowed = allowed; to = s; does = sym (ap (λ b. if b then carried_out s h.moment a else s) isnt); holds = holds };
     answer = refl;
     noted = tt;
     cause = λ e. absurd (false≢true e);
@@ -194,12 +194,12 @@ module _ (tells : Bool) (number : ℕ) (a : Ask) (old new : Basis) {E : Type 0} 
     };
   }
 
-  module _ (answer : Said) (yes : is_done answer ≡ true) where
+  module _ (answer : Said) (is : is_done answer ≡ true) where
     pub asked_done : CarriesAsk {E = E} tells a old new (Ok Done) → CarriesOut {E = E} tells number (Asked a answer) old new (Ok (record { end = end.Done; answer = turned.Said answer }))
-    asked_done x = subst (λ (y : Said). CarriesOut {E = E} tells number (Asked a y) old new (Ok (record { end = end.Done; answer = turned.Said y }))) (sym (done_is answer yes)) (done_out x)
+    asked_done x = subst (λ (y : Said). CarriesOut {E = E} tells number (Asked a y) old new (Ok (record { end = end.Done; answer = turned.Said y }))) (sym (done_is answer is)) (done_out x)
 
     pub asked_fault : (count : ℕ) → CarriesAsk {E = E} tells a old new (Ok (Fault count)) → CarriesOut {E = E} tells number (Asked a answer) old new (Ok (record { end = end.Faulted count; answer = turned.Said said.Disk }))
-    asked_fault count x = subst (λ (y : Said). CarriesOut {E = E} tells number (Asked a y) old new (Ok (record { end = end.Faulted count; answer = turned.Said said.Disk }))) (sym (done_is answer yes)) (fault_out count x)
+    asked_fault count x = subst (λ (y : Said). CarriesOut {E = E} tells number (Asked a y) old new (Ok (record { end = end.Faulted count; answer = turned.Said said.Disk }))) (sym (done_is answer is)) (fault_out count x)
 
   pub asked_err : (answer : Said) (e : E) → CarriesAsk {E = E} tells a old new (Err e) → CarriesOut {E = E} tells number (Asked a answer) old new (Err e)
   asked_err answer e x = record { around = x.around; ends = record { rests = x.ends; same = x.same } }

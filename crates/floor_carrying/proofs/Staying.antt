@@ -100,3 +100,8 @@ stays_then_clients a b c x is =
       names = names_then a b c x.names y.names;
       since = subst (λ rs. KeepsSince a.moment a.rooms.items rs) (sym (ap (λ (h : Hall). h.rooms.items) is)) x.since;
     }
+
+-- what is left is left by one equation, and names, marks and files as they are told
+pub around_by : (tells : Bool) (h h' g : Hall) (f f' : Files) (n n' : ℕ) → h' ≡ g → g.options ≡ h.options → g.epoch ≡ h.epoch → g.began_at ≡ h.began_at → g.moment ≡ h.moment → g.stuck ≡ h.stuck → NamesTold h h' → KeepsSince h.moment h.rooms.items h'.rooms.items → IsSound h'
+    → (IsTrue tells → OnlyQueueFiles f f') → n ≤ n' → Around tells (basis h f n) (basis h' f' n')
+around_by tells h h' g f f' n n' is options epoch began moment stuck names since sound files faults = record { stays = stays_by h h' g is options epoch began moment stuck names since; sound = sound; files = files; faults = faults }

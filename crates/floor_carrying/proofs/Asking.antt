@@ -1,5 +1,5 @@
 -- What is asked, done.
-use Rattle.std.proofs.Common.{◌≡◌, ◌≤◌, ◌<◌, ◌+◌, ◌^◌, ℕ, Bool, true, false, if◌then◌else◌, List, length, get_or, Option, Some, None, is_some, Result, Ok, Err, refl, sym, ap, subst, ◌∙◌, leb-true, ◌||◌}
+use Rattle.std.proofs.Common.{◌≡◌, ◌≤◌, ◌<◌, ◌+◌, ◌^◌, ℕ, Bool, true, false, if◌then◌else◌, List, length, get_or, Option, Some, None, is_some, Ok, Err, refl, sym, ap, subst, ◌∙◌, leb-true, ◌||◌}
 use Rattle.std.specs.Prelude.{HoldsAt, IsTrue}
 use Rattle.std.proofs.lemmas.Bool.{false≢true}
 use Rattle.nsq_outside.specs.Causes.{Rose}
@@ -11,12 +11,11 @@ use Rattle.broker_history.specs.declared.ask.Said.{Said}
 use Rattle.broker_history.specs.declared.ask.Said.TheVariants as said
 use Rattle.broker_history.specs.declared.entry.Act.TheVariants.{Asked}
 use Rattle.broker_history.specs.State.{State, topic_of}
-use Rattle.broker_history.specs.Changes.{deleted, emptied, made, set_paused}
-use Rattle.broker_history.specs.Reply.{are_left, has_ids}
+use Rattle.broker_history.specs.Changes.{set_paused}
+use Rattle.broker_history.specs.Reply.{are_left}
 use Rattle.broker_history.specs.Said.{Says, said_of}
 use Rattle.broker_history.specs.Step.{carried_out, is_done}
 use Rattle.desk.specs.declared.turned.Turned.TheVariants as turned
-use Rattle.disk_queue.specs.declared.answers.Emptied.TheVariants as emptying
 use Rattle.floor_changes.specs.declared.lost.Lost.TheVariants as losing
 use Rattle.floor_rooms.specs.declared.room.Room.{Room}
 use Rattle.floor_rooms.specs.declared.stall.Stall.{Stall}
@@ -27,16 +26,13 @@ use Rattle.floor_rooms.specs.Sound.{IsSound}
 use Rattle.floor_rooms.specs.Standing.{Carries, HoldsFor}
 use Rattle.floor_rooms.proofs.Forming.{some_at}
 use Rattle.floor_topics.specs.Deleting.{DeletesChannel, DeletesTopic}
-use Rattle.floor_topics.specs.Emptying.{EmptiesBy}
 use Rattle.floor_topics.specs.declared.deleted.Deleted.TheVariants as deleting
 use Rattle.floor_words.specs.Asked.{found_where}
 use Rattle.floor_words.proofs.Saying.{said_is}
 use Rattle.floor_turns.specs.Acting.{LeavesClients, SameClients}
-use Rattle.floor_carrying.specs.declared.carried.Carried.{Carried}
-use Rattle.floor_carrying.specs.declared.served.Served.{Served}
 use Rattle.floor_carrying.specs.declared.served.Served.TheVariants.{Done, Fault}
 use Rattle.floor_carrying.specs.Carrying.{Around, Basis, CarriesOut, basis}
-use Rattle.floor_carrying.specs.Asks.{BreaksOff, CarriesAsk, Serves, pauses}
+use Rattle.floor_carrying.specs.Asks.{BreaksOff, CarriesAsk, pauses}
 use Rattle.floor_carrying.proofs.Staying.{around_same, same_hall}
 
 -- what isn't there isn't said to be done
@@ -98,9 +94,6 @@ module _ (tells : Bool) (h h' : Hall) (f f' : Files) (topic : List ℕ) (i : ℕ
 
     pub stall_within : HoldsAt (λ r. j < length r.stalls.items) h.rooms.items i
     stall_within = λ d. (place d).stands.in_range
-
-    pub stall_none_at : (d : Room) → room_in h.rooms.items topic ≡ Some (get_or h.rooms.items i d)
-    stall_none_at d = at.found d
 
 -- it was done, or a disk fault kept it off, or memory was wanting
 module _ (tells : Bool) (a : Ask) (h h' : Hall) (f f' : Files) (n n' : ℕ) (around : Around tells (basis h f n) (basis h' f' n')) (same : SameClients h h') {E : Type 0} where

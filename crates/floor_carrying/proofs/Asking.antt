@@ -140,10 +140,10 @@ leaves_asked : (a : Ask) (answer : Said) (number : ℕ) (h h' : Hall) → SameCl
 leaves_asked a answer number h h' same = record { there = same.there; stopped = same.stopped ∙ or_false h.stopped }
 
 pub asked_not : (tells : Bool) (number : ℕ) (a : Ask) (answer : Said) (h : Hall) (f : Files) (n : ℕ) {E : Type 0} → IsSound h → is_done answer ≡ false → CarriesOut {E = E} tells number (Asked a answer) (basis h f n) (basis h f n) (Ok (record { end = end.Done; answer = turned.Said answer }))
-asked_not tells number a answer h f n sound isnt = record {
+asked_not tells number a answer h f n sound undone = record {
   around = around_same tells h f n sound;
   ends = record {
-    does = λ told s holds allowed. record { allowed = allowed; to = s; does = sym (ap (λ b. if b then carried_out s h.moment a else s) isnt); holds = holds };
+    does = λ told s holds allowed. record { allowed = allowed; to = s; does = sym (ap (λ b. if b then carried_out s h.moment a else s) undone); holds = holds };
     answer = refl;
     noted = tt;
     cause = λ e. absurd (false≢true e);

@@ -21,7 +21,7 @@ use Rattle.floor_turns.specs.Acting.{SameClients, StaysSet}
 use Rattle.floor_carrying.specs.declared.commanded.Commanded.TheVariants as commanded
 use Rattle.floor_carrying.specs.Carrying.{Around, basis}
 use Rattle.floor_carrying.specs.Commands.{CarriesCommand, IsPublish}
-use Rattle.floor_carrying.proofs.Staying.{same_changed, same_equal, same_then, stays_by, stays_then_clients}
+use Rattle.floor_carrying.proofs.Staying.{around_same, same_changed, same_equal, same_hall, same_then, stays_by, stays_then_clients}
 
 -- the queue's part, and then the client spoke
 module _ (tells : Bool) (k : ℕ) (h h1 : Hall) (f f1 : Files) (n n1 : ℕ) (rest : h1 ≡ record h { ids_used = h1.ids_used; rooms = h1.rooms; pending = h1.pending; unsaved_names = h1.unsaved_names; unsaved_from = h1.unsaved_from }) (sound1 : IsSound h1) (names : NamesTold h h1) (since : KeepsSince h.moment h.rooms.items h1.rooms.items)
@@ -92,3 +92,7 @@ mpub_is topic bodies word is = record { carries = λ s at d t e. e; says = ap (�
 
 pub dpub_is : (topic : List ℕ) (delay : ℤ) (body : List ℕ) (word : List ℕ) → word ≡ codes "E_DPUB_FAILED" → IsPublish (command.Dpub topic delay body) topic (span_of delay) (body ∷ []) word
 dpub_is topic delay body word is = record { carries = λ s at d t e. e; says = ap (λ w. Some (disk_fault w)) (sym is) }
+
+-- memory was wanting before anything was done
+pub unpublished : (tells : Bool) (k : ℕ) (c : Command) (h : Hall) (f : Files) (n : ℕ) {E : Type 0} (e : E) → IsSound h → CarriesCommand {E = E} tells k c (basis h f n) (basis h f n) (Err e)
+unpublished tells k c h f n e sound = record { around = around_same tells h f n sound; same = same_hall h; ends = λ told s holds. (s, refl, holds) }

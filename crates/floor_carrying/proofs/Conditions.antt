@@ -139,6 +139,15 @@ counted o n true is range e =
     omega (arith, le, most)
 counted o n false is range e = absurd (false≢true (sym e))
 
+-- the delay of DPUB in nanoseconds, brought into range
+pub dpub_span : (h : Hall) (k : ℕ) (topic : List ℕ) (delay : ℤ) (body : List ℕ) (a : IsAccepted h k (command.Dpub topic delay body)) (span : ℕ) → span ≡ min (span_of delay) h.options.max_req_timeout → span ≡ span_of delay
+dpub_span h k topic delay body a span is = is ∙ min_at_most (span_of delay) h.options.max_req_timeout (dpub_within h k topic delay body a)
+
+pub dpub_longest : (h : Hall) (k : ℕ) (topic : List ℕ) (delay : ℤ) (body : List ℕ) (a : IsAccepted h k (command.Dpub topic delay body)) → IsInRange h.options → (span : ℕ) → span ≡ min (span_of delay) h.options.max_req_timeout → span ≤ longest_delay
+dpub_longest h k topic delay body a range span is =
+    let most = longest h.options range in
+    omega (arith, is, most)
+
 -- a RDY that is accepted asks for a number of 32 bits, or is in vain
 ready_by : (o : Options) (phase : Phase) (count : ℤ) → IsInRange o → is_lost phase ≡ false → is_error (ready_reply o phase count) ≡ false → (count_of count < 2 ^ 32) ⊎ ((n m : ℕ) → ready_for phase n m ≡ m)
 ready_by o Fresh count range stays e = absurd (false≢true (sym e))

@@ -1,5 +1,5 @@
 -- To which act which call leads, and what is so of it in a hall.
-use Rattle.std.proofs.Common.{◌≡◌, ◌≢◌, ◌⊎◌, inl, inr, ◌≤◌, ℕ, Bool, true, false, not, Option, Some, None, is_some, refl, sym, ap, subst, ◌∙◌, arith}
+use Rattle.std.proofs.Common.{◌≡◌, ◌⊎◌, inl, inr, ◌≤◌, ℕ, Bool, true, false, not, Option, Some, None, is_some, refl, sym, ap, subst, ◌∙◌, arith}
 use Rattle.std.specs.Prelude.{MatchBool}
 use Rattle.std.proofs.lemmas.Bool.{false≢true}
 use Rattle.v2_frame.specs.declared.command.Command.{Command}
@@ -147,7 +147,7 @@ pub gone_there : (h : Hall) (number : ℕ) (said : Option Identity) → IsPlanne
 gone_there h number said p = goes p.of (is_some (client_in h.clients.items number)) (kinds h number p.of Gone p.is) p.serves.fits
 
 -- what is asked can be asked
-asked_of : Ask → Act → Ask
+abbrev asked_of : Ask → Act → Ask
 asked_of d (Asked a answer) = a
 asked_of d _ = d
 
@@ -173,11 +173,11 @@ pub record IsDid (h : Hall) (number : ℕ) (command : Command) (reply : Option F
   pub is : reply ≡ reply_in h client command
   pub whole : IsWhole command
 
-command_of : Command → Act → Command
+abbrev command_of : Command → Act → Command
 command_of d (Did command reply) = command
 command_of d _ = d
 
-reply_of : Option Frame → Act → Option Frame
+abbrev reply_of : Option Frame → Act → Option Frame
 reply_of d (Did command reply) = reply
 reply_of d _ = d
 
@@ -205,17 +205,17 @@ pub planned_did : (h : Hall) (number : ℕ) (command : Command) (reply : Option 
 planned_did h number command reply said p = dids h number p.of command reply p.is (kinds h number p.of (Did command reply) p.is) p.can
 
 -- the acts that change nothing
-pub left : (a : Act) → kind a ≤ 11 → kind a ≢ 0 → kind a ≢ 1 → kind a ≢ 3 → kind a ≢ 7 → kind a ≢ 8 → kind a ≢ 11 → IsLeft a
-left Began most n0 n1 n3 n7 n8 n11 = absurd (n0 refl)
-left (Did command reply) most n0 n1 n3 n7 n8 n11 = absurd (n1 refl)
-left (Refused fault frame) most n0 n1 n3 n7 n8 n11 = tt
-left Beat most n0 n1 n3 n7 n8 n11 = absurd (n3 refl)
-left Idle most n0 n1 n3 n7 n8 n11 = tt
-left Silent most n0 n1 n3 n7 n8 n11 = tt
-left Dropped most n0 n1 n3 n7 n8 n11 = tt
-left Gone most n0 n1 n3 n7 n8 n11 = absurd (n7 refl)
-left (Asked a answer) most n0 n1 n3 n7 n8 n11 = absurd (n8 refl)
-left (Listed names) most n0 n1 n3 n7 n8 n11 = tt
-left Ticked most n0 n1 n3 n7 n8 n11 = tt
-left Stop most n0 n1 n3 n7 n8 n11 = absurd (n11 refl)
-left a most n0 n1 n3 n7 n8 n11 = absurd (omega (arith, most))
+pub left : (a : Act) → kind a ≤ 11 → (a ≡ Began → ⊥) → ((command : Command) (reply : Option Frame) → a ≡ Did command reply → ⊥) → (a ≡ Beat → ⊥) → (a ≡ Gone → ⊥) → ((asked : Ask) (answer : Said) → a ≡ Asked asked answer → ⊥) → (a ≡ Stop → ⊥) → IsLeft a
+left Began most began did beat gone asked stop = absurd (began refl)
+left (Did command reply) most began did beat gone asked stop = absurd (did command reply refl)
+left (Refused fault frame) most began did beat gone asked stop = tt
+left Beat most began did beat gone asked stop = absurd (beat refl)
+left Idle most began did beat gone asked stop = tt
+left Silent most began did beat gone asked stop = tt
+left Dropped most began did beat gone asked stop = tt
+left Gone most began did beat gone asked stop = absurd (gone refl)
+left (Asked a answer) most began did beat gone asked stop = absurd (asked a answer refl)
+left (Listed names) most began did beat gone asked stop = tt
+left Ticked most began did beat gone asked stop = tt
+left Stop most began did beat gone asked stop = absurd (stop refl)
+left a most began did beat gone asked stop = absurd (omega (arith, most))

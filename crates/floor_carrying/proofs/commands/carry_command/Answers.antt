@@ -1,5 +1,7 @@
-use Rattle.std.proofs.Common.{refl, sym, ◌∙◌}
+use Rattle.std.proofs.Common.{Ok, refl, sym, subst, ◌∙◌}
+use Rattle.floor_carrying.specs.declared.commanded.Commanded.{Commanded}
 use Rattle.floor_carrying.specs.Carrying.{basis}
+use Rattle.floor_carrying.specs.Commands.{CarriesCommand}
 use Rattle.floor_carrying.proofs.Commanding.{accepts, did_done, did_fault, did_not, knows_said, not_placed, refused}
 use Rattle.floor_carrying.proofs.Staying.{around_clients, same_changed}
 use Rattle.broker_history.specs.Step.{spoke}
@@ -29,8 +31,8 @@ returns-in-Err g c =
 
 pub returns-in-Ok-Done : goal.returns-in-Ok-Done
 returns-in-Ok-Done g c =
-    did_done g.F.Folder.tells_files c.args.number c.in-Some.k c.args.command c.args.reply c.args.said (basis c.args.hall.now (g.F.Folder.files c.args.folder.now) (g.F.Folder.folder_faults c.args.folder.now)) (basis c.do_command.new.hall (g.F.Folder.files c.do_command.new.folder) (g.F.Folder.folder_faults c.do_command.new.folder)) c.requires.plan c.in-Some.ensures (sym c.is_error.ensures ∙ c.if-is_error.false) c.replied-in-Ok-Done.result c.in-Ok-Done.ensures c.replied-in-Ok-Done.ensures
+    did_done g.F.Folder.tells_files c.args.number c.in-Some.k c.args.command c.args.reply c.args.said (basis c.args.hall.now (g.F.Folder.files c.args.folder.now) (g.F.Folder.folder_faults c.args.folder.now)) (basis c.do_command.new.hall (g.F.Folder.files c.do_command.new.folder) (g.F.Folder.folder_faults c.do_command.new.folder)) c.requires.plan c.in-Some.ensures (sym c.is_error.ensures ∙ c.if-is_error.false) c.replied-in-Ok-Done.result (subst (λ (x : Commanded). CarriesCommand g.F.Folder.tells_files c.in-Some.k c.args.command (basis c.args.hall.now (g.F.Folder.files c.args.folder.now) (g.F.Folder.folder_faults c.args.folder.now)) (basis c.do_command.new.hall (g.F.Folder.files c.do_command.new.folder) (g.F.Folder.folder_faults c.do_command.new.folder)) (Ok x)) c.in-Ok-Done.field-0-is c.in-Ok-Done.ensures) c.replied-in-Ok-Done.ensures
 
 pub returns-in-Ok-Fault : goal.returns-in-Ok-Fault
 returns-in-Ok-Fault g c =
-    did_fault g.F.Folder.tells_files c.args.number c.in-Some.k c.args.command c.args.reply c.args.said (basis c.args.hall.now (g.F.Folder.files c.args.folder.now) (g.F.Folder.folder_faults c.args.folder.now)) (basis c.do_command.new.hall (g.F.Folder.files c.do_command.new.folder) (g.F.Folder.folder_faults c.do_command.new.folder)) c.requires.plan c.in-Some.ensures (sym c.is_error.ensures ∙ c.if-is_error.false) c.in-Ok-Fault.frame c.kept_off.result c.in-Ok-Fault.ensures c.kept_off.ensures
+    did_fault g.F.Folder.tells_files c.args.number c.in-Some.k c.args.command c.args.reply c.args.said (basis c.args.hall.now (g.F.Folder.files c.args.folder.now) (g.F.Folder.folder_faults c.args.folder.now)) (basis c.do_command.new.hall (g.F.Folder.files c.do_command.new.folder) (g.F.Folder.folder_faults c.do_command.new.folder)) c.requires.plan c.in-Some.ensures (sym c.is_error.ensures ∙ c.if-is_error.false) c.in-Ok-Fault.frame c.kept_off.result (subst (λ (x : Commanded). CarriesCommand g.F.Folder.tells_files c.in-Some.k c.args.command (basis c.args.hall.now (g.F.Folder.files c.args.folder.now) (g.F.Folder.folder_faults c.args.folder.now)) (basis c.do_command.new.hall (g.F.Folder.files c.do_command.new.folder) (g.F.Folder.folder_faults c.do_command.new.folder)) (Ok x)) c.in-Ok-Fault.field-0-is c.in-Ok-Fault.ensures) c.kept_off.ensures

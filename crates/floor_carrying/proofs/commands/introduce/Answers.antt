@@ -1,4 +1,4 @@
-use Rattle.std.proofs.Common.{refl}
+use Rattle.std.proofs.Common.{refl, arith}
 use Rattle.v2_frame.specs.declared.command.Command.TheVariants as command
 use Rattle.broker_history.specs.Step.{known_as, spoke}
 use Rattle.negotiation.specs.Said.{said}
@@ -11,7 +11,9 @@ pub unreachable-requires : goal.unreachable-requires
 unreachable-requires c = none_said c.args.hall.now c.args.k c.args.body c.args.said c.requires.accepted c.requires.said c.in_default.is
 
 pub index-requires : goal.index-requires
-index-requires c = c.requires.accepted.within
+index-requires c =
+    let within = c.requires.accepted.within in
+    omega (arith, within, c.args.hall.now.clients.ok.0)
 
 pub identify-requires-clause-client : goal.identify-requires-clause-client
 identify-requires-clause-client c = c.requires.accepted.within

@@ -1,4 +1,4 @@
-use Rattle.std.proofs.Common.{refl}
+use Rattle.std.proofs.Common.{refl, arith}
 use Rattle.v2_frame.specs.declared.command.Command.TheVariants as command
 use Rattle.broker_history.specs.Step.{spoke, subscribed}
 use Rattle.floor_carrying.proofs.Commanding.{command_done, command_not, free_at}
@@ -7,7 +7,9 @@ use Rattle.floor_carrying.proofs.Staying.{same_changed, same_equal, stays_by}
 use Rattle.floor_carrying.proofs.commands.join.Goals as goal
 
 pub index-requires : goal.index-requires
-index-requires c = c.requires.accepted.within
+index-requires c =
+    let within = c.requires.accepted.within in
+    omega (arith, within, c.args.hall.now.clients.ok.0)
 
 pub subscribe-requires-clause-client : goal.subscribe-requires-clause-client
 subscribe-requires-clause-client c = c.requires.accepted.within

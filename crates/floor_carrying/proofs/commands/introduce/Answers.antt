@@ -3,7 +3,7 @@ use Rattle.v2_frame.specs.declared.command.Command.TheVariants as command
 use Rattle.broker_history.specs.Step.{known_as, spoke}
 use Rattle.negotiation.specs.Said.{said}
 use Rattle.floor_carrying.proofs.Commanding.{command_done, free_at, none_at}
-use Rattle.floor_carrying.proofs.Conditions.{identify_fresh, identify_said, none_said, says_timely, says_value}
+use Rattle.floor_carrying.proofs.Conditions.{identify_fresh, none_said, says_timely, says_value}
 use Rattle.floor_carrying.proofs.Staying.{same_changed, stays_clients}
 use Rattle.floor_carrying.proofs.commands.introduce.Goals as goal
 

@@ -1,4 +1,4 @@
-use Rattle.std.proofs.Common.{rules, SFits, w64, to_z, of_z, min, ◌≡◌, ◌+◌, ◌≤◌, ◌^◌, List, [], ◌∷◌, ℕ, length, refl, sym, ap, subst, ◌∙◌, codes}
+use Rattle.std.proofs.Common.{rules, SFits, w64, to_z, of_z, min, ◌≡◌, ◌+◌, ◌≤◌, ◌^◌, List, ℕ, length, refl, sym, subst, codes}
 use Rattle.std.proofs.lemmas.Int.{to_z-of_z}
 use Rattle.std.specs.List.{All}
 use Rattle.v2_frame.specs.declared.command.Command.TheVariants as command

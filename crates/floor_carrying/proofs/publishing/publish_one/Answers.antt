@@ -1,4 +1,4 @@
-use Rattle.std.proofs.Common.{◌≡◌, ◌+◌, ◌≤◌, ◌^◌, List, [], ◌∷◌, ℕ, length, refl, sym, ap, subst, ◌∙◌, codes}
+use Rattle.std.proofs.Common.{◌+◌, ◌≤◌, ◌^◌, List, ℕ, length, refl, sym, subst, codes}
 use Rattle.std.specs.List.{All}
 use Rattle.v2_frame.specs.declared.command.Command.TheVariants as command
 use Rattle.floor_carrying.specs.Commands.{IsPublish}

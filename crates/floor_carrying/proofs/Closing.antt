@@ -1,36 +1,31 @@
 -- Acts that are no commands and no asks, and what is said of all.
-use Rattle.std.proofs.Common.{◌≡◌, ◌≤◌, ◌<◌, ◌==◌, ℕ, Bool, true, false, not, ◌||◌, ◌&&◌, if◌then◌else◌, List, length, get_or, Option, Some, None, is_some, Result, Ok, Err, refl, sym, ap, subst, ◌∙◌, arith}
+use Rattle.std.proofs.Common.{◌≡◌, ◌==◌, ℕ, Bool, true, false, not, ◌||◌, ◌&&◌, if◌then◌else◌, Option, Some, None, is_some, Result, Ok, Err, refl, sym, ap, subst, ◌∙◌}
 use Rattle.std.specs.Prelude.{HoldsAt, IfOk, IsTrue, OnErr}
 use Rattle.std.proofs.lemmas.Bool.{false≢true}
 use Rattle.nsq_outside.specs.Causes.{Rose}
 use Rattle.nsq_outside.specs.Files.{Files}
 use Rattle.nsq_outside.specs.declared.journal.End.TheVariants as end
-use Rattle.v2_frame.specs.declared.frame.Frame.{Frame}
 use Rattle.broker_history.specs.declared.entry.Act.{Act}
 use Rattle.broker_history.specs.declared.entry.Act.TheVariants.{Began, Beat, Gone, Stop, Refused, Idle, Silent, Dropped, Listed, Ticked}
 use Rattle.broker_history.specs.State.{Client, State, put_client, without_client}
-use Rattle.broker_history.specs.Changes.{at_client, gone}
 use Rattle.broker_history.specs.Entries.{is_faulted, is_stop}
-use Rattle.broker_history.specs.Reply.{beat_frame}
-use Rattle.broker_history.specs.Step.{DoesAct, begun, new_client}
+use Rattle.broker_history.specs.Step.{DoesAct, new_client}
 use Rattle.desk.specs.Answers.{IsShortAnswer}
 use Rattle.desk.specs.declared.turned.Turned.{Turned}
-use Rattle.desk.specs.declared.turned.Turned.TheVariants as turned
 use Rattle.floor_clients.proofs.Putting.{found_gone, found_put}
 use Rattle.floor_rooms.specs.declared.hall.Hall.{Hall}
 use Rattle.floor_rooms.specs.Changes.{KeepsRooms}
 use Rattle.floor_rooms.specs.Places.{IsClientPlace}
 use Rattle.floor_rooms.specs.Rooms.{client_in}
 use Rattle.floor_rooms.specs.Sound.{IsSound}
-use Rattle.floor_rooms.specs.Standing.{Carries, HoldsFor}
+use Rattle.floor_rooms.specs.Standing.{Carries}
 use Rattle.floor_rooms.proofs.Dating.{keeps_same}
 use Rattle.floor_rooms.proofs.Forming.{some_at}
-use Rattle.floor_replies.specs.Replies.{IsShortFrame}
 use Rattle.floor_words.specs.Plans.{IsShortAct}
 use Rattle.floor_turns.specs.Acting.{ActCarries, IsNoted, LeavesClients, SameClients, StaysSet, answer_of, there_after}
 use Rattle.floor_carrying.specs.declared.carried.Carried.{Carried}
 use Rattle.floor_carrying.specs.Carrying.{Around, Basis, CarriesOut, IsLeft, basis}
-use Rattle.floor_carrying.proofs.Staying.{around_same, same_hall, stays_kept}
+use Rattle.floor_carrying.proofs.Staying.{around_same, stays_kept}
 
 -- an act that ended Done
 pub act_done : (tells : Bool) (number : ℕ) (a : Act) (old new : Basis) (answer : Turned) {E : Type 0} → Around tells old new → (IsTrue tells → Carries old.hall old.files new.hall new.files (λ s t. DoesAct s old.hall.moment number a end.Done t)) → answer ≡ answer_of old.hall.moment a end.Done → LeavesClients a number old.hall new.hall → IsShortAnswer answer

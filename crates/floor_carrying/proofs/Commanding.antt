@@ -1,8 +1,7 @@
 -- A command of a client, carried out.
-use Rattle.std.proofs.Common.{◌≡◌, ◌<◌, ◌≤◌, ℕ, Bool, true, false, List, length, get_or, Option, Some, None, is_some, Result, Ok, Err, ◌||◌, refl, sym, ap, subst, ◌∙◌, arith}
+use Rattle.std.proofs.Common.{◌≡◌, ℕ, Bool, true, false, get_or, Option, Some, None, is_some, Ok, Err, ◌||◌, refl, sym, ap, subst, ◌∙◌}
 use Rattle.std.specs.Prelude.{HoldsAt, IsTrue}
 use Rattle.std.proofs.lemmas.Bool.{false≢true}
-use Rattle.std.proofs.lemmas.List.{get_or_default}
 use Rattle.nsq_outside.specs.Files.{Files}
 use Rattle.nsq_outside.specs.declared.journal.End.{End}
 use Rattle.nsq_outside.specs.declared.journal.End.TheVariants as end
@@ -11,26 +10,24 @@ use Rattle.v2_frame.specs.declared.command.Command.TheVariants as command
 use Rattle.v2_frame.specs.declared.frame.Frame.{Frame}
 use Rattle.broker_history.specs.declared.entry.Act.TheVariants.{Did}
 use Rattle.broker_history.specs.State.{Client, State, is_fresh}
-use Rattle.broker_history.specs.Reply.{did_answered, disk_reply}
 use Rattle.broker_history.specs.Step as step
 use Rattle.broker_history.specs.Step.{CanFault, IsAllowedAct, is_error, is_kept_off}
 use Rattle.negotiation.specs.declared.identity.Identity.{Identity}
-use Rattle.floor_clients.specs.Places.{StandsAt}
 use Rattle.floor_clients.specs.Seen.{held_channel}
 use Rattle.floor_changes.specs.Seating.{IsFree}
 use Rattle.floor_rooms.specs.declared.hall.Hall.{Hall}
 use Rattle.floor_rooms.specs.Places.{IsClientPlace}
 use Rattle.floor_rooms.specs.Rooms.{client_in}
 use Rattle.floor_rooms.specs.Sound.{IsSound}
-use Rattle.floor_rooms.specs.Standing.{Carries, HoldsFor}
-use Rattle.floor_replies.specs.Replies.{IsShort, KnowsOf, flies_in, reply_in}
-use Rattle.floor_acts.specs.Acts.{ChangesAt, DoesAt}
-use Rattle.floor_turns.specs.Acting.{ActCarries, IsPlanned, LeavesClients, SameClients, StaysSet, answer_of, answer_to}
+use Rattle.floor_rooms.specs.Standing.{Carries}
+use Rattle.floor_replies.specs.Replies.{IsShort, KnowsOf, flies_in}
+use Rattle.floor_acts.specs.Acts.{DoesAt}
+use Rattle.floor_turns.specs.Acting.{ActCarries, IsPlanned, LeavesClients, SameClients, StaysSet, answer_to}
 use Rattle.desk.specs.Answers.{IsShortAnswer}
 use Rattle.floor_carrying.specs.declared.carried.Carried.{Carried}
 use Rattle.floor_carrying.specs.declared.commanded.Commanded.TheVariants as commanded
-use Rattle.floor_carrying.specs.Carrying.{Around, Basis, CarriesOut, Leads, basis}
-use Rattle.floor_carrying.specs.Commands.{CarriesCommand, CommandsBy, IsAccepted, KeepsOff, KnowsSaid}
+use Rattle.floor_carrying.specs.Carrying.{Around, Basis, CarriesOut, basis}
+use Rattle.floor_carrying.specs.Commands.{CarriesCommand, IsAccepted, KeepsOff, KnowsSaid}
 use Rattle.floor_carrying.proofs.Conditions.{at_accepted, can_fault}
 use Rattle.floor_carrying.proofs.Planning.{IsDid, planned_did}
 use Rattle.floor_carrying.proofs.Staying.{around_kept}

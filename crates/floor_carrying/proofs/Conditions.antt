@@ -1,6 +1,6 @@
 -- What a reply that is no error says of the client that gave the command, and of the hall.
 use Rattle.std.proofs.Common.{◌≡◌, ◌⊎◌, inl, inr, ◌<◌, ◌≤◌, ◌+◌, ◌*◌, ◌^◌, ℕ, ℤ, pos, negsuc, min, Bool, true, false, nat_le, if◌then◌else◌, List, [], ◌∷◌, length, codes, get_or, Option, Some, None, is_some, refl, sym, ap, subst, ◌∙◌, arith, leb-true}
-use Rattle.std.specs.Prelude.{HoldsAt, IsSome, option_map, IfSome}
+use Rattle.std.specs.Prelude.{HoldsAt, option_map, IfSome}
 use Rattle.std.specs.List.{All, AllByRecursion}
 use Rattle.std.proofs.lemmas.Bool.{false≢true}
 use Rattle.std.proofs.lemmas.List.Elements.{All-from_recursion, All-weaker}
@@ -15,12 +15,12 @@ use Rattle.broker_history.specs.State.{Client, Phase, Fresh, Subscribed, Closing
 use Rattle.broker_history.specs.Identify as identify
 use Rattle.broker_history.specs.Identify.{identity_of}
 use Rattle.nsq_outside.specs.Files.{Files}
-use Rattle.broker_history.specs.Reply.{are_left, count_of, delayed_reply, disk_reply, error, flight_reply, identified, ids_spent, is_delay, is_ready_count, not_in_flight, ok_frame, publish_reply, ready_reply, reply_by, response, span_of, wrong_state}
+use Rattle.broker_history.specs.Reply.{are_left, count_of, delayed_reply, disk_reply, error, flight_reply, identified, ids_spent, is_delay, not_in_flight, ok_frame, publish_reply, ready_reply, reply_by, response, span_of, wrong_state}
 use Rattle.broker_history.specs.Step.{CanFault, is_error, ready_for, spoke}
 use Rattle.desk.specs.Calls.{IsAllowedBody, IsWhole}
 use Rattle.floor_rooms.specs.declared.hall.Hall.{Hall}
 use Rattle.floor_rooms.specs.Standing.{longest_delay}
-use Rattle.floor_replies.specs.Replies.{SaysOf, flies_in, reply_in}
+use Rattle.floor_replies.specs.Replies.{SaysOf, flies_in}
 use Rattle.negotiation.specs.Said.{IsTimely, said}
 use Rattle.negotiation.specs.declared.identity.Identity.{Identity}
 use Rattle.floor_acts.specs.Acts.{DoesAt, FliesAt}

@@ -1,5 +1,4 @@
-use Rattle.std.proofs.Common.{◌≡◌, ◌++◌, [], Some, refl, sym, ap, subst, ◌∙◌, arith}
-use Rattle.std.specs.Prelude.{IsTrue}
+use Rattle.std.proofs.Common.{◌≡◌, Some, refl, sym, ap, subst, ◌∙◌, arith}
 use Rattle.std.proofs.lemmas.List.{append-nil}
 use Rattle.floor_turns.specs.Acting.{ActCarries, IsPlanned, IsPlannedFor, LeavesClients, conn_of}
 use Rattle.floor_turns.proofs.Carrying.{acts_made, acts_none, entry_of, noted_act, noted_none, planned_conn, stays_same}

@@ -231,7 +231,7 @@ fn wrong_in(alloc: Global, seed: u64) -> Result<Vec<u8>, Memory> {
     };
     let right = turns_are_right(&mut run)?;
     let Run { bench, .. } = run;
-    let (done, left) = bench.end();
+    let (done, _, left) = bench.end(false);
     judged(alloc, &options, right, &done, &left)
 }
 

@@ -42,6 +42,8 @@ pub struct Row {
     /// Which calls of the folder fail.
     pub fails: &'static [Failing],
     pub lines: &'static str,
+    /// Whether all that is in memory is written in the end where that is tried: Some(false) where a fault is wanted.
+    pub flush: Option<bool>,
     /// Files in the end, where these are asked: None for one that isn't there.
     pub leaves: &'static [(&'static str, Option<&'static [u8]>)],
 }
@@ -52,6 +54,7 @@ pub const PLAIN: Row = Row {
     start: EMPTY,
     fails: &[],
     lines: "",
+    flush: None,
     leaves: &[],
 };
 
@@ -87,7 +90,10 @@ fn differs(alloc: Global, row: &Row) -> Result<Vec<u8>, Memory> {
     if let Some(line) = run(&mut bench, row.lines)? {
         return said(alloc, line, b"is no line");
     }
-    let (done, left) = bench.end();
+    let (done, written, left) = bench.end(row.flush.is_some());
+    if row.flush.is_some_and(|wanted| wanted != written) {
+        return said(alloc, "the flush", b"ends otherwise");
+    }
     compared(alloc, row, &options, &done, &left)
 }
 

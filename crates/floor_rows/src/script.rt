@@ -3,7 +3,7 @@
 //! A line `NUMBER CALL => ANSWER | ACT; ACT` is a turn of this number with its answer and the entries that it notes. A line `at MOMENT` sets the
 //! clock, in nanoseconds or, with an s behind it, in seconds. A line `floor CALL => ANSWER` is another call of the floor.
 
-ghost use Rattle.std.specs.Prelude.{IfOk};
+ghost use Rattle.std.specs.Prelude.{◌≡◌, IfOk, false};
 ghost use Rattle.nsq_base.specs.Options.{IsInRange};
 
 use crate::answers::{put_answer, put_told};
@@ -82,6 +82,7 @@ pub fn floor_of<'a>(
     dials: &'a Dials,
 ) -> Result<MemFloor<'a>, Memory>
     requires { IsInRange options.now }
+    ensures { IfOk result (λ floor. floor.held.flushed ≡ false) }
 {
     let kit = Kit {
         folder,
@@ -105,10 +106,13 @@ pub struct Bench<'a> {
     // The greatest reading so far.
     moment: u64,
     done: Vec<Done>,
+    ghost open: { floor.held.flushed ≡ false },
 }
 
 impl<'a> Bench<'a> {
-    pub fn new(alloc: Global, floor: MemFloor<'a>, dials: &'a Dials) -> Bench<'a> {
+    pub fn new(alloc: Global, floor: MemFloor<'a>, dials: &'a Dials) -> Bench<'a>
+        requires { floor.held.flushed ≡ false }
+    {
         Bench {
             alloc,
             floor,
@@ -222,10 +226,6 @@ impl<'a> Bench<'a> {
             }
             b"epoch" => put_number(told, u128::from(self.floor.epoch()))?,
             b"began" => put_number(told, u128::from(self.floor.began()))?,
-            b"flush" => match self.floor.flush() {
-                Flushed::Done => put(told, b"done")?,
-                Flushed::Fault => put(told, b"fault")?,
-            },
             _ => return Ok(false),
         }
         Ok(true)
@@ -250,16 +250,17 @@ impl<'a> Bench<'a> {
         self.done.last()
     }
 
-    /// What was done, and what the floor left.
-    pub fn end(self) -> (Vec<Done>, Left<'a>) {
+    /// What was done, whether all that was in memory was written where that is wanted, and what the floor left.
+    pub fn end(self, flushes: bool) -> (Vec<Done>, bool, Left<'a>) {
         let Bench {
             alloc: _,
-            floor,
+            mut floor,
             dials: _,
             moment: _,
             done,
         } = self;
-        (done, floor.end())
+        let written = !flushes || matches!(floor.flush(), Flushed::Done);
+        (done, written, floor.end())
     }
 }
 

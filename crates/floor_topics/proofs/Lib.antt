@@ -15,3 +15,4 @@ pub mod Losing
 pub mod Whole
 pub mod Steps
 pub mod Dropping
+pub mod Numbers

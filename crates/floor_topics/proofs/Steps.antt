@@ -1,5 +1,5 @@
 -- The channels of a topic that go one after another, in the hall.
-use Rattle.std.proofs.Common.{◌≡◌, ◌≤◌, ◌<◌, ◌+◌, ◌-◌, ℕ, suc, zero, set, Bool, List, [], ◌∷◌, ◌++◌, take, drop, length, get_or, Some, refl, sym, ap, subst, ◌∙◌, arith}
+use Rattle.std.proofs.Common.{◌≡◌, ◌≤◌, ◌<◌, ◌+◌, ◌-◌, ℕ, suc, zero, set, Bool, List, [], ◌∷◌, ◌++◌, take, drop, length, get_or, Some, is_some, refl, sym, ap, subst, ◌∙◌, arith}
 use Rattle.std.specs.Prelude.{IsTrue, HoldsAt}
 use Rattle.std.specs.List.{slice_get}
 use Rattle.std.proofs.Math.ListN.{get_or-map}
@@ -12,7 +12,7 @@ use Rattle.broker_history.specs.State.{State}
 use Rattle.floor_rooms.specs.declared.stall.Stall.{Stall}
 use Rattle.floor_rooms.specs.declared.room.Room.{Room}
 use Rattle.floor_rooms.specs.declared.hall.Hall.{Hall}
-use Rattle.floor_rooms.specs.Rooms.{channel_name, stall_names, topic_name}
+use Rattle.floor_rooms.specs.Rooms.{channel_name, client_in, stall_names, topic_name}
 use Rattle.floor_rooms.specs.Sound.{IsSound}
 use Rattle.floor_rooms.specs.Standing.{HoldsFor}
 use Rattle.floor_rooms.specs.Changes.{AtRoom, KeepsRooms, KeepsSince, OnlyQueueFiles}
@@ -44,12 +44,13 @@ loses_none tells i h files faults room sound within value = record {
     since = since_kept h.moment h.rooms.items h.rooms.items (keeps_same h.moment h.rooms.items);
     files = λ told file other. refl;
     faults = omega arith;
+    numbers = λ m. refl;
   };
 }
 
 -- what a further call makes of what was done before
 module _ (tells : Bool) (i count : ℕ) (h0 h1 h2 : Hall) (f0 f1 f2 : Files) (n0 n1 n2 : ℕ) (x : LosesOn tells i count h0 h1 f0 f1 n0 n1) (e : h2 ≡ record h1 { rooms = h2.rooms; clients = h2.clients; unsaved_names = h2.unsaved_names; unsaved_from = h2.unsaved_from }) (sound : IsSound h2)
-    (names : NamesTold h1 h2) (since : KeepsSince h1.moment h1.rooms.items h2.rooms.items) (files : IsTrue tells → OnlyQueueFiles f1 f2) (faults : n1 ≤ n2) where
+    (names : NamesTold h1 h2) (since : KeepsSince h1.moment h1.rooms.items h2.rooms.items) (files : IsTrue tells → OnlyQueueFiles f1 f2) (faults : n1 ≤ n2) (numbers : (m : ℕ) → is_some (client_in h2.clients.items m) ≡ is_some (client_in h1.clients.items m)) where
   so_rest : h2 ≡ record h0 { clients = h2.clients; rooms = h2.rooms; unsaved_names = h2.unsaved_names; unsaved_from = h2.unsaved_from }
   so_rest =
       let f : Hall → Hall = λ y. record y { clients = h2.clients; rooms = h2.rooms; unsaved_names = h2.unsaved_names; unsaved_from = h2.unsaved_from } in
@@ -68,6 +69,7 @@ module _ (tells : Bool) (i count : ℕ) (h0 h1 h2 : Hall) (f0 f1 f2 : Files) (n0
     since = so_since among;
     files = λ it_tells. only_then f0 f1 f2 (x.loses.files it_tells) (files it_tells);
     faults = let before = x.loses.faults in omega (arith, before, faults);
+    numbers = λ m. numbers m ∙ x.loses.numbers m;
   }
 
   now_there : slice_get h1.rooms.items i ≡ Some x.rooms.after

@@ -1,5 +1,5 @@
 -- What deleting a channel, or a topic with its channels, makes of a state.
-use Rattle.std.specs.Prelude.{◌≡◌, ◌⊎◌, ◌≤◌, ◌<◌, ℕ, Bool, HoldsAt, IsTrue, ◌&&◌, if◌then◌else◌, List, Option, Some, None, drop, fold, length, map, take}
+use Rattle.std.specs.Prelude.{◌≡◌, ◌⊎◌, ◌≤◌, ◌<◌, ℕ, Bool, HoldsAt, IsTrue, ◌&&◌, if◌then◌else◌, List, Option, Some, None, is_some, drop, fold, length, map, take}
 use Rattle.nsq_base.specs.Name.{is_ephemeral}
 use Rattle.nsq_outside.specs.Causes.{Rose}
 use Rattle.nsq_outside.specs.Files.{Files}
@@ -7,7 +7,7 @@ use Rattle.broker_history.specs.State.{State, Topic, is_empty, topic_of, with_to
 use Rattle.broker_history.specs.Changes.{channels_in, deleted, deleted_first, lost, without_channel, without_topic}
 use Rattle.floor_rooms.specs.declared.room.Room.{Room}
 use Rattle.floor_rooms.specs.declared.hall.Hall.{Hall}
-use Rattle.floor_rooms.specs.Rooms.{stall_names, topic_name, without_room}
+use Rattle.floor_rooms.specs.Rooms.{client_in, stall_names, topic_name, without_room}
 use Rattle.floor_rooms.specs.Sound.{IsSound}
 use Rattle.floor_rooms.specs.Standing.{HoldsFor}
 use Rattle.floor_rooms.specs.Changes.{AtRoom, KeepsSince, OnlyQueueFiles}
@@ -78,6 +78,7 @@ pub record LosesSoFar (tells : Bool) (topic : List ℕ) (names : List (List ℕ)
   pub since : KeepsSince h.moment h.rooms.items h'.rooms.items
   pub files : IsTrue tells → OnlyQueueFiles old new
   pub faults : before ≤ now
+  pub numbers : (m : ℕ) → is_some (client_in h'.clients.items m) ≡ is_some (client_in h.clients.items m)
 
 -- so they went from the topic at a place of the hall
 pub record LosesOn (tells : Bool) (i count : ℕ) (h h' : Hall) (old new : Files) (before now : ℕ) : Type 0 where

@@ -1,11 +1,11 @@
-ghost use Rattle.std.specs.Prelude.{◌≡◌, ◌≤◌, ◌<◌, ◌&&◌, HoldsAt, IsTrue, length};
+ghost use Rattle.std.specs.Prelude.{◌≡◌, ◌≤◌, ◌<◌, ◌&&◌, ℕ, HoldsAt, IsTrue, is_some, length};
 ghost use Rattle.nsq_base.specs.Name.{is_ephemeral};
 ghost use Rattle.broker_history.specs.State.{is_empty};
 ghost use Rattle.nsq_outside.specs.Files.{Files};
 ghost use Rattle.floor_changes.specs.Going.{LostFails};
 ghost use Rattle.floor_rooms.specs.Changes.{KeepsSince, OnlyQueueFiles};
 ghost use Rattle.floor_rooms.specs.Kept.{NamesTold};
-ghost use Rattle.floor_rooms.specs.Rooms.{channel_name, stall_names, topic_name};
+ghost use Rattle.floor_rooms.specs.Rooms.{channel_name, client_in, stall_names, topic_name};
 ghost use Rattle.floor_rooms.specs.Sound.{IsSound};
 ghost use Rattle.floor_rooms.specs.Standing.{Carries};
 ghost use Rattle.floor_topics.specs.Deleting.{DeletesChannel, DeletesTopic, DeletionFails, GoesEmpty, IsWithin, LosesAll, LosesSoFar, deleted_of, without_empty};
@@ -33,6 +33,7 @@ pub fn delete_channel<F: Folder>(
     ensures files { IsTrue F.tells_files → OnlyQueueFiles (F.files folder.old) (F.files folder.new) }
     ensures faults { F.folder_faults folder.old ≤ F.folder_faults folder.new }
     ensures cause { LostFails (F.folder_faults folder.old) (F.folder_faults folder.new) result }
+    ensures numbers { (m : ℕ) → is_some (client_in hall.new.clients.items m) ≡ is_some (client_in hall.old.clients.items m) }
 {
     let Some(i) = hall.room_place(topic) else {
         return Lost::Done;
@@ -55,6 +56,7 @@ pub fn delete_topic<F: Folder>(hall: &mut Hall, topic: Topic, folder: &mut F) ->
     ensures files { IsTrue F.tells_files → OnlyQueueFiles (F.files folder.old) (F.files folder.new) }
     ensures faults { F.folder_faults folder.old ≤ F.folder_faults folder.new }
     ensures cause { DeletionFails (F.folder_faults folder.old) (F.folder_faults folder.new) result }
+    ensures numbers { (m : ℕ) → is_some (client_in hall.new.clients.items m) ≡ is_some (client_in hall.old.clients.items m) }
 {
     let Some(i) = hall.room_place(topic) else {
         return Deleted::Done;
@@ -102,6 +104,7 @@ fn lose_at<F: Folder>(hall: &mut Hall, i: usize, j: usize, folder: &mut F) -> Lo
     ensures files { IsTrue F.tells_files → OnlyQueueFiles (F.files folder.old) (F.files folder.new) }
     ensures faults { F.folder_faults folder.old ≤ F.folder_faults folder.new }
     ensures cause { LostFails (F.folder_faults folder.old) (F.folder_faults folder.new) result }
+    ensures numbers { (m : ℕ) → is_some (client_in hall.new.clients.items m) ≡ is_some (client_in hall.old.clients.items m) }
 {
     match lose_stall(hall, folder, i, j) {
         Lost::Done => {
@@ -112,8 +115,8 @@ fn lose_at<F: Folder>(hall: &mut Hall, i: usize, j: usize, folder: &mut F) -> Lo
     }
 }
 
-// An ephemeral topic goes that has no channel.
-fn forget_empty(hall: &mut Hall, i: usize)
+/// An ephemeral topic that has no channel goes, with its messages; any other stays.
+pub fn forget_empty(hall: &mut Hall, i: usize)
     requires sound { IsSound hall.old }
     requires room { i < length hall.old.rooms.items }
     ensures rest { hall.new ≡ record hall.old { rooms = hall.new.rooms } }

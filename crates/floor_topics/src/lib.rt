@@ -14,7 +14,7 @@ mod publishing;
 
 pub use creating::create;
 pub use deleted::Deleted;
-pub use deleting::{delete_channel, delete_topic};
+pub use deleting::{delete_channel, delete_topic, forget_empty};
 pub use emptying::{empty_channel, empty_topic};
 pub use pausing::{pause, pause_channel};
 pub use published::Published;

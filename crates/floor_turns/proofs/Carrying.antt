@@ -1,7 +1,6 @@
 -- The act of a call is kept aside, carried out and noted.
-use Rattle.std.proofs.Common.{◌≡◌, ◌⊎◌, inl, inr, ◌<◌, ◌≤◌, ℕ, Bool, true, false, if◌then◌else◌, List, [], ◌∷◌, ◌++◌, Option, Some, None, is_some, refl, sym, ap, subst, ◌∙◌, arith}
+use Rattle.std.proofs.Common.{◌≡◌, ◌⊎◌, inl, inr, ◌≤◌, ℕ, Bool, true, false, if◌then◌else◌, [], ◌∷◌, ◌++◌, Option, Some, None, refl, sym, ap, subst, ◌∙◌, arith}
 use Rattle.std.specs.Prelude.{IsTrue, IfSome, MatchBool}
-use Rattle.std.proofs.lemmas.Bool.{false≢true}
 use Rattle.std.proofs.lemmas.List.{append-nil}
 use Rattle.nsq_outside.specs.Causes.{Rose}
 use Rattle.nsq_outside.specs.Files.{Files}
@@ -10,31 +9,29 @@ use Rattle.nsq_outside.specs.declared.journal.End.{End}
 use Rattle.nsq_outside.specs.declared.journal.End.TheVariants.{Done, Faulted, Skip}
 use Rattle.v2_frame.specs.declared.command.Command.{Command}
 use Rattle.v2_frame.specs.declared.frame.Frame.{Frame}
-use Rattle.broker_history.specs.declared.ask.Ask.{Ask}
 use Rattle.broker_history.specs.declared.entry.Act.{Act}
-use Rattle.broker_history.specs.declared.entry.Act.TheVariants.{Began, Did, Refused, Sent, Beat, Idle, Silent, Dropped, Gone, Asked, Listed, Ticked, Stop, Stuck}
+use Rattle.broker_history.specs.declared.entry.Act.TheVariants.{Did, Beat, Idle, Silent, Dropped, Ticked, Stuck}
 use Rattle.broker_history.specs.declared.entry.Entry.{Entry}
-use Rattle.broker_history.specs.State.{Client, State, at_moment, is_lost}
-use Rattle.broker_history.specs.Reply.{did_answered, refusal}
+use Rattle.broker_history.specs.State.{Client, at_moment, is_lost}
+use Rattle.broker_history.specs.Reply.{did_answered}
 use Rattle.broker_history.specs.Entries.{History, faults_of, is_faulted, is_tick}
-use Rattle.broker_history.specs.Legal.{Legal, none}
-use Rattle.broker_history.specs.Step.{IsAllowedAct, Step}
+use Rattle.broker_history.specs.Legal.{none}
+use Rattle.broker_history.specs.Step.{IsAllowedAct}
 use Rattle.desk.specs.declared.call.Call.{Call}
 use Rattle.desk.specs.declared.call.Call.TheVariants as call
 use Rattle.desk.specs.declared.turned.Turned.{Turned}
 use Rattle.desk.specs.declared.turned.Turned.TheVariants as turned
-use Rattle.desk.specs.Answers.{Answers, AnswersCommand, EndsAtStop}
+use Rattle.desk.specs.Answers.{Answers, AnswersCommand, IsShortAnswer}
 use Rattle.negotiation.specs.declared.identity.Identity.{Identity}
 use Rattle.floor_rooms.specs.declared.hall.Hall.{Hall}
 use Rattle.floor_rooms.specs.Sound.{IsSound}
-use Rattle.floor_rooms.specs.Standing.{Carries, HoldsFor}
+use Rattle.floor_rooms.specs.Standing.{Carries}
 use Rattle.floor_rooms.proofs.Dating.{keeps_same as rooms_same, since_kept}
 use Rattle.floor_rooms.proofs.Orders.{holds_at}
-use Rattle.floor_words.specs.Plans.{IsAllowedPlan, IsCallsAct, IsCommandAct, IsNextAct, MayBegin, Serves, number_of}
+use Rattle.floor_words.specs.Plans.{IsAllowedPlan, IsCallsAct, IsNextAct, Serves, number_of}
 use Rattle.floor_words.specs.declared.plan.Plan.TheVariants as plan
-use Rattle.floor_moves.specs.Moves.{RoseBy, Sight, sight}
-use Rattle.turn_laws.specs.Laid.{IsActFor}
-use Rattle.floor_turns.specs.Acting.{ActCarries, ActsTo, Acts, FaultRose, IsNoted, IsPlanned, IsPlannedFor, LeavesClients, SameClients, StaysSet, answer_of, answer_to, conn_of}
+use Rattle.floor_moves.specs.Moves.{RoseBy, sight}
+use Rattle.floor_turns.specs.Acting.{ActCarries, Acts, FaultRose, IsNoted, IsPlanned, IsPlannedFor, LeavesClients, SameClients, StaysSet, answer_of, answer_to, conn_of}
 
 -- the entry of an act
 abbrev pub entry_of : (conn at : ℕ) → Act → Entry
@@ -143,9 +140,9 @@ fault_act act before now rose = rose
 
 module _ (tells_notes tells_files : Bool) (number : ℕ) (c : Call) (h h' : Hall) (n n' : History) (f f' : Files) (k k' : ℕ) (sound : IsSound h) (stays : StaysSet h h') (faults : k ≤ k') where
   -- the act was made
-  pub acts_made : (act : Act) (e : End) (answer : Turned) → IsPlannedFor h number c act → IsNoted e → answer ≡ answer_of h.moment act e → (IsTrue tells_notes → n' ≡ n ++ (entry_of (conn_of act number) h.moment act, e) ∷ [])
+  pub acts_made : (act : Act) (e : End) (answer : Turned) → IsPlannedFor h number c act → IsNoted e → answer ≡ answer_of h.moment act e → IsShortAnswer answer → (IsTrue tells_notes → n' ≡ n ++ (entry_of (conn_of act number) h.moment act, e) ∷ [])
       → (IsTrue tells_files → ActCarries h f h' f' (conn_of act number) act e) → (is_faulted e ≡ true → Rose k k') → LeavesClients act (conn_of act number) h h' → Acts tells_notes tells_files number c answer (sight h n f k) (sight h' n' f' k')
-  acts_made act e answer planned i is noted does cause clients =
+  acts_made act e answer planned i is short noted does cause clients =
       let conn : ℕ = conn_of act number in
       let entry : Entry × End = (entry_of conn h.moment act, e) in
       record {
@@ -154,6 +151,7 @@ module _ (tells_notes tells_files : Bool) (number : ℕ) (c : Call) (h h' : Hall
         held_back = tt;
         sending = inl refl;
         act = record { now = refl; names = refl; answers = subst (λ a. Answers c entry a) (sym is) (answered h number conn h.moment e c act planned.is) };
+        short = short;
         noted = noted;
         leads = λ told s holds may.
             let allowed : IsAllowedAct s h.moment conn act Done = subst (λ m. IsAllowedAct s h.moment m act Done) (sym (conn_is h number c act planned.is)) (planned.stands f s holds may) in
@@ -183,6 +181,7 @@ module _ (tells_notes tells_files : Bool) (number : ℕ) (c : Call) (h h' : Hall
     held_back = tt;
     sending = inl refl;
     act = refl;
+    short = tt;
     noted = noted;
     leads = λ told s holds may.
         let to = rests told s holds in

@@ -1,11 +1,10 @@
 -- What was paid allows the turn's act.
-use Rattle.std.proofs.Common.{◌≡◌, ◌≢◌, ◌⊎◌, inl, inr, ◌<◌, ◌≤◌, ℕ, Bool, true, false, ◌&&◌, ◌||◌, List, [], ◌∷◌, ◌++◌, length, Option, Some, None, is_none, is_some, refl, sym, ap, subst, ◌∙◌, arith}
-use Rattle.std.specs.List.{Contains, list_any}
+use Rattle.std.proofs.Common.{◌≡◌, inl, inr, ◌<◌, ℕ, Bool, true, false, ◌&&◌, List, [], Option, Some, None, is_none, is_some, refl, ap, subst, ◌∙◌, arith}
+use Rattle.std.specs.List.{Contains}
 use Rattle.std.proofs.lemmas.Bool.{false≢true}
 use Rattle.nsq_outside.specs.Files.{Files}
 use Rattle.broker_history.specs.State.{State, Topic}
-use Rattle.broker_history.specs.Entries.{History}
-use Rattle.broker_history.specs.Before.{is_any_due, is_any_taken, most_moves}
+use Rattle.broker_history.specs.Before.{is_any_taken}
 use Rattle.topic_core.proofs.Waiting.{from_settled}
 use Rattle.floor_laws.proofs.Pairs.{pairs_none}
 use Rattle.floor_rooms.specs.declared.room.Room.{Room}
@@ -14,11 +13,9 @@ use Rattle.floor_rooms.specs.Rooms.{topic_name}
 use Rattle.floor_rooms.specs.Sound.{IsRoomSound, IsSound, rests}
 use Rattle.floor_rooms.specs.Standing.{HoldsFor, IsRoomOf}
 use Rattle.floor_rooms.proofs.Quieting.{none_due}
-use Rattle.floor_moves.specs.Moves.{Sight}
 use Rattle.turn_laws.proofs.Allowing.{moves_allow, stuck_allows, stuck_stops}
-use Rattle.floor_turns.specs.declared.paying.Paid.{Paid}
 use Rattle.floor_turns.specs.declared.paying.Paid.TheVariants as paid
-use Rattle.floor_turns.specs.Paying.{PaidMayAct, PaidMayStop, Pays}
+use Rattle.floor_turns.specs.Paying.{PaidMayAct, PaidMayStop}
 
 -- a topic that isn't listed where nothing is has nothing to pay
 unlisted : (name : List ℕ) (listed : Bool) → (listed ≡ true → Contains [] name) → listed ≡ false

@@ -1,26 +1,24 @@
 -- Turns follow turns.
-use Rattle.std.proofs.Common.{◌≡◌, ◌⊎◌, inl, inr, ◌≤◌, ◌<◌, ℕ, ◌+◌, Bool, true, false, List, [], ◌∷◌, ◌++◌, Option, Some, None, refl, sym, ap, subst, ◌∙◌, append_assoc, arith}
-use Rattle.std.specs.Prelude.{IfSome, IsTrue, option_and_then}
+use Rattle.std.proofs.Common.{◌≡◌, ◌⊎◌, inl, inr, ◌≤◌, ℕ, List, [], ◌++◌, Option, Some, None, refl, sym, ap, subst, ◌∙◌, append_assoc, arith}
+use Rattle.std.specs.Prelude.{IfSome, option_and_then}
 use Rattle.std.proofs.lemmas.Bool.{false≢true}
 use Rattle.std.proofs.lemmas.List.{append-nil}
 use Rattle.broker_history.specs.State.{State}
-use Rattle.broker_history.specs.Entries.{History, faults_apart, faults_of}
-use Rattle.broker_history.specs.Legal.{Legal, none}
-use Rattle.broker_history.specs.Moments.{IsTimed, starts}
+use Rattle.broker_history.specs.Legal.{none}
+use Rattle.broker_history.specs.Moments.{starts}
 use Rattle.broker_history.proofs.Histories.{Legal-append}
 use Rattle.floor_rooms.specs.declared.hall.Hall.{Hall}
 use Rattle.floor_rooms.specs.declared.room.Room.{Room}
 use Rattle.floor_rooms.specs.declared.stall.Stall.{Stall}
 use Rattle.floor_rooms.specs.Rooms.{room_in, stall_at}
-use Rattle.floor_rooms.specs.Changes.{OnlyQueueFiles, room_since, stall_since}
-use Rattle.floor_rooms.specs.Kept.{NamesTold}
+use Rattle.floor_rooms.specs.Changes.{room_since, stall_since}
 use Rattle.turn_laws.specs.Laid.{AreTurns}
 use Rattle.turn_laws.specs.Laid as laid
 use Rattle.turn_laws.specs.Laws.{RoseBy}
 use Rattle.turn_laws.proofs.Laying.{timed_join, turns_join}
 use Rattle.turn_laws.proofs.Faulting.{faults_join, stuck_join}
-use Rattle.floor_turns.specs.Scenes.{IsAt, Scene, Stands}
-use Rattle.floor_turns.specs.Leads.{AddsTurns, IsMarkLater, LeavesHall, LedTo, Leads, LeadsFollow, LeadsStay, MarksStand, Times}
+use Rattle.floor_turns.specs.Scenes.{Scene}
+use Rattle.floor_turns.specs.Leads.{AddsTurns, IsMarkLater, LeavesHall, LedTo, LeadsFollow, LeadsStay, MarksStand, Times}
 
 -- marks
 mark_same : (at : ℕ) (since : Option ℕ) → IsMarkLater at since since

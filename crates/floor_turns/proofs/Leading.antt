@@ -1,36 +1,33 @@
 -- One turn leads where turns lead.
-use Rattle.std.proofs.Common.{◌≡◌, ◌⊎◌, inl, inr, ◌≤◌, ◌<◌, ℕ, ◌+◌, ◌^◌, ◌||◌, min, max, Bool, true, false, List, [], ◌∷◌, ◌++◌, Option, Some, None, refl, sym, ap, subst, ◌∙◌, append_assoc, arith, add-one}
+use Rattle.std.proofs.Common.{◌≡◌, ◌⊎◌, inl, inr, ◌≤◌, ℕ, ◌+◌, ◌||◌, min, max, Bool, true, false, List, [], ◌++◌, Option, Some, None, refl, sym, ap, subst, ◌∙◌, arith, add-one}
 use Rattle.std.specs.Prelude.{IfSome, IsTrue}
-use Rattle.std.specs.List.{list_any}
 use Rattle.std.proofs.lemmas.Bool.{false≢true}
 use Rattle.std.proofs.lemmas.List.Folds.{list_any-append}
 use Rattle.broker_history.specs.State.{State, has_begun}
-use Rattle.broker_history.specs.Entries.{History, faults_apart, faults_of, is_began, own}
-use Rattle.broker_history.specs.Legal.{Legal}
-use Rattle.broker_history.specs.Moments.{IsTimed, greatest, moment_of, starts}
+use Rattle.broker_history.specs.Entries.{History, faults_apart, is_began, own}
+use Rattle.broker_history.specs.Moments.{greatest, moment_of, starts}
 use Rattle.broker_history.specs.Step.{last_moment}
 use Rattle.broker_history.proofs.Own.{own-append}
 use Rattle.desk.specs.declared.call.Call.{Call}
 use Rattle.desk.specs.declared.call.Call.TheVariants as call
 use Rattle.desk.specs.declared.turned.Turned.{Turned}
 use Rattle.desk.specs.Calls.{MayCall, has_began}
-use Rattle.floor_rooms.specs.declared.hall.Hall.{Hall}
 use Rattle.floor_rooms.specs.declared.room.Room.{Room}
 use Rattle.floor_rooms.specs.declared.stall.Stall.{Stall}
 use Rattle.floor_rooms.specs.Rooms.{room_in, stall_at}
 use Rattle.floor_rooms.specs.Changes.{KeepsSince, SinceStays, room_since, stall_since}
 use Rattle.floor_rooms.specs.Standing.{HoldsFor}
 use Rattle.floor_words.specs.Plans.{MayBegin}
-use Rattle.floor_moves.specs.Moves.{Sight, sight}
 use Rattle.turn_laws.specs.Laid.{IsLaid}
 use Rattle.turn_laws.specs.Laid as laid
 use Rattle.turn_laws.specs.Laws.{RoseBy}
 use Rattle.turn_laws.proofs.Beginning.{legal_begins}
 use Rattle.turn_laws.proofs.Laying.{laid_timed}
-use Rattle.floor_turns.specs.Turning.{IsStuckStop, StaysOn, TakesTurn}
+use Rattle.floor_turns.specs.Turning.{IsStuckStop}
 use Rattle.floor_turns.specs.Scenes.{IsAt, Scene, Stands}
-use Rattle.floor_turns.specs.Leads.{AddsTurns, IsMarkLater, LeavesHall, LedTo, Leads, MarksStand, Times}
+use Rattle.floor_turns.specs.Leads.{IsMarkLater, LedTo, Leads, MarksStand, Times}
 use Rattle.floor_turns.specs.Turns.{IsTurn, TurnLeads, hall_at, seen, seen_at}
+use Rattle.floor_turns.proofs.Following.{marks_follow, marks_stay}
 
 -- marks of a turn
 mark_of : (early at : ℕ) (old since : Option ℕ) → early ≤ at → SinceStays at old since → IsMarkLater early old since
@@ -42,7 +39,7 @@ if_so : {X : Type 0} (P Q : X → Type 0) (o : Option X) → ((x : X) → P x �
 if_so P Q None f h = tt
 if_so P Q (Some x) f h = f x h
 
-marks_of : (early at : ℕ) (old new : List Room) → early ≤ at → KeepsSince at old new → MarksStand early old new
+pub marks_of : (early at : ℕ) (old new : List Room) → early ≤ at → KeepsSince at old new → MarksStand early old new
 marks_of early at old new le keeps = record {
   topics = λ topic. if_so (λ (r : Room). SinceStays at (room_since old topic) r.since) (λ (r : Room). IsMarkLater early (room_since old topic) r.since) (room_in new topic) (λ r h. mark_of early at (room_since old topic) r.since le h) (keeps.topics topic);
   channels = λ topic channel.
@@ -109,7 +106,7 @@ module _ (tells_notes tells_files tells_readings : Bool) (number : ℕ) (c : Cal
   turn_here : Leads tells_notes tells_files tells_readings number old new
   turn_here = record {
     hall = record { options = t.takes.stays.options; epoch = t.takes.stays.epoch; began_at = t.takes.stays.began_at; later = t.reads.later; names = record { before = t.takes.stays.names.before; same = t.takes.stays.names.same } };
-    marks = marks_of old.hall.moment new.hall.moment old.hall.rooms.items new.hall.rooms.items t.reads.later t.takes.stays.since;
+    marks = marks_follow old.hall.moment new.hall.moment old.hall.rooms.items old.hall.rooms.items new.hall.rooms.items t.reads.later (marks_stay old.hall.moment old.hall.rooms.items) t.takes.stays.marks;
     faults = t.takes.faults;
     files = t.files;
     turns = λ told. record { added = t.takes.added; whole = t.takes.noted told; turns = laid.turn new.hall.moment c answer laid.none t.takes.laid };

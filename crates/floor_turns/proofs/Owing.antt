@@ -1,21 +1,18 @@
 -- One move after another is paid.
-use Rattle.std.proofs.Common.{◌≡◌, ◌≢◌, ◌⊎◌, inl, inr, ◌<◌, ◌≤◌, ◌==◌, ◌&&◌, ◌||◌, ℕ, ◌+◌, zero, suc, List, Bool, true, false, [], ◌∷◌, ◌++◌, length, get_or, Option, Some, None, is_none, is_some, refl, sym, ap, subst, ◌∙◌, append_assoc, length-append, arith}
+use Rattle.std.proofs.Common.{◌≡◌, inl, ◌<◌, ◌≤◌, ◌==◌, ◌&&◌, ◌||◌, ℕ, ◌+◌, zero, suc, List, Bool, true, false, [], ◌∷◌, ◌++◌, length, get_or, Option, Some, None, is_some, refl, sym, ap, subst, ◌∙◌, append_assoc, length-append, arith}
 use Rattle.std.specs.Prelude.{IsSome, IsTrue, slice_get}
-use Rattle.std.specs.List.{AllByRecursion}
 use Rattle.std.proofs.lemmas.Bool.{false≢true}
 use Rattle.std.proofs.lemmas.List.{append-nil}
-use Rattle.nsq_outside.specs.Causes.{Rose}
 use Rattle.nsq_outside.specs.Files.{Files}
 use Rattle.nsq_outside.specs.declared.journal.End.{End}
-use Rattle.nsq_outside.specs.declared.journal.End.TheVariants.{Done}
 use Rattle.broker_history.specs.declared.entry.Act.{Act}
 use Rattle.broker_history.specs.declared.entry.Act.TheVariants.{Stop}
 use Rattle.broker_history.specs.declared.entry.Entry.{Entry}
 use Rattle.broker_history.specs.State.{State}
 use Rattle.broker_history.specs.Entries.{History, faults_of, is_due_move, is_faulted, is_held, is_move, is_stop, is_stuck, is_stuck_topic}
-use Rattle.broker_history.specs.Legal.{Legal, none, more}
+use Rattle.broker_history.specs.Legal.{none, more}
 use Rattle.broker_history.specs.Moments.{IsFree}
-use Rattle.broker_history.specs.Before.{IsPaid, is_moved_at, is_stuck_at}
+use Rattle.broker_history.specs.Before.{IsPaid, is_stuck_at}
 use Rattle.floor_rooms.specs.declared.hall.Hall.{Hall}
 use Rattle.floor_rooms.specs.Standing.{HoldsFor}
 use Rattle.floor_rooms.specs.declared.room.Room.{Room}
@@ -30,10 +27,9 @@ use Rattle.floor_rooms.specs.Sound.{IsSound}
 use Rattle.floor_moves.proofs.Keeping.{keeps_on, keeps_same}
 use Rattle.floor_moves.proofs.Stepping.{rose_none}
 use Rattle.floor_laws.proofs.Counting.{parts}
-use Rattle.turn_laws.specs.Laid.{AreMoved, EndsStuck, IsHeld, IsMoved}
+use Rattle.turn_laws.specs.Laid.{EndsStuck, IsHeld, IsMoved}
 use Rattle.turn_laws.proofs.Laying.{all_both, holds_free, moved_free, sticks_free}
 use Rattle.turn_laws.proofs.Faulting.{faults-append, rise_behind, rise_later, rises_add}
-use Rattle.floor_turns.specs.declared.paying.Paid.{Paid}
 use Rattle.floor_turns.specs.declared.paying.Paid.TheVariants as paid
 use Rattle.floor_turns.specs.declared.paying.Moved.{Moved}
 use Rattle.floor_turns.specs.declared.paying.Moved.TheVariants as moved

@@ -1,31 +1,26 @@
 -- A hall's clients and its Stop are those of its history, turn by turn.
-use Rattle.std.proofs.Common.{◌≡◌, ◌⊎◌, inl, inr, ℕ, ◌==◌, ◌&&◌, ◌||◌, not, Bool, true, false, if◌then◌else◌, List, [], ◌∷◌, ◌++◌, Option, Some, None, is_some, refl, sym, ap, subst, ◌∙◌, append_assoc}
-use Rattle.std.specs.Prelude.{IsTrue}
+use Rattle.std.proofs.Common.{◌≡◌, ◌⊎◌, inl, inr, ℕ, ◌==◌, ◌&&◌, ◌||◌, not, Bool, true, false, if◌then◌else◌, [], ◌∷◌, ◌++◌, is_some, refl, sym, ap, subst, ◌∙◌}
 use Rattle.std.specs.List.{AllByRecursion, list_any}
 use Rattle.std.proofs.lemmas.Bool.{false≢true, eqb-true}
 use Rattle.std.proofs.lemmas.List.{append-nil}
 use Rattle.std.proofs.lemmas.List.Folds.{list_any-append}
 use Rattle.nsq_outside.specs.declared.journal.End.{End}
 use Rattle.broker_history.specs.declared.entry.Act.{Act}
-use Rattle.broker_history.specs.declared.entry.Act.TheVariants.{Began, Gone, Stop, Stuck}
+use Rattle.broker_history.specs.declared.entry.Act.TheVariants.{Began, Gone, Stop}
 use Rattle.broker_history.specs.declared.entry.Entry.{Entry}
 use Rattle.broker_history.specs.Entries.{History, IsCommon, has_stop, is_began, is_common, is_gone, is_own, is_stop, is_tick, own}
 use Rattle.broker_history.proofs.Own.{own-append, common_none}
 use Rattle.broker_history.specs.Talk.{IsRest, IsSending}
 use Rattle.broker_history.specs.Moments.{IsFree}
 use Rattle.v2_frame.specs.declared.command.Command.{Command}
-use Rattle.v2_frame.specs.declared.fault.Fault.{Fault}
-use Rattle.broker_history.specs.declared.ask.Ask.{Ask}
 use Rattle.desk.specs.declared.call.Call.{Call}
 use Rattle.desk.specs.declared.call.Call.TheVariants as call
 use Rattle.desk.specs.declared.turned.Turned.{Turned}
 use Rattle.desk.specs.declared.turned.Turned.TheVariants as turned
 use Rattle.desk.specs.Answers.{Answers, AnswersCommand, AnswersNext}
 use Rattle.desk.specs.Calls.{MayCall, has_began, is_over}
-use Rattle.floor_moves.specs.Moves.{Sight}
 use Rattle.turn_laws.specs.Laid.{AreActsFor, IsActFor}
 use Rattle.turn_laws.proofs.Laying.{all_so, free_common, front_free, front_whole}
-use Rattle.floor_turns.specs.Turning.{TakesTurn}
 use Rattle.floor_turns.specs.Turns.{TurnTies}
 use Rattle.floor_rooms.specs.declared.hall.Hall.{Hall}
 use Rattle.floor_rooms.specs.Rooms.{client_in}

@@ -1,5 +1,5 @@
 -- A turn as a whole: what was paid, and the act behind it.
-use Rattle.std.proofs.Common.{◌≡◌, ◌≢◌, ◌⊎◌, inl, inr, ◌<◌, ◌≤◌, ◌==◌, ◌&&◌, ◌||◌, not, ◌^◌, ◌-◌, ℕ, ◌+◌, Bool, true, false, if◌then◌else◌, List, [], ◌∷◌, ◌++◌, length, Option, Some, None, is_some, refl, sym, ap, subst, ◌∙◌, append_assoc, arith}
+use Rattle.std.proofs.Common.{◌≡◌, ◌≢◌, ◌⊎◌, inl, inr, ◌≤◌, ◌&&◌, ◌||◌, not, ℕ, ◌+◌, Bool, true, false, if◌then◌else◌, List, [], ◌∷◌, ◌++◌, length, is_some, refl, sym, ap, subst, ◌∙◌, append_assoc, arith}
 use Rattle.std.specs.Prelude.{IsTrue}
 use Rattle.std.specs.List.{AllByRecursion, list_any}
 use Rattle.std.proofs.lemmas.Bool.{false≢true}
@@ -11,8 +11,6 @@ use Rattle.nsq_outside.specs.Files.{Files}
 use Rattle.nsq_outside.specs.declared.journal.End.{End}
 use Rattle.nsq_outside.specs.declared.journal.End.TheVariants.{Done, Faulted, Skip}
 use Rattle.v2_frame.specs.declared.command.Command.{Command}
-use Rattle.v2_frame.specs.declared.fault.Fault.{Fault}
-use Rattle.broker_history.specs.declared.ask.Ask.{Ask}
 use Rattle.broker_history.specs.declared.entry.Act.{Act}
 use Rattle.broker_history.specs.declared.entry.Act.TheVariants.{Stop, Stuck}
 use Rattle.broker_history.specs.declared.entry.Entry.{Entry}
@@ -21,7 +19,7 @@ use Rattle.broker_history.specs.Talk.{IsSending, IsRest}
 use Rattle.broker_history.specs.Entries.{History, IsCommon, faults_apart, faults_of, is_faulted, is_stop, own}
 use Rattle.broker_history.specs.Before.{IsPaid, MayAct, MayStop, is_any_due, is_stuck_at, is_topic_due, most_moves}
 use Rattle.broker_history.specs.Legal.{Legal, more, none}
-use Rattle.broker_history.specs.Step.{IsAllowedAct, Step}
+use Rattle.broker_history.specs.Step.{IsAllowedAct}
 use Rattle.broker_history.specs.Moments.{IsFree}
 use Rattle.broker_history.proofs.Histories.{Legal-append}
 use Rattle.broker_history.proofs.Own.{common_none}
@@ -29,31 +27,36 @@ use Rattle.desk.specs.declared.call.Call.{Call}
 use Rattle.desk.specs.declared.call.Call.TheVariants as call
 use Rattle.desk.specs.declared.turned.Turned.{Turned}
 use Rattle.desk.specs.declared.turned.Turned.TheVariants as turned
-use Rattle.desk.specs.Answers.{Answers, EndsAtStop, HasNoAct}
+use Rattle.desk.specs.Answers.{Answers, EndsAtStop, HasNoAct, IsShortAnswer}
 use Rattle.desk.specs.Calls.{has_began}
 use Rattle.floor_rooms.specs.declared.hall.Hall.{Hall}
 use Rattle.floor_rooms.specs.Rooms.{client_in}
 use Rattle.floor_rooms.specs.Sound.{IsRoomSound, IsSound}
 use Rattle.floor_rooms.specs.Changes.{KeepsSince}
-use Rattle.floor_rooms.specs.Kept.{NamesTold, hall_kept}
+use Rattle.floor_rooms.specs.declared.room.Room.{Room}
 use Rattle.floor_rooms.proofs.Holding.{holds_same}
 use Rattle.floor_rooms.proofs.Sounding.{Lowers, room_lowered}
-use Rattle.floor_rooms.proofs.Dating.{keeps_same as rooms_same, since_kept, since_kept_then}
+use Rattle.floor_rooms.proofs.Dating.{since_kept, since_kept_then}
 use Rattle.floor_rooms.proofs.Naming.{names_kept, names_then}
 use Rattle.floor_rooms.specs.Standing.{HoldsFor}
 use Rattle.floor_words.specs.Plans.{MayBegin, Serves, is_strange}
-use Rattle.floor_moves.specs.Moves.{Keeps, RoseBy, Sight, sight}
-use Rattle.turn_laws.specs.Laid.{AreActsFor, AreHeldBack, AreMoved, AreStuck, EndsStuck, IsActFor, IsHeld, IsLaid, IsMoved}
+use Rattle.floor_moves.specs.Moves.{Keeps, RoseBy, Sight}
+use Rattle.turn_laws.specs.Laid.{AreActsFor, AreHeldBack, AreMoved, AreStuck, EndsStuck, IsLaid, IsMoved}
 use Rattle.turn_laws.proofs.Allowing.{moves_allow}
 use Rattle.turn_laws.proofs.Beginning.{legal_begins}
 use Rattle.turn_laws.proofs.Faulting.{apart-cons, faults-append, no_fault, one_where}
 use Rattle.turn_laws.proofs.Laying.{all_both, all_so, free_common, moved_free, sticks_free}
 use Rattle.floor_turns.specs.declared.paying.Paid.{Paid}
 use Rattle.floor_turns.specs.declared.paying.Paid.TheVariants as paid
-use Rattle.floor_turns.specs.Paying.{AreFew, CountsStuck, Extends, IsPayment, MayActBehind, Pays}
-use Rattle.floor_turns.specs.Acting.{Acts, ActsBy, ClientsBy, FaultRose, FaultsRose, Passes, SameClients, StaysSet, Steps, there_after}
-use Rattle.floor_turns.specs.Turning.{IsAnswered, IsServed, IsStopped, IsStuckStop, IsTurnedAway, PaysFor, StaysOn, TakesTurn, ends_at_stop, is_enough, is_stopping, is_stuck_stop, most_for, stops_stuck}
+use Rattle.floor_turns.specs.Paying.{CountsStuck, IsPayment, Pays}
+use Rattle.floor_turns.specs.Acting.{Acts, ActsBy, ClientsBy, FaultRose, FaultsRose, Steps, there_after}
+use Rattle.floor_turns.specs.Leads.{MarksStand}
+use Rattle.floor_saving.specs.Timely.{IsTimely}
+use Rattle.floor_turns.specs.Timely.{TicksTimely}
+use Rattle.floor_turns.specs.Turning.{IsAnswered, IsStuckStop, PaysFor, Settles, StaysOn, TakesTurn, ends_at_stop, is_enough, is_stopping, is_stuck_stop, most_for, stops_stuck}
 use Rattle.floor_turns.proofs.Clearing.{paid_may_act, paid_may_stop}
+use Rattle.floor_turns.proofs.Following.{marks_follow, marks_stay}
+use Rattle.floor_turns.proofs.Leading.{marks_of}
 use Rattle.floor_moves.proofs.Stepping.{rose_none}
 
 -- behind a Stop nothing is due
@@ -213,13 +216,13 @@ module _ (at number : ℕ) (c : Call) (answer : Turned) where
       paid_for false is = record { moved = inr (subst (λ x. MayAct front between x) (sym by.now) (may is)); paid = inl (no_stop c answer e is by.answers) }
   steps_legal (e ∷ f ∷ h) front s between u by legal may stop step = absurd by
 
-rose_then : (acts : History) (a b c : ℕ) → a ≤ b → FaultsRose b c acts → FaultsRose a c acts
-rose_then [] a b c le h = tt
-rose_then (e ∷ acts) a b c le h = λ faulted. fault_then e.0.act (h faulted)
+rose_then : (acts : History) (a b c d : ℕ) → a ≤ b → c ≤ d → FaultsRose b c acts → FaultsRose a d acts
+rose_then [] a b c d le on h = tt
+rose_then (e ∷ acts) a b c d le on h = λ faulted. fault_then e.0.act (h faulted)
   where
-    fault_then : (act : Act) → FaultRose b c act → FaultRose a c act
+    fault_then : (act : Act) → FaultRose b c act → FaultRose a d act
     fault_then (Stuck topic channel) h = tt
-    fault_then act h = omega (arith, le, h)
+    fault_then act h = omega (arith, le, on, h)
 
 -- which clients there are, behind a payment that leaves them
 clients_then : (acts : History) (a b c : Hall) → b.clients ≡ a.clients → b.stopped ≡ a.stopped → ClientsBy acts b c → ClientsBy acts a c
@@ -232,24 +235,62 @@ clients_then (e ∷ acts) a b c clients stopped h = record {
   stopped = h.stopped ∙ ap (λ x. x || is_stop e.0.act) stopped;
 }
 
--- a hall that is marked as stuck
-clients_marked : (acts : History) (a b c : Hall) → c ≡ record b { stuck = c.stuck } → ClientsBy acts a b → ClientsBy acts a c
-clients_marked [] a b c same h = record { there = λ m. ap (λ (x : Hall). is_some (client_in x.clients.items m)) same ∙ h.there m; stopped = ap (λ (x : Hall). x.stopped) same ∙ h.stopped }
-clients_marked (e ∷ acts) a b c same h = record { there = λ m. ap (λ (x : Hall). is_some (client_in x.clients.items m)) same ∙ h.there m; stopped = ap (λ (x : Hall). x.stopped) same ∙ h.stopped }
+-- and in a hall that settled
+clients_settled : (acts : History) (a b c : Hall) → c.clients ≡ b.clients → c.stopped ≡ b.stopped → ClientsBy acts a b → ClientsBy acts a c
+clients_settled [] a b c clients stopped h = record { there = λ m. ap (λ (xs : Vec Client). is_some (client_in xs.items m)) clients ∙ h.there m; stopped = stopped ∙ h.stopped }
+clients_settled (e ∷ acts) a b c clients stopped h = record { there = λ m. ap (λ (xs : Vec Client). is_some (client_in xs.items m)) clients ∙ h.there m; stopped = stopped ∙ h.stopped }
 
 pub serves_then : (a b : Hall) (number : ℕ) (c : Call) → b.clients ≡ a.clients → b.stopped ≡ a.stopped → Serves a number c → Serves b number c
 serves_then a b number c clients stopped s = record { fits = ap (λ (xs : Vec Client). is_strange c (is_some (client_in xs.items number))) clients ∙ s.fits; running = λ ends. stopped ∙ s.running ends }
 
 -- nothing was done
-stays_on : (h : Hall) → StaysOn h h
+pub stays_on : (h : Hall) → StaysOn h h
 stays_on h = record {
   options = refl;
   epoch = refl;
   began_at = refl;
   moment = refl;
   names = record { before = λ e. e; same = λ e. refl };
-  since = since_kept h.moment h.rooms.items h.rooms.items (rooms_same h.moment h.rooms.items);
+  marks = marks_stay h.moment h.rooms.items;
 }
+
+-- what stays, and then stays, stays
+pub stays_then : (a b c : Hall) → StaysOn a b → StaysOn b c → StaysOn a c
+stays_then a b c p q =
+    let moment : b.moment ≡ a.moment = p.moment in
+    record {
+      options = q.options ∙ p.options;
+      epoch = q.epoch ∙ p.epoch;
+      began_at = q.began_at ∙ p.began_at;
+      moment = q.moment ∙ p.moment;
+      names = names_then a b c p.names q.names;
+      marks = marks_follow a.moment b.moment a.rooms.items b.rooms.items c.rooms.items (omega (arith, moment)) p.marks q.marks;
+    }
+
+-- marks of what an act leaves
+marks_kept : (at : ℕ) (old new : List Room) → KeepsSince at old new → MarksStand at old new
+marks_kept at old new keeps = marks_of at at old new (omega arith) keeps
+
+-- what was answered without an act is short, and no tick that is answered Quiet
+none_short : (c : Call) (answer : Turned) → HasNoAct c answer → IsShortAnswer answer
+none_short c (turned.Reply frame closing) h = absurd h
+none_short c (turned.Send frame) h = absurd h
+none_short c answer h = tt
+
+none_timely : (c : Call) (answer : Turned) (h : Hall) (before now : ℕ) → HasNoAct c answer → TicksTimely c answer h before now
+none_timely call.Tick turned.Quiet h before now quiet = absurd quiet
+none_timely call.Tick answer h before now quiet = tt
+none_timely c answer h before now quiet = tt
+
+-- a tick whose turn began with fewer faults
+timely_from : (c : Call) (answer : Turned) (h : Hall) (early before now : ℕ) → early ≤ before → TicksTimely c answer h before now → TicksTimely c answer h early now
+timely_from call.Tick turned.Quiet h early before now le t = timely_or t
+  where
+    timely_or : IsTimely h ⊎ Rose before now → IsTimely h ⊎ Rose early now
+    timely_or (inl timely) = inl timely
+    timely_or (inr rose) = inr (omega (arith, le, rose))
+timely_from call.Tick answer h early before now le t = tt
+timely_from c answer h early before now le t = tt
 
 pub turn_none : (tells_notes tells_files : Bool) (number : ℕ) (c : Call) (answer : Turned) (old : Sight) → HasNoAct c answer → IsAnswered old.hall old.hall.moment number c answer [] [] → TakesTurn tells_notes tells_files number c answer old old
 turn_none tells_notes tells_files number c answer old quiet why = record {
@@ -263,6 +304,8 @@ turn_none tells_notes tells_files number c answer old quiet why = record {
   faults = omega arith;
   clients = record { there = λ m. refl; stopped = refl };
   stays = stays_on old.hall;
+  short = none_short c answer quiet;
+  timely = none_timely c answer old.hall old.faults old.faults quiet;
   stuck = λ yet. inl yet;
 }
 
@@ -418,8 +461,8 @@ module _ (tells_notes tells_files : Bool) (number : ℕ) (c : Call) (stopping : 
   own_none : own number paid_added ≡ []
   own_none = common_none number paid_added (all_so IsFree IsCommon paid_added free_common (payment_free at (most_for stopping) paid_added split))
 
-  module _ (answer : Turned) (new last : Sight) (acts : Acts tells_notes tells_files number c answer mid new) (enough : is_enough ended stopping ≡ true) (marked : last.hall ≡ record (new.hall) { stuck = last.hall.stuck }) (noted : last.noted ≡ new.noted) (files : last.files ≡ new.files)
-      (faults : last.faults ≡ new.faults) (stuck : last.hall.stuck ≡ is_stuck_stop new.hall.stuck ended answer) (holds_marked : (f : Files) (t : State) → HoldsFor new.hall f t → HoldsFor last.hall f t) where
+  module _ (answer : Turned) (new last : Sight) (acts : Acts tells_notes tells_files number c answer mid new) (enough : is_enough ended stopping ≡ true) (settles : Settles tells_files new last) (stuck : last.hall.stuck ≡ is_stuck_stop new.hall.stuck ended answer)
+      (timely : TicksTimely c answer last.hall new.faults last.faults) where
     back : AreHeldBack at acts.held
     back = subst (λ m. AreHeldBack m acts.held) keeps.moment acts.held_back
 
@@ -437,7 +480,7 @@ module _ (tells_notes tells_files : Bool) (number : ℕ) (c : Call) (stopping : 
           q.to,
           subst (λ x. Legal s x q.to) (append_assoc paid_added acts.held acts.acts)
               (steps_legal at number c answer acts.acts (paid_added ++ acts.held) s q.between q.to by front (λ other. act) (λ is. (act, stop_here is acts.sending t p.2 q.between q.same)) q.steps),
-          subst (λ f. HoldsFor last.hall f q.to) (sym files) (holds_marked new.files q.to q.holds),
+          settles.holds told q.to q.holds,
         )
       where
         stop_here : is_stopping c ≡ true → (acts.held ≡ []) ⊎ (c ≡ call.Next) → (t : State) → HoldsFor mid.hall mid.files t → (between : State) → (acts.held ≡ [] → between ≡ t) → MayStop (paid_added ++ acts.held) between at
@@ -455,22 +498,18 @@ module _ (tells_notes tells_files : Bool) (number : ℕ) (c : Call) (stopping : 
         let whole = faults-append paid_added (acts.held ++ acts.acts) in
         let behind = faults-append acts.held acts.acts in
         let none = held_counts at acts.held back in
-        omega (arith, first, second, whole, behind, none, faults)
+        let third = settles.faults in
+        omega (arith, first, second, whole, behind, none, third)
 
-    stays_here : StaysOn old.hall last.hall
-    stays_here = record {
-      options = ap (λ (x : Hall). x.options) marked ∙ acts.stays.options ∙ keeps.options;
-      epoch = ap (λ (x : Hall). x.epoch) marked ∙ acts.stays.epoch ∙ keeps.epoch;
-      began_at = ap (λ (x : Hall). x.began_at) marked ∙ acts.stays.began_at ∙ keeps.began_at;
-      moment = ap (λ (x : Hall). x.moment) marked ∙ acts.stays.moment ∙ keeps.moment;
-      names =
-          let named : NamesTold old.hall new.hall = names_then old.hall mid.hall new.hall (names_kept at old.hall mid.hall keeps.unsaved_names keeps.rooms) acts.stays.names in
-          record {
-            before = λ e. named.before (sym (ap (λ (x : Hall). x.unsaved_names) marked) ∙ e);
-            same = λ e. ap hall_kept marked ∙ named.same (sym (ap (λ (x : Hall). x.unsaved_names) marked) ∙ e);
-          };
-      since =
-          subst (λ xs. KeepsSince at old.hall.rooms.items xs) (sym (ap (λ (x : Hall). x.rooms.items) marked))
+    stays_acted : StaysOn old.hall new.hall
+    stays_acted = record {
+      options = acts.stays.options ∙ keeps.options;
+      epoch = acts.stays.epoch ∙ keeps.epoch;
+      began_at = acts.stays.began_at ∙ keeps.began_at;
+      moment = acts.stays.moment ∙ keeps.moment;
+      names = names_then old.hall mid.hall new.hall (names_kept at old.hall mid.hall keeps.unsaved_names keeps.rooms) acts.stays.names;
+      marks =
+          marks_kept at old.hall.rooms.items new.hall.rooms.items
           (since_kept_then at old.hall.rooms.items mid.hall.rooms.items new.hall.rooms.items keeps.rooms (subst (λ m. KeepsSince m mid.hall.rooms.items new.hall.rooms.items) keeps.moment acts.stays.since));
     }
 
@@ -506,7 +545,8 @@ module _ (tells_notes tells_files : Bool) (number : ℕ) (c : Call) (stopping : 
           rose = λ told s holds.
               let first : Rose old.faults mid.faults = (subst (λ d. CountsStuck tells_files old mid d) both.0 pays.stuck) told s holds in
               let second = acts.faults in
-              omega (arith, first, second, faults);
+              let third = settles.faults in
+              omega (arith, first, second, third);
         }
 
     stuck_here : last.hall.stuck ≡ true → (old.hall.stuck ≡ true) ⊎ IsStuckStop tells_files c (paid_added ++ (acts.held ++ acts.acts)) old last
@@ -522,13 +562,15 @@ module _ (tells_notes tells_files : Bool) (number : ℕ) (c : Call) (stopping : 
       added = paid_added ++ (acts.held ++ acts.acts);
       laid = laid_of answer acts.held acts.acts back acts.sending (acts_for at number c answer acts.acts by);
       why = inr (inr (record { serves = serves; act = by }));
-      noted = λ told. noted ∙ acts.noted told ∙ ap (λ x. x ++ (acts.held ++ acts.acts)) (pays.extends.noted told) ∙ append_assoc old.noted paid_added (acts.held ++ acts.acts);
+      noted = λ told. settles.noted ∙ acts.noted told ∙ ap (λ x. x ++ (acts.held ++ acts.acts)) (pays.extends.noted told) ∙ append_assoc old.noted paid_added (acts.held ++ acts.acts);
       legal = legal_here;
       rose = λ told s holds may. rose_here told s holds;
-      caused = subst (λ k. FaultsRose old.faults k acts.acts) (sym faults) (rose_then acts.acts old.faults mid.faults new.faults pays.extends.faults acts.caused);
-      faults = let first = pays.extends.faults in let second = acts.faults in omega (arith, first, second, faults);
-      clients = clients_marked acts.acts old.hall new.hall last.hall marked (clients_then acts.acts old.hall mid.hall new.hall keeps.clients keeps.stopped acts.clients);
-      stays = stays_here;
+      caused = rose_then acts.acts old.faults mid.faults new.faults last.faults pays.extends.faults settles.faults acts.caused;
+      faults = let first = pays.extends.faults in let second = acts.faults in let third = settles.faults in omega (arith, first, second, third);
+      clients = clients_settled acts.acts old.hall new.hall last.hall settles.clients settles.stopped (clients_then acts.acts old.hall mid.hall new.hall keeps.clients keeps.stopped acts.clients);
+      stays = stays_then old.hall new.hall last.hall stays_acted settles.stays;
+      short = acts.short;
+      timely = timely_from c answer last.hall old.faults new.faults last.faults (let first = pays.extends.faults in let second = acts.faults in omega (arith, first, second)) timely;
       stuck = stuck_here;
     }
 
@@ -551,7 +593,9 @@ module _ (tells_notes tells_files : Bool) (number : ℕ) (c : Call) (stopping : 
       began_at = keeps.began_at;
       moment = keeps.moment;
       names = names_kept at old.hall mid.hall keeps.unsaved_names keeps.rooms;
-      since = since_kept at old.hall.rooms.items mid.hall.rooms.items keeps.rooms;
+      marks = marks_kept at old.hall.rooms.items mid.hall.rooms.items (since_kept at old.hall.rooms.items mid.hall.rooms.items keeps.rooms);
     };
+    short = tt;
+    timely = none_timely c turned.Memory mid.hall old.faults mid.faults tt;
     stuck = λ yet. inl (sym keeps.stuck ∙ yet);
   }

@@ -1,5 +1,5 @@
 -- What a call makes of a hall behind what was paid: what is held back where something is to be sent, and one act.
-use Rattle.std.specs.Prelude.{◌≡◌, ◌⊎◌, ◌≤◌, ◌<◌, ◌||◌, ◌&&◌, ◌==◌, not, ℕ, Bool, true, false, if◌then◌else◌, IsTrue, [], ◌∷◌, ◌++◌, Option, Some, None, is_some}
+use Rattle.std.specs.Prelude.{◌≡◌, ◌⊎◌, ◌≤◌, ◌||◌, ◌&&◌, ◌==◌, not, ℕ, Bool, true, false, if◌then◌else◌, IsTrue, [], ◌∷◌, ◌++◌, Option, Some, None, is_some}
 use Rattle.nsq_outside.specs.Causes.{Rose}
 use Rattle.nsq_outside.specs.Files.{Files}
 use Rattle.nsq_outside.specs.declared.journal.End.{End}
@@ -7,7 +7,6 @@ use Rattle.nsq_outside.specs.declared.journal.End.TheVariants as end
 use Rattle.v2_frame.specs.declared.frame.Frame.{Frame}
 use Rattle.broker_history.specs.declared.entry.Act.{Act}
 use Rattle.broker_history.specs.declared.entry.Act.TheVariants as act
-use Rattle.broker_history.specs.declared.entry.Entry.{Entry}
 use Rattle.broker_history.specs.State.{State}
 use Rattle.broker_history.specs.Reply.{beat_frame, closes, did_answered, message_frame}
 use Rattle.broker_history.specs.Entries.{History, faults_of, is_faulted, is_stop, is_tick}
@@ -18,14 +17,14 @@ use Rattle.desk.specs.declared.call.Call.{Call}
 use Rattle.desk.specs.declared.call.Call.TheVariants as call
 use Rattle.desk.specs.declared.turned.Turned.{Turned}
 use Rattle.desk.specs.declared.turned.Turned.TheVariants as turned
-use Rattle.desk.specs.Answers.{said_at}
+use Rattle.desk.specs.Answers.{IsShortAnswer, said_at}
 use Rattle.desk.specs.Calls.{CanCall}
 use Rattle.negotiation.specs.declared.identity.Identity.{Identity}
 use Rattle.floor_rooms.specs.declared.hall.Hall.{Hall}
 use Rattle.floor_rooms.specs.Rooms.{client_in}
 use Rattle.floor_rooms.specs.Changes.{KeepsSince}
 use Rattle.floor_rooms.specs.Kept.{NamesTold}
-use Rattle.floor_rooms.specs.Standing.{Carries, HoldsFor}
+use Rattle.floor_rooms.specs.Standing.{HoldsFor}
 use Rattle.floor_words.specs.Plans.{IsAllowedPlan, IsCallsAct, IsShortAct, KnowsAct, MayBegin, Serves, number_of}
 use Rattle.floor_words.specs.declared.plan.Plan.TheVariants as plan
 use Rattle.floor_moves.specs.Moves.{Sight, RoseBy}
@@ -153,6 +152,7 @@ pub record Acts (tells_notes tells_files : Bool) (number : ℕ) (c : Call) (answ
   pub held_back : AreHeldBack old.hall.moment held
   pub sending : (held ≡ []) ⊎ (c ≡ call.Next)
   pub act : ActsBy old.hall.moment number c answer acts
+  pub short : IsShortAnswer answer
   pub noted : IsTrue tells_notes → new.noted ≡ old.noted ++ (held ++ acts)
   pub leads : IsTrue tells_files → (s : State) → HoldsFor old.hall old.files s → MayBegin s number c → Passes old.hall.moment held acts s new
   pub rose : IsTrue tells_files → (s : State) → HoldsFor old.hall old.files s → RoseBy (faults_of acts) old.faults new.faults

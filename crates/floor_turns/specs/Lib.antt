@@ -4,3 +4,4 @@ pub mod Turning
 pub mod Scenes
 pub mod Leads
 pub mod Turns
+pub mod Timely

@@ -9,19 +9,20 @@ use Rattle.desk.specs.declared.call.Call.{Call}
 use Rattle.desk.specs.declared.call.Call.TheVariants as call
 use Rattle.desk.specs.declared.turned.Turned.{Turned}
 use Rattle.desk.specs.declared.turned.Turned.TheVariants as turned
-use Rattle.desk.specs.Answers.{EndsAtStop}
+use Rattle.desk.specs.Answers.{EndsAtStop, IsShortAnswer}
 use Rattle.floor_rooms.specs.declared.hall.Hall.{Hall}
 use Rattle.floor_rooms.specs.Rooms.{client_in}
-use Rattle.floor_rooms.specs.Changes.{KeepsSince, OnlyQueueFiles}
 use Rattle.floor_rooms.specs.Kept.{NamesTold}
 use Rattle.floor_rooms.specs.Standing.{HoldsFor}
 use Rattle.floor_words.specs.Plans.{MayBegin, Serves, is_strange}
-use Rattle.floor_moves.specs.Moves.{Keeps, RoseBy, Sight}
+use Rattle.floor_moves.specs.Moves.{RoseBy, Sight}
 use Rattle.turn_laws.specs.Laid.{IsLaid}
 use Rattle.floor_turns.specs.declared.paying.Paid.{Paid}
 use Rattle.floor_turns.specs.declared.paying.Paid.TheVariants as paid
 use Rattle.floor_turns.specs.Paying.{CountsStuck, Extends, IsPayment, MayActBehind}
 use Rattle.floor_turns.specs.Acting.{ActsBy, ClientsBy, FaultsRose}
+use Rattle.floor_turns.specs.Leads.{MarksStand}
+use Rattle.floor_turns.specs.Timely.{TicksTimely}
 
 -- whether a call is for a Stop, and whether a Stop keeps it from all else
 abbrev pub is_stopping : Call → Bool
@@ -81,7 +82,16 @@ pub record StaysOn (old new : Hall) : Type 0 where
   pub began_at : new.began_at ≡ old.began_at
   pub moment : new.moment ≡ old.moment
   pub names : NamesTold old new
-  pub since : KeepsSince old.moment old.rooms.items new.rooms.items
+  pub marks : MarksStand old.moment old.rooms.items new.rooms.items
+
+-- what a turn leaves behind its act: nothing is noted, and the hall stands for the same states
+pub record Settles (tells_files : Bool) (old new : Sight) : Type 0 where
+  pub clients : new.hall.clients ≡ old.hall.clients
+  pub stopped : new.hall.stopped ≡ old.hall.stopped
+  pub stays : StaysOn old.hall new.hall
+  pub noted : new.noted ≡ old.noted
+  pub holds : IsTrue tells_files → (s : State) → HoldsFor old.hall old.files s → HoldsFor new.hall new.files s
+  pub faults : old.faults ≤ new.faults
 
 -- one turn of a number at the hall's moment, for its call, and its answer
 pub record TakesTurn (tells_notes tells_files : Bool) (number : ℕ) (c : Call) (answer : Turned) (old new : Sight) : Type 0 where
@@ -95,6 +105,8 @@ pub record TakesTurn (tells_notes tells_files : Bool) (number : ℕ) (c : Call) 
   pub faults : old.faults ≤ new.faults
   pub clients : ClientsBy laid.acts old.hall new.hall
   pub stays : StaysOn old.hall new.hall
+  pub short : IsShortAnswer answer
+  pub timely : TicksTimely c answer new.hall old.faults new.faults
   pub stuck : new.hall.stuck ≡ true → (old.hall.stuck ≡ true) ⊎ IsStuckStop tells_files c added old new
 
 -- whether enough was paid for an act: memory wasn't wanting, and all for a Stop unless a disk fault kept it off

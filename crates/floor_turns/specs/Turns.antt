@@ -1,19 +1,12 @@
 -- What one turn of a floor does: it reads the clock once, and takes its turn at that moment.
-use Rattle.std.specs.Prelude.{◌≡◌, ◌⊎◌, ◌≤◌, ◌<◌, ℕ, ◌+◌, ◌^◌, min, max, Bool, All, IsTrue, Option, IfSome}
-use Rattle.nsq_outside.specs.Causes.{Rose}
+use Rattle.std.specs.Prelude.{◌≡◌, ◌≤◌, ℕ, ◌+◌, ◌^◌, min, max, Bool, IsTrue}
 use Rattle.nsq_outside.specs.Files.{Files}
-use Rattle.disk_queue.specs.Seen.{Seen as Queue}
-use Rattle.backlog.specs.Seen.{QueueIsSaved}
 use Rattle.broker_history.specs.State.{State}
 use Rattle.broker_history.specs.Entries.{own}
 use Rattle.desk.specs.declared.call.Call.{Call}
-use Rattle.desk.specs.declared.call.Call.TheVariants as call
 use Rattle.desk.specs.declared.turned.Turned.{Turned}
-use Rattle.desk.specs.declared.turned.Turned.TheVariants as turned
 use Rattle.desk.specs.Calls.{MayCall}
 use Rattle.floor_rooms.specs.declared.hall.Hall.{Hall}
-use Rattle.floor_rooms.specs.declared.room.Room.{Room}
-use Rattle.floor_rooms.specs.declared.stall.Stall.{Stall}
 use Rattle.floor_rooms.specs.Changes.{OnlyQueueFiles}
 use Rattle.floor_rooms.specs.Standing.{HoldsFor}
 use Rattle.floor_moves.specs.Moves.{Sight, sight}
@@ -54,20 +47,3 @@ TurnLeads = (tells_notes tells_files tells_readings : Bool) (number : ℕ) (c : 
 -- and leaves a hall whose clients and whose Stop are those of its history
 abbrev pub TurnTies : Type 0
 TurnTies = (tells_notes tells_files : Bool) (number : ℕ) (c : Call) (answer : Turned) (old new : Sight) → IsTied old.hall old.noted → MayCall number (own number old.noted) c → TakesTurn tells_notes tells_files number c answer old new → IsTrue tells_notes → IsTied new.hall new.noted
-
--- a queue is saved, or was marked as unsaved less than the sync timeout ago
-abbrev pub IsQueueTimely : (at timeout : ℕ) → (since : Option ℕ) → Option Queue → Type 0
-IsQueueTimely at timeout since queue = QueueIsSaved queue ⊎ IfSome since (λ moment. at < moment + timeout)
-
-pub record IsRoomTimely (at timeout : ℕ) (r : Room) : Type 0 where
-  pub queue : IsQueueTimely at timeout r.since r.queue.backlog.queue
-  pub stalls : All (λ (s : Stall). IsQueueTimely at timeout s.since s.channel.backlog.queue) r.stalls.items
-
--- so it is of each queue of a hall
-abbrev pub IsTimely : Hall → Type 0
-IsTimely h = All (IsRoomTimely h.moment h.options.sync_timeout) h.rooms.items
-
--- what a tick leaves that is answered Quiet, unless the folder's count of faults rose
-abbrev pub TicksTimely : Call → Turned → (old new : Scene) → Type 0
-TicksTimely call.Tick turned.Quiet old new = IsTimely new.hall ⊎ Rose old.faults new.faults
-TicksTimely c answer old new = Unit {0}

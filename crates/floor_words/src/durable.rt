@@ -3,7 +3,6 @@ ghost use Rattle.nsq_base.specs.Name.{is_ephemeral};
 ghost use Rattle.nsq_outside.specs.Files.{Files};
 ghost use Rattle.broker_history.specs.State.{State};
 ghost use Rattle.broker_history.specs.Left.{kept_names};
-ghost use Rattle.floor_rooms.specs.Sound.{IsSound};
 ghost use Rattle.floor_rooms.specs.Standing.{HoldsFor};
 ghost use Rattle.floor_rooms.specs.Kept.{hall_kept, room_kept, stall_kept};
 
@@ -50,7 +49,6 @@ impl Model for KeptTopic {
 
 /// The durable topics and channels with their pauses, in byte order. Want of memory is the only error.
 pub fn kept(hall: &Hall, alloc: Global) -> Result<Vec<KeptTopic>, Memory>
-    requires { IsSound hall.now }
     ensures value { IfOk result (λ kept. kept.items ≡ hall_kept hall.now) }
     ensures told { IfOk result (λ kept. (files : Files) (s : State) → HoldsFor hall.now files s → kept.items ≡ (kept_names s).topics) }
 {

@@ -1,6 +1,7 @@
 //! Conversations that are broken off at each place: by each answer that ends one, by a stop, by reads and writes that fail.
-use crate::served::{Runs, Setting, Wanted, first, frame, frames, goes, plain, spread, spread_all};
+use crate::served::{Setting, Wanted, first, frame, frames, goes, plain};
 use nsq_base::Memory;
+use session_scripts::{Runs, spread, spread_all};
 use std::alloc::Global;
 use std::sync::Wait;
 use std::test::Fail;

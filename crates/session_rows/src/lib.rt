@@ -13,8 +13,4 @@ mod noted;
 #[cfg(test)]
 mod rows;
 #[cfg(test)]
-mod scripted;
-#[cfg(test)]
 mod served;
-#[cfg(test)]
-mod trace;

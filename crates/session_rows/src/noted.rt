@@ -1,7 +1,7 @@
 //! A connection that notes its reads and writes.
-use crate::trace::Trace;
 use nsq_fakes::MemConn;
 use nsq_outside::{Conn, Faults, Read, Sink, Source, Write, get, put};
+use session_scripts::Trace;
 use std::sync::Wait;
 
 /// A connection in memory that keeps a letter for each call, `r` for a read and `w` for a write, and takes only so many bytes at

@@ -1,6 +1,7 @@
 //! Connections from their first byte to their end: how each ends, what is written, and the order of turns, reads and writes.
-use crate::served::{Runs, Setting, Wanted, frames, goes, plain, spread, spread_all};
+use crate::served::{Setting, Wanted, frames, goes, plain};
 use nsq_base::Memory;
+use session_scripts::{Runs, spread, spread_all};
 use std::alloc::Global;
 use std::sync::Wait;
 use std::test::Fail;

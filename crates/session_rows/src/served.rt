@@ -1,18 +1,12 @@
 //! A connection that is served from its first byte to its end at a floor that answers by a script, and what is seen of it.
 use crate::noted::NotedConn;
-use crate::scripted::ScriptedFloor;
-use crate::trace::Trace;
-use desk::FloorDesk;
-use nsq_base::{Body, Memory};
-use nsq_fakes::{MemConn, Piece};
-use nsq_outside::{Conn, Faults};
+use nsq_base::Memory;
+use nsq_fakes::MemConn;
+use nsq_outside::Faults;
+use session_scripts::{Trace, floor_of, pieces_of, serve_by};
 use std::alloc::Global;
 use std::sync::Wait;
-use v2_frame::Limits;
-use v2_session::{Ended, serve_v2};
-
-/// Parts of a text, and how often each comes.
-pub(crate) type Runs = &'static [(&'static [u8], usize)];
+use v2_session::Ended;
 
 /// A connection that is to be served, and what it is served by.
 #[derive(Drop)]
@@ -71,29 +65,6 @@ const HEARTBEAT: &[u8] = b"\0\0\0\x0f\0\0\0\0_heartbeat_";
 /// A message but for its body, one byte.
 const MESSAGE: &[u8] = b"\0\0\0\x1f\0\0\0\x0212345678aaiiiiiiiiiiiiiiii";
 
-/// The limits of each connection.
-const LIMITS: Limits = Limits { msg: 5, body: 100 };
-
-/// The bytes of a text.
-pub(crate) fn spread(alloc: Global, runs: &[(&'static [u8], usize)]) -> Result<Vec<u8>, Memory> {
-    let mut bytes = Vec::new(alloc);
-    for (part, count) in runs {
-        for _ in 0..*count {
-            bytes.extend_from_slice(part)?;
-        }
-    }
-    Ok(bytes)
-}
-
-/// The bytes of each text.
-pub(crate) fn spread_all(alloc: Global, texts: &[Runs]) -> Result<Vec<Vec<u8>>, Memory> {
-    let mut all = Vec::new(alloc);
-    for text in texts {
-        all.push(spread(alloc, text)?)?;
-    }
-    Ok(all)
-}
-
 /// The first ones of these bytes, at most so many.
 pub(crate) fn first(bytes: &[u8], count: usize) -> &[u8] {
     bytes.split_at(count.min(bytes.len())).0
@@ -130,48 +101,6 @@ pub(crate) fn frames(alloc: Global, letters: &[u8]) -> Result<Vec<u8>, Memory> {
         }
     }
     Ok(all)
-}
-
-/// What a connection in memory reads.
-pub(crate) fn pieces_of(alloc: Global, pieces: &[Vec<u8>]) -> Result<Vec<Piece>, Memory> {
-    let mut all = Vec::new(alloc);
-    for piece in pieces {
-        if piece.is_empty() {
-            all.push(Piece::Nothing)?;
-        } else {
-            all.push(Piece::Bytes(Body::copy(alloc, piece)?))?;
-        }
-    }
-    Ok(all)
-}
-
-/// Serves a connection of number 7 at a floor that answers by this script, and gives how it ended and how often memory was wanting
-/// for its Gone.
-pub(crate) fn serve_by<R: Wait, K: Conn>(
-    rt: &R,
-    alloc: Global,
-    conn: &mut K,
-    floor: &mut ScriptedFloor<'_>,
-) -> (Ended, u64) {
-    let mut desk = FloorDesk {
-        floor,
-        number: 7,
-        wanted: 0,
-    };
-    let ended = serve_v2(rt, alloc, 7, conn, &mut desk, LIMITS);
-    (ended, desk.wanted)
-}
-
-/// A floor that answers by this script, and from the turn of this number on has stopped.
-pub(crate) fn floor_of(script: Vec<u8>, stops: usize, trace: &Trace) -> ScriptedFloor<'_> {
-    ScriptedFloor {
-        script,
-        made: 0,
-        stops,
-        number: 0,
-        command: None,
-        trace,
-    }
 }
 
 /// Serves a connection, and keeps at most so many letters of its calls.

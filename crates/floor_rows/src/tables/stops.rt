@@ -71,8 +71,8 @@ static ROWS: [Row; 4] = [
             0 stop => stopping | took t i0 x for c; copied t c i0 x, faulted 0; stop
             0 stop => stopping
             1 gone => ended | gone
-            floor flush => fault
         ",
+        flush: Some(false),
         ..PLAIN
     },
 ];

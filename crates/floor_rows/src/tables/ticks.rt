@@ -50,7 +50,6 @@ static ROWS: [Row; 5] = [
             1 PUB t x => OK | did
             at 2s
             0 tick => quiet | ticked
-            floor flush => done
             0 tick => quiet | ticked
         ",
         leaves: &[("t.diskqueue.meta.dat", Some(b"1\n0,0\n0,31\n"))],

@@ -1,6 +1,6 @@
-use Rattle.std.proofs.Common.{◌≡◌, false, length, get_or, refl, sym, ap, ◌∙◌, arith}
+use Rattle.std.proofs.Common.{◌≡◌, false, length, get_or, is_some, refl, sym, ap, ◌∙◌, arith}
 use Rattle.floor_rooms.specs.declared.hall.Hall.{Hall}
-use Rattle.floor_rooms.specs.Rooms.{topic_name}
+use Rattle.floor_rooms.specs.Rooms.{client_in, topic_name}
 use Rattle.nsq_base.specs.Name.{is_ephemeral}
 use Rattle.floor_rooms.proofs.Filing.{only_then}
 use Rattle.floor_rooms.proofs.Forming.{some_at}
@@ -138,3 +138,18 @@ returns-in-Fault-drop_room-clause-cause g c =
     let before = (c.in-Done.ensures.loses d).faults in
     let rose = c.in-Fault-drop_room.ensures.cause in
     omega (arith, before, rose)
+
+pub returns-in-Fault-clause-numbers : goal.returns-in-Fault-clause-numbers
+returns-in-Fault-clause-numbers g c =
+    let d = (some_at c.args.hall.now.rooms.items c.in-Some.i c.in-Some.ensures.stands.in_range).0 in
+    (c.in-Fault.ensures.loses d).numbers
+
+pub returns-in-Done-drop_room-clause-numbers : goal.returns-in-Done-drop_room-clause-numbers
+returns-in-Done-drop_room-clause-numbers g c =
+    let d = (some_at c.args.hall.now.rooms.items c.in-Some.i c.in-Some.ensures.stands.in_range).0 in
+    λ m. ap (λ (h : Hall). is_some (client_in h.clients.items m)) c.drop_room.ensures.rest ∙ (c.in-Done.ensures.loses d).numbers m
+
+pub returns-in-Fault-drop_room-clause-numbers : goal.returns-in-Fault-drop_room-clause-numbers
+returns-in-Fault-drop_room-clause-numbers g c =
+    let d = (some_at c.args.hall.now.rooms.items c.in-Some.i c.in-Some.ensures.stands.in_range).0 in
+    λ m. ap (λ (h : Hall). is_some (client_in h.clients.items m)) c.drop_room.ensures.rest ∙ (c.in-Done.ensures.loses d).numbers m

@@ -1,8 +1,10 @@
 use Rattle.std.proofs.Common.{◌≡◌, ◌+◌, suc, length, get_or, refl, subst, arith}
 use Rattle.broker_history.specs.State.{State}
-use Rattle.floor_rooms.specs.Rooms.{channel_name}
+use Rattle.floor_changes.specs.declared.lost.Lost.TheVariants.{Done, Fault}
+use Rattle.floor_rooms.specs.Rooms.{channel_name, topic_name}
 use Rattle.floor_rooms.specs.Standing.{HoldsFor}
 use Rattle.floor_rooms.proofs.Forming.{some_at}
+use Rattle.floor_topics.proofs.Numbers.{numbers_lost}
 use Rattle.floor_topics.proofs.Steps.{all_lost, all_read, all_rooms, ended_at, first_left, loses_ended, loses_next, loses_none, more_left}
 use Rattle.floor_topics.proofs.deleting.lose_all.Goals as goal
 
@@ -26,7 +28,7 @@ loop-count-preserved g c =
     let one : c.loop-count.count + 1 ≡ suc c.loop-count.count = omega arith in
     record {
       on =
-          loses_next g.F.Folder.tells_files c.args.i c.loop-count.count c.args.hall.now c.loop-count.hall c.lose_stall.new.hall (g.F.Folder.files c.args.folder.now) (g.F.Folder.files c.loop-count.folder) (g.F.Folder.files c.lose_stall.new.folder) (g.F.Folder.folder_faults c.args.folder.now) (g.F.Folder.folder_faults c.loop-count.folder) (g.F.Folder.folder_faults c.lose_stall.new.folder) c.loop-count.invariant.on c.lose_stall.ensures.rest c.lose_stall.ensures.sound c.lose_stall.ensures.names c.lose_stall.ensures.since c.lose_stall.ensures.files c.lose_stall.ensures.faults s0 (channel_name (get_or (get_or c.loop-count.hall.rooms.items c.args.i d).stalls.items 0 s0)) (more_left g.F.Folder.tells_files c.args.i c.loop-count.count c.args.hall.now c.loop-count.hall (g.F.Folder.files c.args.folder.now) (g.F.Folder.files c.loop-count.folder) (g.F.Folder.folder_faults c.args.folder.now) (g.F.Folder.folder_faults c.loop-count.folder) c.loop-count.invariant.on c.len-all.result c.loop-count.invariant.all c.loop-count-test.true) refl (c.in-Done.ensures.rooms d s0) (c.loop-count.count + 1) one
+          loses_next g.F.Folder.tells_files c.args.i c.loop-count.count c.args.hall.now c.loop-count.hall c.lose_stall.new.hall (g.F.Folder.files c.args.folder.now) (g.F.Folder.files c.loop-count.folder) (g.F.Folder.files c.lose_stall.new.folder) (g.F.Folder.folder_faults c.args.folder.now) (g.F.Folder.folder_faults c.loop-count.folder) (g.F.Folder.folder_faults c.lose_stall.new.folder) c.loop-count.invariant.on c.lose_stall.ensures.rest c.lose_stall.ensures.sound c.lose_stall.ensures.names c.lose_stall.ensures.since c.lose_stall.ensures.files c.lose_stall.ensures.faults (numbers_lost Done (topic_name (get_or c.loop-count.hall.rooms.items c.args.i d)) (channel_name (get_or (get_or c.loop-count.hall.rooms.items c.args.i d).stalls.items 0 s0)) c.loop-count.hall.clients.items c.lose_stall.new.hall.clients.items (c.in-Done.ensures.clients d s0)) s0 (channel_name (get_or (get_or c.loop-count.hall.rooms.items c.args.i d).stalls.items 0 s0)) (more_left g.F.Folder.tells_files c.args.i c.loop-count.count c.args.hall.now c.loop-count.hall (g.F.Folder.files c.args.folder.now) (g.F.Folder.files c.loop-count.folder) (g.F.Folder.folder_faults c.args.folder.now) (g.F.Folder.folder_faults c.loop-count.folder) c.loop-count.invariant.on c.len-all.result c.loop-count.invariant.all c.loop-count-test.true) refl (c.in-Done.ensures.rooms d s0) (c.loop-count.count + 1) one
           (λ told s holds. c.in-Done.ensures.stands told d s0 s holds);
       all = c.loop-count.invariant.all;
     }
@@ -37,7 +39,7 @@ returns-in-Fault-clause-loses g c =
     let d = c.loop-count.invariant.on.rooms.after in
     let s0 = (some_at (get_or c.loop-count.hall.rooms.items c.args.i d).stalls.items 0 (left d)).0 in
     ended_at g.F.Folder.tells_files c.args.i c.loop-count.count c.args.hall.now c.loop-count.hall c.lose_stall.new.hall (g.F.Folder.files c.args.folder.now) (g.F.Folder.files c.loop-count.folder) (g.F.Folder.files c.lose_stall.new.folder) (g.F.Folder.folder_faults c.args.folder.now) (g.F.Folder.folder_faults c.loop-count.folder) (g.F.Folder.folder_faults c.lose_stall.new.folder) c.loop-count.invariant.on
-    (loses_ended g.F.Folder.tells_files c.args.i c.loop-count.count c.args.hall.now c.loop-count.hall c.lose_stall.new.hall (g.F.Folder.files c.args.folder.now) (g.F.Folder.files c.loop-count.folder) (g.F.Folder.files c.lose_stall.new.folder) (g.F.Folder.folder_faults c.args.folder.now) (g.F.Folder.folder_faults c.loop-count.folder) (g.F.Folder.folder_faults c.lose_stall.new.folder) c.loop-count.invariant.on c.lose_stall.ensures.rest c.lose_stall.ensures.sound c.lose_stall.ensures.names c.lose_stall.ensures.since c.lose_stall.ensures.files c.lose_stall.ensures.faults (c.in-Fault.ensures.rooms d s0) (λ told s holds. let r = c.in-Fault.ensures.stands told d s0 s holds in subst (λ (u : State). HoldsFor c.lose_stall.new.hall (g.F.Folder.files c.lose_stall.new.folder) u) r.1 r.2))
+    (loses_ended g.F.Folder.tells_files c.args.i c.loop-count.count c.args.hall.now c.loop-count.hall c.lose_stall.new.hall (g.F.Folder.files c.args.folder.now) (g.F.Folder.files c.loop-count.folder) (g.F.Folder.files c.lose_stall.new.folder) (g.F.Folder.folder_faults c.args.folder.now) (g.F.Folder.folder_faults c.loop-count.folder) (g.F.Folder.folder_faults c.lose_stall.new.folder) c.loop-count.invariant.on c.lose_stall.ensures.rest c.lose_stall.ensures.sound c.lose_stall.ensures.names c.lose_stall.ensures.since c.lose_stall.ensures.files c.lose_stall.ensures.faults (numbers_lost Fault (topic_name (get_or c.loop-count.hall.rooms.items c.args.i d)) (channel_name (get_or (get_or c.loop-count.hall.rooms.items c.args.i d).stalls.items 0 s0)) c.loop-count.hall.clients.items c.lose_stall.new.hall.clients.items (c.in-Fault.ensures.clients d s0)) (c.in-Fault.ensures.rooms d s0) (λ told s holds. let r = c.in-Fault.ensures.stands told d s0 s holds in subst (λ (u : State). HoldsFor c.lose_stall.new.hall (g.F.Folder.files c.lose_stall.new.folder) u) r.1 r.2))
 
 pub returns-clause-loses : goal.returns-clause-loses
 returns-clause-loses g c = all_lost g.F.Folder.tells_files c.args.i c.loop-count.count c.args.hall.now c.loop-count.hall (g.F.Folder.files c.args.folder.now) (g.F.Folder.files c.loop-count.folder) (g.F.Folder.folder_faults c.args.folder.now) (g.F.Folder.folder_faults c.loop-count.folder) c.loop-count.invariant.on c.len-all.result c.loop-count.invariant.all c.loop-count.auto.count-end c.loop-count-test.false

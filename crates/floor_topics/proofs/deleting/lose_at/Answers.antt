@@ -1,9 +1,11 @@
-use Rattle.std.proofs.Common.{get_or, ap}
+use Rattle.std.proofs.Common.{get_or, is_some, ap, ◌∙◌}
 use Rattle.floor_rooms.specs.declared.hall.Hall.{Hall}
-use Rattle.floor_rooms.specs.Rooms.{channel_name, topic_name}
+use Rattle.floor_changes.specs.declared.lost.Lost.TheVariants.{Done, Fault}
+use Rattle.floor_rooms.specs.Rooms.{channel_name, client_in, topic_name}
 use Rattle.floor_rooms.proofs.Forming.{some_at}
 use Rattle.floor_rooms.proofs.Naming.{names_then}
 use Rattle.floor_topics.proofs.Losing.{lost_room, lost_since, lost_told, lost_within}
+use Rattle.floor_topics.proofs.Numbers.{numbers_lost}
 use Rattle.floor_topics.proofs.deleting.lose_at.Goals as goal
 
 pub forget_empty-requires-clause-room : goal.forget_empty-requires-clause-room
@@ -26,3 +28,15 @@ pub returns-in-Done-clause-since : goal.returns-in-Done-clause-since
 returns-in-Done-clause-since g c =
     let d = (some_at c.args.hall.now.rooms.items c.args.i c.requires.room).0 in
     lost_since c.args.hall.now.moment c.lose_stall.new.hall.moment (get_or c.lose_stall.new.hall.rooms.items c.args.i d) c.args.hall.now.rooms.items c.lose_stall.new.hall.rooms.items c.forget_empty.new.hall.rooms.items (ap (λ (h : Hall). h.moment) c.lose_stall.ensures.rest) (c.forget_empty.ensures.rooms d) c.lose_stall.ensures.since c.forget_empty.ensures.since
+
+pub returns-in-Done-clause-numbers : goal.returns-in-Done-clause-numbers
+returns-in-Done-clause-numbers g c =
+    let d = (some_at c.args.hall.now.rooms.items c.args.i c.requires.room).0 in
+    let x = (some_at (get_or c.args.hall.now.rooms.items c.args.i d).stalls.items c.args.j (c.requires.stall d)).0 in
+    λ m. ap (λ (h : Hall). is_some (client_in h.clients.items m)) c.forget_empty.ensures.rest ∙ numbers_lost Done (topic_name (get_or c.args.hall.now.rooms.items c.args.i d)) (channel_name (get_or (get_or c.args.hall.now.rooms.items c.args.i d).stalls.items c.args.j x)) c.args.hall.now.clients.items c.lose_stall.new.hall.clients.items (c.in-Done.ensures.clients d x) m
+
+pub returns-in-Fault-clause-numbers : goal.returns-in-Fault-clause-numbers
+returns-in-Fault-clause-numbers g c =
+    let d = (some_at c.args.hall.now.rooms.items c.args.i c.requires.room).0 in
+    let x = (some_at (get_or c.args.hall.now.rooms.items c.args.i d).stalls.items c.args.j (c.requires.stall d)).0 in
+    numbers_lost Fault (topic_name (get_or c.args.hall.now.rooms.items c.args.i d)) (channel_name (get_or (get_or c.args.hall.now.rooms.items c.args.i d).stalls.items c.args.j x)) c.args.hall.now.clients.items c.lose_stall.new.hall.clients.items (c.in-Fault.ensures.clients d x)

@@ -1,5 +1,3 @@
-use Rattle.std.proofs.Common.{ap}
-use Rattle.floor_rooms.specs.declared.hall.Hall.{Hall}
 use Rattle.broker_history.specs.declared.entry.Act.TheVariants.{Copied}
 use Rattle.floor_moves.proofs.Keeping.{keeps_on}
 use Rattle.floor_payments.specs.Taking.{taking}

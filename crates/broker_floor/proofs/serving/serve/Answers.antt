@@ -1,0 +1,14 @@
+use Rattle.std.proofs.Common.{refl, sym, ap, subst, ◌∙◌, arith}
+use Rattle.std.proofs.lemmas.List.{append-nil}
+use Rattle.desk.specs.declared.call.Call.{Call}
+use Rattle.desk.specs.declared.call.Call.TheVariants as call
+use Rattle.desk.specs.Answers.{EndsAtStop}
+use Rattle.floor_moves.specs.Moves.{sight}
+use Rattle.floor_turns.specs.Acting.{Acts}
+use Rattle.floor_turns.proofs.Carrying.{acts_none, stays_same}
+use Rattle.broker_floor.proofs.serving.serve.Goals as goal
+
+pub returns-in-Err-clause-acts : goal.returns-in-Err-clause-acts
+returns-in-Err-clause-acts g c =
+    acts_none g.J.Journal.tells_notes g.F.Folder.tells_files c.args.number c.args.call c.args.hall.now c.args.hall.now (g.J.Journal.notes c.args.journal.now) (g.J.Journal.notes c.args.journal.now) (g.F.Folder.files c.args.folder.now) (g.F.Folder.files c.args.folder.now) (g.F.Folder.folder_faults c.args.folder.now) (g.F.Folder.folder_faults c.args.folder.now)
+    c.requires.sound (stays_same c.args.hall.now) (omega arith) (λ told. sym (append-nil (g.J.Journal.notes c.args.journal.now))) (λ told s holds. (s, refl, holds)) (record { there = λ m. refl; stopped = refl })

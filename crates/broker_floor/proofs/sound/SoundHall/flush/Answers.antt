@@ -1,0 +1,15 @@
+use Rattle.std.proofs.Common.{◌∙◌, ◌<◌, ◌^◌, ap, subst, sym}
+use Rattle.std.proofs.lemmas.Bool.{false≢true}
+use Rattle.floor_rooms.specs.declared.hall.Hall.{Hall}
+use Rattle.floor_rooms.specs.Standing.{HoldsFor}
+use Rattle.broker_floor.specs.Held.{Held}
+use Rattle.broker_floor.proofs.sound.SoundHall.flush.Goals as goal
+
+pub flush_all-flushed-requires-clause-sound : goal.flush_all-flushed-requires-clause-sound
+flush_all-flushed-requires-clause-sound g c = c.self.invariant.sound (ap (λ (x : Held). x.flushed) c.self.view_is ∙ c.requires.unflushed)
+
+pub returns-clause-left : goal.returns-clause-left
+returns-clause-left g c = λ told s holds. c.flush_all-flushed.ensures.left told s (subst (λ (x : Held). HoldsFor x.hall (g.F.Folder.files c.args.folder.now) s) (sym c.self.view_is) holds)
+
+pub invariant_of-self : goal.invariant_of-self
+invariant_of-self g c = record { sound = λ still. absurd (false≢true (sym still)); epoch = subst (λ e. e < 2 ^ 24) (sym (ap (λ (x : Hall). x.epoch) c.flush_all-flushed.ensures.rest)) c.self.invariant.epoch }

@@ -1,0 +1,68 @@
+ghost use Rattle.std.specs.Prelude.{◌≡◌, ◌<◌, ◌≤◌, IsTrue, false, true};
+ghost use Rattle.broker_history.specs.State.{State};
+ghost use Rattle.floor_rooms.specs.Changes.{OnlyQueueFiles};
+ghost use Rattle.floor_rooms.specs.Kept.{hall_kept};
+ghost use Rattle.floor_rooms.specs.Standing.{HoldsFor};
+ghost use Rattle.floor_saving.specs.Flushing.{LeavesWhere};
+ghost use Rattle.broker_floor.specs.Ending.{FloorFlushFails, flushed_at};
+
+use crate::Floor;
+use backlog::Flushed;
+use broker_history::Entry;
+use nsq_base::Steps;
+use nsq_outside::{Clock, Folder, Journal};
+use std::marker::Brand;
+use std::sync::ledger::{Blank, Ledger};
+
+impl<F: Folder, C: Clock, J: Journal<Entry>> Floor<F, C, J> {
+    /// Writes all that durable topics and their durable channels have in memory behind what is on disk, and saves: after Done an opening finds in each of
+    /// their queues all that was left of it. A fault in one queue keeps none of the others from being written. Where a disk fault kept the Stop's turn from
+    /// paying all that was owed the answer is Fault, whatever was written. It takes no memory. After it no turn is taken: nothing is claimed of the states
+    /// that the floor stands for. Requires that it wasn't flushed before.
+    pub fn flush(&mut self) -> Flushed
+        requires { self.old.held.flushed ≡ false }
+        ensures left { IsTrue F.tells_files → (s : State) → HoldsFor self.old.held.hall (F.files self.old.folder) s → LeavesWhere result s (F.files self.new.folder) }
+        ensures kept { hall_kept self.new.held.hall ≡ hall_kept self.old.held.hall }
+        ensures held { self.new.held ≡ record { hall = record (self.old.held.hall) { rooms = self.new.held.hall.rooms }; flushed = true } }
+        ensures clock { self.new.clock ≡ self.old.clock }
+        ensures journal { self.new.journal ≡ self.old.journal }
+        ensures files { IsTrue F.tells_files → OnlyQueueFiles (F.files self.old.folder) (F.files self.new.folder) }
+        ensures faults { F.folder_faults self.old.folder ≤ F.folder_faults self.new.folder }
+        ensures cause { FloorFlushFails self.old.held.hall.stuck (F.folder_faults self.old.folder) (F.folder_faults self.new.folder) result }
+    {
+        self.flush_in::<Brand>(Blank::new(1))
+    }
+
+    // The same, with steps of heaps counted in a ledger.
+    fn flush_in<L: Ledger>(&mut self, blank: Blank) -> Flushed
+        requires name { blank.name ≡ L.name }
+        requires parts { blank.parts ≡ L.parts }
+        requires some { 0 < L.parts }
+        requires unflushed { self.old.held.flushed ≡ false }
+        ensures left { IsTrue F.tells_files → (s : State) → HoldsFor self.old.held.hall (F.files self.old.folder) s → LeavesWhere result s (F.files self.new.folder) }
+        ensures kept { hall_kept self.new.held.hall ≡ hall_kept self.old.held.hall }
+        ensures held { self.new.held ≡ record { hall = record (self.old.held.hall) { rooms = self.new.held.hall.rooms }; flushed = true } }
+        ensures clock { self.new.clock ≡ self.old.clock }
+        ensures journal { self.new.journal ≡ self.old.journal }
+        ensures files { IsTrue F.tells_files → OnlyQueueFiles (F.files self.old.folder) (F.files self.new.folder) }
+        ensures faults { F.folder_faults self.old.folder ≤ F.folder_faults self.new.folder }
+        ensures cause { FloorFlushFails self.old.held.hall.stuck (F.folder_faults self.old.folder) (F.folder_faults self.new.folder) result }
+    {
+        let mut steps: Steps<L> = Steps::new(blank);
+        let stuck = self.held.get().stuck;
+        let flushed = self
+            .held
+            .flush(&mut self.folder, &mut self.scratch, &mut steps);
+        flushed_at(stuck, flushed)
+    }
+}
+
+// The answer of a flush by that of its queues.
+fn flushed_at(stuck: bool, flushed: Flushed) -> Flushed
+    ensures { result ≡ flushed_at stuck flushed }
+{
+    if stuck {
+        return Flushed::Fault;
+    }
+    flushed
+}

@@ -1,0 +1,13 @@
+//! One turn for all: the daemon's floor of topics, channels and clients with its folder, its clock and its journal.
+//!
+//! `floor_turns`' `specs/Turns.antt` says what one turn does, its `specs/Leads.antt` what turns of a number lead to.
+#![tactic(auto)]
+
+mod adding;
+mod ending;
+mod floor;
+mod serving;
+mod sound;
+mod turning;
+
+pub use floor::Floor;

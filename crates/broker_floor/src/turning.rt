@@ -1,0 +1,89 @@
+ghost use Rattle.std.specs.Prelude.{◌≡◌, ◌≢◌, ◌<◌, IsTrue, false};
+ghost use Rattle.broker_history.specs.Entries.{own};
+ghost use Rattle.desk.specs.Answers.{Adds, Grows, IsAnswerTo, IsShortAnswer, StopsSeen};
+ghost use Rattle.desk.specs.Calls.{CanCall, MayCall};
+ghost use Rattle.desk.specs.declared.turned.Turned.TheVariants.{Strange};
+ghost use Rattle.floor_turns.specs.Scenes.{scene};
+ghost use Rattle.floor_turns.specs.Timely.{TicksTimely};
+ghost use Rattle.floor_turns.specs.Turns.{IsTurn};
+
+use crate::Floor;
+use broker_history::Entry;
+use desk::{Call, Turned, Turner};
+use nsq_base::Steps;
+use nsq_outside::{Clock, Folder, Journal};
+use std::alloc::Global;
+use std::marker::Brand;
+use std::sync::ledger::{Blank, Ledger};
+
+impl<F: Folder, C: Clock, J: Journal<Entry>> Floor<F, C, J> {
+    /// Takes a turn of this number: it reads the clock once, moves what is due, 64 moves at most unless a Stop is called for, and makes the act of the call,
+    /// which its answer tells; after a tick that is answered Quiet it saves the queues whose saving is due. A call that doesn't fit its number is Strange, and
+    /// one that a Stop keeps off is answered Stopping: neither moves anything. After Memory the moves that were made stand, and no act was made. Requires that
+    /// the floor wasn't flushed.
+    pub fn turn(&mut self, alloc: Global, number: u64, call: Call) -> Turned
+        requires unflushed { self.old.held.flushed ≡ false }
+        requires can { CanCall call }
+        requires may { IsTrue J.tells_notes → MayCall number (own number (J.notes self.old.journal)) call }
+        ensures unflushed { self.new.held.flushed ≡ false }
+        ensures turn { IsTurn J.tells_notes F.tells_files C.tells_readings number call result (scene self.old.held.hall (J.notes self.old.journal) (F.files self.old.folder) (F.folder_faults self.old.folder) (C.coming self.old.clock)) (scene self.new.held.hall (J.notes self.new.journal) (F.files self.new.folder) (F.folder_faults self.new.folder) (C.coming self.new.clock)) }
+        ensures timely { TicksTimely call result self.new.held.hall (F.folder_faults self.old.folder) (F.folder_faults self.new.folder) }
+        ensures grows { IsTrue J.tells_notes → Grows (J.notes self.old.journal) (J.notes self.new.journal) }
+        ensures adds { IsTrue J.tells_notes → Adds number (own number (J.notes self.old.journal)) (own number (J.notes self.new.journal)) call result }
+        ensures stopping { IsTrue J.tells_notes → StopsSeen (J.notes self.new.journal) result }
+        ensures told { IsTrue J.tells_notes → result ≢ Strange }
+        ensures answer { IsAnswerTo call result }
+        ensures short { IsShortAnswer result }
+    {
+        self.turn_in::<Brand>(Blank::new(1), alloc, number, call)
+    }
+
+    // The same, with steps of heaps counted in a ledger.
+    fn turn_in<L: Ledger>(&mut self, blank: Blank, alloc: Global, number: u64, call: Call) -> Turned
+        requires name { blank.name ≡ L.name }
+        requires parts { blank.parts ≡ L.parts }
+        requires some { 0 < L.parts }
+        requires unflushed { self.old.held.flushed ≡ false }
+        requires can { CanCall call }
+        requires may { IsTrue J.tells_notes → MayCall number (own number (J.notes self.old.journal)) call }
+        ensures unflushed { self.new.held.flushed ≡ false }
+        ensures turn { IsTurn J.tells_notes F.tells_files C.tells_readings number call result (scene self.old.held.hall (J.notes self.old.journal) (F.files self.old.folder) (F.folder_faults self.old.folder) (C.coming self.old.clock)) (scene self.new.held.hall (J.notes self.new.journal) (F.files self.new.folder) (F.folder_faults self.new.folder) (C.coming self.new.clock)) }
+    {
+        let mut steps: Steps<L> = Steps::new(blank);
+        let reading = self.clock.now();
+        self.held.pass(reading);
+        self.held.turn(
+            alloc,
+            number,
+            call,
+            &mut self.folder,
+            &mut self.scratch,
+            &mut self.journal,
+            &mut steps,
+        )
+    }
+}
+
+impl<F: Folder, C: Clock, J: Journal<Entry>> Turner for Floor<F, C, J> {
+    ghost use Rattle.std.proofs.Common.{◌≡◌, ◌∙◌, refl};
+    ghost use Rattle.floor_turns.specs.Leads.{Leads};
+    ghost use Rattle.floor_turns.specs.Scenes.{scene};
+    ghost use Rattle.floor_turns.proofs.Following.{leads_follow, leads_stay};
+
+    ghost tells = { J.tells_notes };
+
+    ghost notes = { λ f. J.notes f.journal };
+
+    ghost leads = { λ n a b. (b.held.flushed ≡ a.held.flushed) × Leads J.tells_notes F.tells_files C.tells_readings n (scene a.held.hall (J.notes a.journal) (F.files a.folder) (F.folder_faults a.folder) (C.coming a.clock)) (scene b.held.hall (J.notes b.journal) (F.files b.folder) (F.folder_faults b.folder) (C.coming b.clock)) };
+
+    ghost stays = { λ n f. (refl, leads_stay _ _ _ _ _) };
+
+    ghost goes_on = { λ n a b c p q. (q.0 ∙ p.0, leads_follow _ _ _ _ _ _ _ p.1 q.1) };
+
+    fn take_turn(&mut self, alloc: Global, conn: u64, call: Call) -> Turned {
+        if self.held.is_flushed() {
+            return Turned::Memory;
+        }
+        self.turn(alloc, conn, call)
+    }
+}

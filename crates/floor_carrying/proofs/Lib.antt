@@ -1,0 +1,8 @@
+pub mod Asking
+pub mod Bodies
+pub mod Closing
+pub mod Commanding
+pub mod Conditions
+pub mod Planning
+pub mod Returning
+pub mod Staying

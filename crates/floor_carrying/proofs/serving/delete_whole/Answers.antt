@@ -1,0 +1,14 @@
+use Rattle.std.proofs.Common.{None, refl, ap}
+use Rattle.broker_history.specs.declared.ask.Ask.TheVariants as ask
+use Rattle.floor_rooms.specs.declared.hall.Hall.{Hall}
+use Rattle.floor_carrying.proofs.Asking.{ask_done, ask_fault, first_breaks}
+use Rattle.floor_carrying.proofs.Staying.{around_by}
+use Rattle.floor_carrying.proofs.serving.delete_whole.Goals as goal
+
+pub returns-in-Done : goal.returns-in-Done
+returns-in-Done g c = ask_done g.F.Folder.tells_files (ask.Delete c.args.topic None) c.args.hall.now c.delete_topic.new.hall (g.F.Folder.files c.args.folder.now) (g.F.Folder.files c.delete_topic.new.folder) (g.F.Folder.folder_faults c.args.folder.now) (g.F.Folder.folder_faults c.delete_topic.new.folder) (around_by g.F.Folder.tells_files c.args.hall.now c.delete_topic.new.hall _ (g.F.Folder.files c.args.folder.now) (g.F.Folder.files c.delete_topic.new.folder) (g.F.Folder.folder_faults c.args.folder.now) (g.F.Folder.folder_faults c.delete_topic.new.folder) c.delete_topic.ensures.rest refl refl refl refl refl c.delete_topic.ensures.names c.delete_topic.ensures.since c.delete_topic.ensures.sound c.delete_topic.ensures.files c.delete_topic.ensures.faults) (record { there = c.delete_topic.ensures.numbers; stopped = ap (λ (h : Hall). h.stopped) c.delete_topic.ensures.rest }) c.in-Done.ensures.told
+
+pub returns-in-Fault : goal.returns-in-Fault
+returns-in-Fault g c =
+    ask_fault g.F.Folder.tells_files (ask.Delete c.args.topic None) c.args.hall.now c.delete_topic.new.hall (g.F.Folder.files c.args.folder.now) (g.F.Folder.files c.delete_topic.new.folder) (g.F.Folder.folder_faults c.args.folder.now) (g.F.Folder.folder_faults c.delete_topic.new.folder) (around_by g.F.Folder.tells_files c.args.hall.now c.delete_topic.new.hall _ (g.F.Folder.files c.args.folder.now) (g.F.Folder.files c.delete_topic.new.folder) (g.F.Folder.folder_faults c.args.folder.now) (g.F.Folder.folder_faults c.delete_topic.new.folder) c.delete_topic.ensures.rest refl refl refl refl refl c.delete_topic.ensures.names c.delete_topic.ensures.since c.delete_topic.ensures.sound c.delete_topic.ensures.files c.delete_topic.ensures.faults) (record { there = c.delete_topic.ensures.numbers; stopped = ap (λ (h : Hall). h.stopped) c.delete_topic.ensures.rest }) c.in-Fault.count
+    (first_breaks g.F.Folder.tells_files c.args.topic c.in-Fault.count c.args.hall.now c.delete_topic.new.hall (g.F.Folder.files c.args.folder.now) (g.F.Folder.files c.delete_topic.new.folder) (g.F.Folder.folder_faults c.args.folder.now) (g.F.Folder.folder_faults c.delete_topic.new.folder) c.in-Fault.ensures.told c.in-Fault.ensures.cause)

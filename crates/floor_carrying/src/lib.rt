@@ -1,0 +1,20 @@
+//! The act of a call, carried out: it is kept aside, carried out by what clients, topics and channels of a hall are changed by, and noted with its end.
+//!
+//! `specs/Carrying.antt` says what carrying an act out makes of a hall, `specs/Commands.antt` and `specs/Asks.antt` what a command and what is asked do.
+#![tactic(auto)]
+
+mod acting;
+mod acts;
+mod asked;
+mod carried;
+mod commanded;
+mod commands;
+mod flights;
+mod publishing;
+mod replied;
+mod served;
+mod serving;
+mod spans;
+
+pub use acting::{carry_out, make_act};
+pub use carried::Carried;

@@ -1,0 +1,4 @@
+pub mod Serving
+pub mod Answering
+pub mod Sent
+pub mod Rounds

@@ -1,0 +1,44 @@
+use Rattle.std.proofs.Common.{◌∙◌, ℕ, inr, take, sym, ap, subst}
+use Rattle.nsq_base.specs.Name.{IsName}
+use Rattle.floor_rooms.specs.Rooms.{stall_in}
+use Rattle.floor_opening.specs.Opened.{HasOpened, RefusesChannel}
+use Rattle.floor_opening.proofs.Parting.{handed_on}
+use Rattle.floor_opening.proofs.Joining.{next_apart, next_one, next_stays, opened_one, taken_next}
+use Rattle.floor_opening.proofs.channels.open_channels.Goals as goal
+
+pub returns-in_err-stall-clause-refused : goal.returns-in_err-stall-clause-refused
+returns-in_err-stall-clause-refused g c = λ told.
+    let xs = c.args.channels.now in
+    let i : ℕ = c.channels.item-index in
+    let apart = next_apart xs i c.item-item.result c.channels-test.true c.item-item.is c.requires.apart in
+    handed_on c.from_residual.result c.in_err-stall.field-0.0 (λ e. RefusesChannel c.args.topic xs (g.F.Folder.files c.args.folder.now) (g.F.Folder.files c.open_stall.new.folder) e) c.from_residual.ensures.1 (inr (record {
+      channel = c.item-item.result;
+      one = next_one xs i c.item-item.result c.channels-test.true c.item-item.is;
+      before = g.F.Folder.files c.channels.folder;
+      same = next_stays g.F.Folder.tells_files c.args.hall.now.options c.args.topic (take i xs) c.item-item.result (g.F.Folder.files c.args.folder.now) (g.F.Folder.files c.channels.folder) (g.F.Folder.folder_faults c.args.folder.now) (g.F.Folder.folder_faults c.channels.folder) c.args.room.now c.channels.room
+          (subst IsName c.bytes.ensures.value c.bytes.ensures.is_name) c.channels.invariant apart told;
+      refused = c.in_err-stall.ensures.refused told;
+    }))
+
+pub returns-in_err-stall-clause-files : goal.returns-in_err-stall-clause-files
+returns-in_err-stall-clause-files g c = λ told file no_topic no_channel. c.open_stall.ensures.others told file (no_channel c.item-item.result.0) ∙ c.channels.invariant.only told file no_topic no_channel
+
+pub put_stall-requires-clause-new : goal.put_stall-requires-clause-new
+put_stall-requires-clause-new g c =
+    let apart = next_apart c.args.channels.now c.channels.item-index c.item-item.result c.channels-test.true c.item-item.is c.requires.apart in
+    ap (stall_in c.channels.room.stalls.items) c.in_ok-stall.ensures.named ∙ c.channels.invariant.names c.item-item.result.0 apart
+
+pub returns-in_err-put_stall-clause-files : goal.returns-in_err-put_stall-clause-files
+returns-in_err-put_stall-clause-files g c = λ told file no_topic no_channel. c.open_stall.ensures.others told file (no_channel c.item-item.result.0) ∙ c.channels.invariant.only told file no_topic no_channel
+
+pub channels-preserved : goal.channels-preserved
+channels-preserved g c =
+    let xs = c.args.channels.now in
+    let i : ℕ = c.channels.item-index in
+    let apart = next_apart xs i c.item-item.result c.channels-test.true c.item-item.is c.requires.apart in
+    subst
+    (λ done. HasOpened g.F.Folder.tells_files c.args.hall.now.options c.args.topic done (g.F.Folder.files c.args.folder.now) (g.F.Folder.files c.open_stall.new.folder) (g.F.Folder.folder_faults c.args.folder.now) (g.F.Folder.folder_faults c.open_stall.new.folder) c.args.room.now c.put_stall.new.room)
+    (sym (taken_next xs i c.item-item.result c.channels-test.true c.item-item.is))
+    (opened_one g.F.Folder.tells_files c.args.hall.now.options c.args.topic (take i xs) c.item-item.result (g.F.Folder.files c.args.folder.now) (g.F.Folder.files c.channels.folder) (g.F.Folder.files c.open_stall.new.folder) (g.F.Folder.folder_faults c.args.folder.now) (g.F.Folder.folder_faults c.channels.folder)
+    (g.F.Folder.folder_faults c.open_stall.new.folder) c.args.room.now c.channels.room c.put_stall.new.room c.in_ok-stall.stall (subst IsName c.bytes.ensures.value c.bytes.ensures.is_name) c.channels.invariant c.requires.named.queue apart c.in_ok-stall.ensures.stall c.in_ok-stall.ensures.named c.in_ok-stall.ensures.told c.open_stall.ensures.others
+    c.open_stall.ensures.faults c.put_stall.ensures.rest c.in_ok-put_stall.ensures.ok)

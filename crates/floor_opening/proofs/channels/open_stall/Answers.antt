@@ -1,0 +1,13 @@
+use Rattle.std.proofs.Common.{None}
+use Rattle.nsq_base.specs.Name.{is_ephemeral}
+use Rattle.channel_core.specs.Seen.{queue_name}
+use Rattle.topic_core.proofs.Saving.{was_found}
+use Rattle.floor_opening.proofs.Starting.{opened_stall_of}
+use Rattle.floor_opening.proofs.Parting.{or_false}
+use Rattle.floor_opening.proofs.channels.open_stall.Goals as goal
+
+pub returns-clause-told : goal.returns-clause-told
+returns-clause-told g c = λ told messages has.
+    let durable = or_false (is_ephemeral c.args.topic) (is_ephemeral c.args.channel) c.requires.durable c.requires.also in
+    opened_stall_of (g.F.Folder.files c.open.new.folder) c.args.topic c.args.channel c.args.paused c.args.hall.now.options c.in_ok-opened.opened (record { channel = c.pause.new.self; since = None; members = c.new.result }) messages c.pause.ensures c.in_ok-opened.ensures.seen durable
+    (c.in_ok-opened.ensures.list told durable messages (was_found (g.F.Folder.files c.args.folder.now) (queue_name c.args.topic c.args.channel) messages has)) (c.in_ok-opened.ensures.stands told)

@@ -1,0 +1,62 @@
+use Rattle.std.proofs.Common.{◌≡◌, ◌∙◌, List, inr, refl, ap, subst}
+use Rattle.std.specs.List.{All}
+use Rattle.nsq_base.specs.declared.options.Options.{Options}
+use Rattle.topic_core.specs.Rows.{found_topic, paused_in}
+use Rattle.floor_rooms.specs.declared.hall.Hall.{Hall}
+use Rattle.floor_rooms.specs.declared.room.Room.{Room}
+use Rattle.floor_rooms.specs.Rooms.{put_room, room_in}
+use Rattle.floor_opening.specs.Opened.{IsOpenedRoom, IsOpenedStall, RefusesTopic, kept_channels, opened_topic}
+use Rattle.floor_opening.proofs.Parting.{handed_on}
+use Rattle.floor_opening.proofs.Joining.{found_later, opened_with, put_sound, put_stands, refuses_later, rest_both}
+use Rattle.floor_opening.proofs.opening.open_topic.Goals as goal
+
+pub returns-in_err-room-clause-files : goal.returns-in_err-room-clause-files
+returns-in_err-room-clause-files g c = λ told file no_topic no_channel. c.open_queue.ensures.others told file no_topic
+
+pub returns-in_err-open_channels-clause-refused : goal.returns-in_err-open_channels-clause-refused
+returns-in_err-open_channels-clause-refused g c = λ told.
+    handed_on c.from_residual-in_err-open_channels.result c.in_err-open_channels.field-0.0 (λ e. RefusesTopic c.args.topic c.args.channels.now (g.F.Folder.files c.args.folder.now) (g.F.Folder.files c.open_channels.new.folder) e) c.from_residual-in_err-open_channels.ensures.1
+    (inr (refuses_later c.args.topic (g.F.Folder.files c.args.folder.now) (g.F.Folder.files c.open_queue.new.folder) c.in_ok-room.ensures.room.named (c.open_queue.ensures.others told) c.args.channels.now (g.F.Folder.files c.open_channels.new.folder) c.in_err-open_channels.field-0.0
+    (c.in_err-open_channels.ensures.refused told)))
+
+pub returns-in_err-open_channels-clause-files : goal.returns-in_err-open_channels-clause-files
+returns-in_err-open_channels-clause-files g c = λ told file no_topic no_channel. c.open_channels.ensures.files told file no_topic no_channel ∙ c.open_queue.ensures.others told file no_topic
+
+pub returns-clause-opens : goal.returns-clause-opens
+returns-clause-opens g c =
+    let reserved = c.reserve_room.ensures in
+    let done = c.in_ok-open_channels.ensures.opened in
+    let b : Room = c.open_channels.new.room in
+    let options : c.reserve_room.new.self.options ≡ c.args.hall.now.options = ap (λ (x : Hall). x.options) reserved.rest in
+    record {
+      room = b;
+      is = c.put_room.ensures.rooms ∙ ap (λ (xs : List Room). put_room xs b) reserved.rooms;
+      opened = subst (λ (o : Options). IsOpenedRoom o c.args.topic c.args.paused b) options (opened_with c.reserve_room.new.self.options c.args.topic c.args.paused c.in_ok-room.room b done.rest c.in_ok-room.ensures.room);
+      stalls = subst (λ (o : Options). All (IsOpenedStall o c.args.topic) b.stalls.items) options done.stalls;
+    }
+
+pub returns-clause-told : goal.returns-clause-told
+returns-clause-told g c = λ told messages found has pairs s stands.
+    let reserved = c.reserve_room.ensures in
+    let done = c.in_ok-open_channels.ensures.opened in
+    let room = c.in_ok-room.ensures in
+    let a : Room = c.in_ok-room.room in
+    let b : Room = c.open_channels.new.room in
+    let f0 = g.F.Folder.files c.args.folder.now in
+    let f1 = g.F.Folder.files c.open_queue.new.folder in
+    let f2 = g.F.Folder.files c.open_channels.new.folder in
+    put_stands c.args.hall.now c.put_room.new.hall c.reserve_room.new.self.options c.args.topic c.args.paused b c.requires.sound c.requires.new (rest_both c.args.hall.now c.reserve_room.new.self c.put_room.new.hall reserved.rest c.put_room.ensures.rest)
+    (c.put_room.ensures.rooms ∙ ap (λ (xs : List Room). put_room xs b) reserved.rooms) (opened_with c.reserve_room.new.self.options c.args.topic c.args.paused a b done.rest room.room) done.stalls f0 f2
+    (λ file no_topic no_channel. c.open_channels.ensures.files told file no_topic no_channel ∙ c.open_queue.ensures.others told file no_topic) s (opened_topic c.args.topic c.args.paused messages found)
+    (done.told told (paused_in c.args.paused (found_topic c.args.topic messages)) found (room.told told messages has) (found_later c.args.topic f0 f1 room.room.named (c.open_queue.ensures.others told) (kept_channels c.args.channels.now) found pairs)) stands
+
+pub returns-clause-sound : goal.returns-clause-sound
+returns-clause-sound g c =
+    let reserved = c.reserve_room.ensures in
+    let done = c.in_ok-open_channels.ensures.opened in
+    let h : Hall = c.reserve_room.new.self in
+    put_sound h c.put_room.new.hall h.options c.args.topic c.args.paused c.open_channels.new.room (reserved.sound c.requires.sound) (ap (λ (xs : List Room). room_in xs c.args.topic) reserved.rooms ∙ c.requires.new) c.put_room.ensures.rest c.put_room.ensures.rooms
+    (opened_with h.options c.args.topic c.args.paused c.in_ok-room.room c.open_channels.new.room done.rest c.in_ok-room.ensures.room) done.stalls refl done.order c.put_room.ensures.pending
+
+pub returns-clause-files : goal.returns-clause-files
+returns-clause-files g c = λ told file no_topic no_channel. c.open_channels.ensures.files told file no_topic no_channel ∙ c.open_queue.ensures.others told file no_topic

@@ -1,0 +1,3 @@
+pub mod Timely
+pub mod Saving
+pub mod Flushing

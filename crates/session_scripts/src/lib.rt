@@ -1,0 +1,11 @@
+//! What rows of a V2 connection's service stand on: a floor that answers by a script, the order in which calls of several objects
+//! come, and the service of a connection by them. No code of a daemon or a tool stands on it.
+#![tactic(auto)]
+
+mod scripted;
+mod serving;
+mod trace;
+
+pub use scripted::ScriptedFloor;
+pub use serving::{Runs, floor_of, pieces_of, serve_by, spread, spread_all};
+pub use trace::Trace;

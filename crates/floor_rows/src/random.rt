@@ -230,7 +230,15 @@ fn wrong_in(alloc: Global, seed: u64) -> Result<Vec<u8>, Memory> {
         stopped: false,
     };
     let right = turns_are_right(&mut run)?;
-    let Run { bench, .. } = run;
+    let Run {
+        alloc: _,
+        bench,
+        dice: _,
+        reading: _,
+        sides: _,
+        sent: _,
+        stopped: _,
+    } = run;
     let (done, _, left) = bench.end(false);
     judged(alloc, &options, right, &done, &left)
 }
@@ -256,14 +264,12 @@ fn judged(
     if !right {
         return told(alloc, b"the last is answered wrongly", done, left);
     }
-    for (i, one) in done.iter().enumerate() {
+    for one in done {
         if !is_in_order(alloc, one, entries)? {
-            return told(
-                alloc,
-                b"the last isn't in order",
-                done.get(..i + 1).unwrap_or(done),
-                left,
-            );
+            let mut text = Vec::new(alloc);
+            put(&mut text, b"not in order")?;
+            put_line(&mut text, one, left)?;
+            return Ok(text);
         }
     }
     if states_of(alloc, options, &[], entries)?.is_empty() {
@@ -277,16 +283,21 @@ fn told(alloc: Global, what: &[u8], done: &[Done], left: &Left) -> Result<Vec<u8
     let mut text = Vec::new(alloc);
     put(&mut text, what)?;
     for one in done {
-        put(&mut text, b"\n")?;
-        put_number(&mut text, u128::from(one.at))?;
-        put(&mut text, b": ")?;
-        put_number(&mut text, u128::from(one.number))?;
-        put(&mut text, b" ")?;
-        put(&mut text, one.call.as_bytes())?;
-        put(&mut text, b" => ")?;
-        put_turn(&mut text, one, left.journal.entries())?;
+        put_line(&mut text, one, left)?;
     }
     Ok(text)
+}
+
+// A turn in a line of its own.
+fn put_line(text: &mut Vec<u8>, one: &Done, left: &Left) -> Result<(), Memory> {
+    put(text, b"\n")?;
+    put_number(text, u128::from(one.at))?;
+    put(text, b": ")?;
+    put_number(text, u128::from(one.number))?;
+    put(text, b" ")?;
+    put(text, one.call.as_bytes())?;
+    put(text, b" => ")?;
+    put_turn(text, one, left.journal.entries())
 }
 
 // What is wrong with the first seed that is, as text.

@@ -2,11 +2,14 @@
 
 use crate::rows::{EMPTY, PLAIN, Row, SECOND, Start};
 
-static ROWS: [Row; 1] = [
-    Row {
-        name: "each kind of turn",
-        start: Start { memory: 1, timeout: SECOND, ..EMPTY },
-        lines: r#"
+static ROWS: [Row; 1] = [Row {
+    name: "each kind of turn",
+    start: Start {
+        memory: 1,
+        timeout: SECOND,
+        ..EMPTY
+    },
+    lines: r#"
             1 begin => begun | began
             1 IDENTIFY {"client_id":"me","feature_negotiation":true} => {"auth_required":false,"deflate":false,"deflate_level":0,"max_deflate_level":0,"max_msg_timeout":900000,"max_rdy_count":2500,"msg_timeout":1000,"sample_rate":0,"snappy":false,"tls_v1":false,"version":"1.0.0"} | did
             1 SUB t c => OK | did
@@ -57,9 +60,8 @@ static ROWS: [Row; 1] = [
             4 next => silent | silent
             0 stop => stopping | stop
         "#,
-        ..PLAIN
-    },
-];
+    ..PLAIN
+}];
 
 pub fn rows() -> &'static [Row] {
     &ROWS

@@ -151,12 +151,12 @@ fn sent(alloc: Global, text: &str) -> Result<Option<Call>, Memory>
     let mut reader = Reader::new(alloc, LIMITS)?;
     reader.feed(b"  V2")?;
     reader.feed(&bytes_of(alloc, text)?)?;
-    Ok(match reader.next() {
-        Got::Whole(command) => Some(Call::Command(command)),
-        Got::Fault(fault) => Some(Call::Bad(fault)),
-        Got::More => None,
-        Got::Memory => return Err(Memory),
-    })
+    match reader.next() {
+        Got::Whole(command) => Ok(Some(Call::Command(command))),
+        Got::Fault(fault) => Ok(Some(Call::Bad(fault))),
+        Got::More => Ok(None),
+        Got::Memory => Err(Memory),
+    }
 }
 
 // The bytes of a command.

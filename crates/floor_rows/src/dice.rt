@@ -39,7 +39,10 @@ impl Dice {
 
     // One of these words, or none where there are none.
     fn word(&mut self, words: &[&'static str]) -> &'static str {
-        let count = (words.len() as u64).max(1);
+        let count = words.len() as u64;
+        if count == 0 {
+            return "";
+        }
         let at = self.below(count) as usize;
         match words.get(at) {
             Some(word) => word,
@@ -69,9 +72,16 @@ impl Dice {
             0 | 1 => 1,
             2..=4 => 300_000_000,
             5 | 6 => 1_000_000_000,
-            7 if self.below(4) == 0 => 30_000_000_000,
+            7 => self.much_later(),
             _ => 0,
         }
+    }
+
+    fn much_later(&mut self) -> u64 {
+        if self.below(4) == 0 {
+            return 30_000_000_000;
+        }
+        0
     }
 
     /// What somebody asks who needs no connection.

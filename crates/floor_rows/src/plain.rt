@@ -1,6 +1,6 @@
 //! Whether the plain program of the whole broker finds entries legal.
 
-use broker_files::{Finding, found, start};
+use broker_files::{Finding, FoundNames, found, start};
 use broker_history::Entry;
 use broker_state::State;
 use broker_steps::led_to;
@@ -27,10 +27,16 @@ pub fn states_of(
 
 // The state that a run of epoch 1 starts from at the moment 0; none where an opening refuses the files.
 fn start_of(alloc: Global, options: &Options, files: &[File]) -> Result<Option<State>, Memory> {
-    let Finding::Names(mut names) = found(alloc, &named(alloc, files)?)? else {
-        return Ok(None);
-    };
-    names.epoch = 0;
+    let files = named(alloc, files)?;
+    match found(alloc, &files)? {
+        Finding::Names(names) => begun(alloc, options, names),
+        Finding::BadData | Finding::EpochSpent => Ok(None),
+    }
+}
+
+// The state that a run of epoch 1 starts from behind these names.
+fn begun(alloc: Global, options: &Options, names: FoundNames) -> Result<Option<State>, Memory> {
+    let names = FoundNames { epoch: 0, ..names };
     Ok(Some(start(alloc, &names, options, 0)?))
 }
 

@@ -187,10 +187,12 @@ fn said(alloc: Global, line: &str, what: &[u8]) -> Result<Vec<u8>, Memory> {
 // What differs in a row. One that ends for want of memory outside of its turns, or in which the folder found none, begins once more; so the rows hold
 // too where one allocation fails, whichever it is: `rt try --test --fail-alloc N`.
 fn wrong_in(alloc: Global, row: &Row) -> Result<Vec<u8>, Memory> {
-    match differs(alloc, row) {
-        Ok(differs) if differs.is_empty() => Ok(differs),
-        Ok(_) | Err(Memory) => differs(alloc, row),
+    if let Ok(first) = differs(alloc, row) {
+        if first.is_empty() {
+            return Ok(first);
+        }
     }
+    differs(alloc, row)
 }
 
 // The names of the rows that don't hold, each with what differs in it.

@@ -199,11 +199,16 @@ fn wrong_in(alloc: Global, row: &Row) -> Result<Vec<u8>, Memory> {
 fn wrong(alloc: Global) -> Result<String, Memory> {
     let mut wrong = Vec::new(alloc);
     for table in tables() {
-        for row in table {
-            put_wrong(alloc, &mut wrong, row)?;
-        }
+        put_wrongs(alloc, &mut wrong, table)?;
     }
     Ok(String::from_utf8_lossy(alloc, &wrong)?)
+}
+
+fn put_wrongs(alloc: Global, wrong: &mut Vec<u8>, table: &[Row]) -> Result<(), Memory> {
+    for row in table {
+        put_wrong(alloc, wrong, row)?;
+    }
+    Ok(())
 }
 
 fn put_wrong(alloc: Global, wrong: &mut Vec<u8>, row: &Row) -> Result<(), Memory> {

@@ -12,6 +12,6 @@ mod plan;
 
 pub use asked::said_to;
 pub use due::{NextDue, next_due_to};
-pub use durable::{KeptChannel, KeptTopic, kept};
+pub use durable::kept;
 pub use listed::names;
 pub use plan::{Plan, Planned, is_strange, plan_call};

@@ -1,0 +1,3 @@
+pub mod Keeping
+pub mod NameTexts
+pub mod Utf8Names

@@ -10,7 +10,7 @@ use Rattle.disk_queue.specs.Holding.{Holds}
 use Rattle.disk_queue.specs.Opened.{IsOpened}
 use Rattle.queue_files.specs.declared.options.QueueOptions.{QueueOptions}
 use Rattle.backlog.specs.Seen.{ForMessages, longest_body}
-use Rattle.backlog.specs.Lists.{HoldsAll, WasFound}
+use Rattle.backlog.specs.Lists.{HoldsAll, IsFoundAgain, WasFound}
 
 same_bodies : (xs ys : List (List ℕ)) (bad worse : List ℕ) → Records xs bad ≡ Records ys worse → xs ≡ ys
 same_bodies xs ys bad worse e = cc
@@ -32,4 +32,17 @@ opened_holds q options name old new messages seen for opened was =
     record {
       list = subst (λ (bodies : List (List ℕ)). Holds q new bodies []) (same_bodies _ _ _ _ one) opened.holds;
       stored = was.stored;
+    }
+
+-- a queue that was opened is found again
+pub opened_again : (q : Queue) (options : QueueOptions) (name : List ℕ) (old new : Files) → q ≡ opened_queue name options q.depth q.positions → ForMessages options → IsOpened q old new → IsFoundAgain name old new
+opened_again q options name old new seen for opened =
+    let least : q.options.least ≡ 26 = ap (λ (r : Queue). r.options.least) seen ∙ for.least in
+    let limit : q.options.limit ≡ 26 + longest_body = ap (λ (r : Queue). r.options.limit) seen ∙ for.limit in
+    let named : q.name ≡ name = ap (λ (r : Queue). r.name) seen in
+    record {
+      bodies = opened.bodies;
+      bad = opened.bad;
+      found = found_for 26 (26 + longest_body) q.options.least q.options.limit old q.name name (Records opened.bodies opened.bad) least limit named opened.found;
+      again = found_for 26 (26 + longest_body) q.options.least q.options.limit new q.name name (Records opened.bodies []) least limit named opened.kept.found;
     }

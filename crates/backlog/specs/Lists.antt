@@ -148,6 +148,13 @@ pub record WasFound (name : List ℕ) (files : Files) (messages : List Message) 
   pub found : IsFound 26 (26 + longest_body) files name (Records (map message_bytes messages) bad)
   pub stored : All IsStored messages
 
+-- an opening finds a list in the old files, and it finds the same one in the new files, and no bad file there
+pub record IsFoundAgain (name : List ℕ) (old new : Files) : Type 0 where
+  pub bodies : List (List ℕ)
+  pub bad : List ℕ
+  pub found : IsFound 26 (26 + longest_body) old name (Records bodies bad)
+  pub again : IsFound 26 (26 + longest_body) new name (Records bodies [])
+
 -- an opening that was refused: BadMeta only where the metadata is not in its grammar, and then no file changed; nor did one where memory was
 -- wanting
 abbrev pub OpenRefused : List ℕ → Files → Files → Open → Type 0

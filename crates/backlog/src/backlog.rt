@@ -1,4 +1,4 @@
-ghost use Rattle.std.specs.Prelude.{◌+◌, ◌≡◌, ◌<◌, ◌≤◌, ◌^◌, ℕ, List, [], IsTrue, IsSome, IfOk, IfErr, IfSome};
+ghost use Rattle.std.specs.Prelude.{◌+◌, ◌≡◌, ◌<◌, ◌≤◌, ◌^◌, ℕ, List, [], IsTrue, IsSome, IfOk, IfErr, IfSome, OnOk};
 ghost use Rattle.nsq_outside.specs.Files.{Files};
 ghost use Rattle.queue_image.specs.FileNames.{meta_file};
 ghost use Rattle.queue_image.specs.Metas.{IsIdle};
@@ -6,7 +6,7 @@ ghost use Rattle.disk_queue.specs.Opened.{IsOpened, IsTidied, FilesOfChange};
 ghost use Rattle.queue_opening.specs.Refusals.{OpenFails, OpenCounts};
 ghost use Rattle.v2_frame.specs.declared.message.Message.{Message};
 ghost use Rattle.backlog.specs.Seen.{ForMessages, IsOpenedAt, fresh_backlog, ring_depth, disk_depth};
-ghost use Rattle.backlog.specs.Lists.{OnDisk, Stands, WasFound, OpenRefused};
+ghost use Rattle.backlog.specs.Lists.{IsFoundAgain, OnDisk, Stands, WasFound, OpenRefused};
 
 mod drawing;
 mod putting;
@@ -101,6 +101,7 @@ impl Backlog {
         ensures durable { IfOk result (λ b. IsSome b.queue) }
         ensures list { IsTrue F.tells_files → IfOk result (λ b. (messages : List Message) → WasFound name.now (F.files folder.old) messages → OnDisk b.queue (F.files folder.new) messages) }
         ensures opened { IsTrue F.tells_files → IfOk result (λ b. IfSome b.queue (λ q. IsOpened q (F.files folder.old) (F.files folder.new))) }
+        ensures again { IsTrue F.tells_files → OnOk result (IsFoundAgain name.now (F.files folder.old) (F.files folder.new)) }
         ensures stands { IsTrue F.tells_files → IfOk result (λ b. Stands b.queue (F.files folder.new)) }
         ensures tidied { IsTrue F.tells_files → IfOk result (λ b. IfSome b.queue (λ q. IsTidied q (F.files folder.old) (F.files folder.new))) }
         ensures refused { IsTrue F.tells_files → IfErr result (λ e. OpenRefused name.now (F.files folder.old) (F.files folder.new) e) }

@@ -3,7 +3,7 @@ ghost use Rattle.broker_history.specs.State.{State};
 ghost use Rattle.floor_rooms.specs.Changes.{OnlyQueueFiles};
 ghost use Rattle.floor_rooms.specs.Kept.{hall_kept};
 ghost use Rattle.floor_rooms.specs.Standing.{HoldsFor};
-ghost use Rattle.floor_saving.specs.Flushing.{LeavesWhere};
+ghost use Rattle.floor_saving.specs.Flushing.{LeavesOthers, LeavesWhere};
 ghost use Rattle.broker_floor.specs.Ending.{FloorFlushFails, flushed_at};
 
 use crate::Floor;
@@ -16,12 +16,14 @@ use std::sync::ledger::{Blank, Ledger};
 
 impl<F: Folder, C: Clock, J: Journal<Entry>> Floor<F, C, J> {
     /// Writes all that durable topics and their durable channels have in memory behind what is on disk, and saves: after Done an opening finds in each of
-    /// their queues all that was left of it. A fault in one queue keeps none of the others from being written. Where a disk fault kept the Stop's turn from
+    /// their queues all that was left of it. A fault in one queue keeps none of the others from being written: no more queues are missed than the folder's count of
+    /// faults rose. Where a disk fault kept the Stop's turn from
     /// paying all that was owed the answer is Fault, whatever was written. It takes no memory. After it no turn is taken: nothing is claimed of the states
     /// that the floor stands for. Requires that it wasn't flushed before.
     pub fn flush(&mut self) -> Flushed
         requires { self.old.held.flushed ≡ false }
         ensures left { IsTrue F.tells_files → (s : State) → HoldsFor self.old.held.hall (F.files self.old.folder) s → LeavesWhere result s (F.files self.new.folder) }
+        ensures others { IsTrue F.tells_files → LeavesOthers result (F.folder_faults self.old.folder) (F.folder_faults self.new.folder) self.old.held.hall (F.files self.old.folder) (F.files self.new.folder) }
         ensures kept { hall_kept self.new.held.hall ≡ hall_kept self.old.held.hall }
         ensures held { self.new.held ≡ record { hall = record (self.old.held.hall) { rooms = self.new.held.hall.rooms }; flushed = true } }
         ensures clock { self.new.clock ≡ self.old.clock }
@@ -40,6 +42,7 @@ impl<F: Folder, C: Clock, J: Journal<Entry>> Floor<F, C, J> {
         requires some { 0 < L.parts }
         requires unflushed { self.old.held.flushed ≡ false }
         ensures left { IsTrue F.tells_files → (s : State) → HoldsFor self.old.held.hall (F.files self.old.folder) s → LeavesWhere result s (F.files self.new.folder) }
+        ensures others { IsTrue F.tells_files → LeavesOthers result (F.folder_faults self.old.folder) (F.folder_faults self.new.folder) self.old.held.hall (F.files self.old.folder) (F.files self.new.folder) }
         ensures kept { hall_kept self.new.held.hall ≡ hall_kept self.old.held.hall }
         ensures held { self.new.held ≡ record { hall = record (self.old.held.hall) { rooms = self.new.held.hall.rooms }; flushed = true } }
         ensures clock { self.new.clock ≡ self.old.clock }

@@ -4,6 +4,7 @@ ghost use Rattle.nsq_outside.specs.Causes.{DidFails};
 ghost use Rattle.nsq_outside.specs.Files.{Files};
 ghost use Rattle.queue_image.specs.FileNames.{IsOwnFile, IsQueueName};
 ghost use Rattle.queue_files.specs.Replaced.{Replaces, OnlyTwoChange};
+ghost use Rattle.names_file.specs.Kept.{CanKeepAll};
 ghost use Rattle.broker_history.specs.State.{State};
 ghost use Rattle.broker_history.specs.Moments.{moment_of};
 ghost use Rattle.floor_rooms.specs.Kept.{hall_kept};
@@ -107,9 +108,11 @@ impl<F: Folder, C: Clock, J: Journal<Entry>> Floor<F, C, J> {
         names(self.held.get(), alloc)
     }
 
-    /// The durable topics and channels with their pauses, in byte order. Want of memory is the only error.
+    /// The durable topics and channels with their pauses, in byte order. Want of memory is the only error. Until the floor is flushed the file of names can
+    /// keep them.
     pub fn kept(&self, alloc: Global) -> Result<Vec<KeptTopic>, Memory>
-        ensures { IfOk result (λ kept. kept.items ≡ hall_kept self.now.held.hall) }
+        ensures kept { IfOk result (λ kept. kept.items ≡ hall_kept self.now.held.hall) }
+        ensures can { self.now.held.flushed ≡ false → IfOk result (λ kept. CanKeepAll kept.items) }
     {
         kept(self.held.get(), alloc)
     }

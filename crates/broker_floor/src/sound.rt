@@ -11,7 +11,7 @@ ghost use Rattle.floor_rooms.specs.Rooms.{room_in};
 ghost use Rattle.floor_rooms.specs.Sound.{IsSound};
 ghost use Rattle.floor_rooms.specs.Standing.{HoldsFor};
 ghost use Rattle.floor_moves.specs.Moves.{sight};
-ghost use Rattle.floor_saving.specs.Flushing.{LeavesWhere};
+ghost use Rattle.floor_saving.specs.Flushing.{LeavesOthers, LeavesWhere};
 ghost use Rattle.floor_turns.specs.Turning.{TakesTurn};
 ghost use Rattle.floor_opening.specs.Opened.{AreApart, OnlyTopicFiles, OpensRoom, OpensTo, RefusesTopic};
 
@@ -135,6 +135,7 @@ impl SoundHall {
         requires unflushed { self.old.flushed ≡ false }
         requires scratch { 16777242 ≤ length scratch.old }
         ensures left { IsTrue F.tells_files → (s : State) → HoldsFor self.old.hall (F.files folder.old) s → LeavesWhere result s (F.files folder.new) }
+        ensures others { IsTrue F.tells_files → LeavesOthers result (F.folder_faults folder.old) (F.folder_faults folder.new) self.old.hall (F.files folder.old) (F.files folder.new) }
         ensures kept { hall_kept self.new.hall ≡ hall_kept self.old.hall }
         ensures rest { self.new ≡ record { hall = record (self.old.hall) { rooms = self.new.hall.rooms }; flushed = true } }
         ensures files { IsTrue F.tells_files → OnlyQueueFiles (F.files folder.old) (F.files folder.new) }

@@ -5,7 +5,7 @@ ghost use Rattle.queue_image.specs.Metas.{IsIdle};
 ghost use Rattle.queue_opening.specs.Refusals.{OpenFails, OpenCounts};
 ghost use Rattle.disk_queue.specs.Opened.{IsTidied, FilesOfChange};
 ghost use Rattle.v2_frame.specs.declared.message.Message.{Message};
-ghost use Rattle.backlog.specs.Lists.{OnDisk, Stands, WasFound, OpenRefused};
+ghost use Rattle.backlog.specs.Lists.{IsFoundAgain, OnDisk, Stands, WasFound, OpenRefused};
 ghost use Rattle.broker_history.specs.State.{flying, is_ephemeral_channel};
 ghost use Rattle.channel_copies.specs.Clients.{PutsClient, client_of, now_ready};
 ghost use Rattle.channel_core.specs.Seen.{channel_with, queue_name, seen_channel};
@@ -113,6 +113,7 @@ impl Channel {
         requires { FitsRun options.now }
         ensures seen { IfOk result (IsOpenedAs topic name options.now) }
         ensures list { IsTrue F.tells_files → is_ephemeral_channel topic name ≡ false → IfOk result (λ c. (messages : List Message) → WasFound (queue_name topic name) (F.files folder.old) messages → OnDisk c.backlog.queue (F.files folder.new) messages) }
+        ensures again { IsTrue F.tells_files → is_ephemeral_channel topic name ≡ false → OnOk result (IsFoundAgain (queue_name topic name) (F.files folder.old) (F.files folder.new)) }
         ensures stands { IsTrue F.tells_files → IfOk result (λ c. Stands c.backlog.queue (F.files folder.new)) }
         ensures tidied { IsTrue F.tells_files → IfOk result (λ c. IfSome c.backlog.queue (λ q. IsTidied q (F.files folder.old) (F.files folder.new))) }
         ensures ephemeral { is_ephemeral_channel topic name ≡ true → (folder.new ≡ folder.old) × IfErr result IsWant }

@@ -1,4 +1,4 @@
-ghost use Rattle.std.specs.Prelude.{◌≡◌, ◌≢◌, ◌≤◌, ◌<◌, ◌+◌, ◌^◌, List, [], length, true, false, None, IsTrue, IsSome, IfSome, IfOk, IfErr, option_map, option_copied};
+ghost use Rattle.std.specs.Prelude.{◌≡◌, ◌≢◌, ◌≤◌, ◌<◌, ◌+◌, ◌^◌, List, [], length, true, false, None, IsTrue, IsSome, IfSome, IfOk, IfErr, OnOk, option_map, option_copied};
 ghost use Rattle.nsq_base.specs.Name.{is_ephemeral};
 ghost use Rattle.nsq_outside.specs.Files.{Files};
 ghost use Rattle.queue_image.specs.FileNames.{meta_file};
@@ -7,7 +7,7 @@ ghost use Rattle.disk_queue.specs.Opened.{FilesOfChange, IsTidied};
 ghost use Rattle.queue_opening.specs.Refusals.{OpenFails, OpenCounts};
 ghost use Rattle.v2_frame.specs.declared.message.Message.{Message};
 ghost use Rattle.backlog.specs.Seen.{ForMessages, FitsLimit, ring_depth, disk_depth};
-ghost use Rattle.backlog.specs.Lists.{Stands, OpenRefused};
+ghost use Rattle.backlog.specs.Lists.{IsFoundAgain, Stands, OpenRefused};
 ghost use Rattle.backlog.specs.declared.backlog.Lent.TheVariants.{Nothing};
 ghost use Rattle.broker_history.specs.State.{Topic as StateTopic, new_topic, is_empty};
 ghost use Rattle.topic_core.specs.Seen.{fresh_topic, queue_options, owed_of, IsDrawn, IsSettled, IsOpenedTopic, IsWant};
@@ -84,6 +84,7 @@ impl TopicQueue {
     ) -> Result<TopicQueue, Open>
         ensures seen { IfOk result (IsOpenedTopic name options.now) }
         ensures row { IsTrue F.tells_files → IfOk result (λ q. (messages : List Message) → FindsMessages (F.files folder.old) name messages → IsTopicOf q (F.files folder.new) (found_topic name messages)) }
+        ensures again { IsTrue F.tells_files → is_ephemeral name ≡ false → OnOk result (IsFoundAgain name (F.files folder.old) (F.files folder.new)) }
         ensures stands { IsTrue F.tells_files → IfOk result (λ q. Stands q.backlog.queue (F.files folder.new)) }
         ensures tidied { IsTrue F.tells_files → IfOk result (λ q. IfSome q.backlog.queue (λ disk. IsTidied disk (F.files folder.old) (F.files folder.new))) }
         ensures ephemeral { is_ephemeral name ≡ true → (folder.new ≡ folder.old) × IfErr result IsWant }

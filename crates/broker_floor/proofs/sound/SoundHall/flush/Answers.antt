@@ -2,6 +2,7 @@ use Rattle.std.proofs.Common.{◌∙◌, ◌<◌, ◌^◌, ap, subst, sym}
 use Rattle.std.proofs.lemmas.Bool.{false≢true}
 use Rattle.floor_rooms.specs.declared.hall.Hall.{Hall}
 use Rattle.floor_rooms.specs.Standing.{HoldsFor}
+use Rattle.floor_saving.specs.Flushing.{LeavesOthers}
 use Rattle.broker_floor.specs.Held.{Held}
 use Rattle.broker_floor.proofs.sound.SoundHall.flush.Goals as goal
 
@@ -10,6 +11,9 @@ flush_all-flushed-requires-clause-sound g c = c.self.invariant.sound (ap (λ (x 
 
 pub returns-clause-left : goal.returns-clause-left
 returns-clause-left g c = λ told s holds. c.flush_all-flushed.ensures.left told s (subst (λ (x : Held). HoldsFor x.hall (g.F.Folder.files c.args.folder.now) s) (sym c.self.view_is) holds)
+
+pub returns-clause-others : goal.returns-clause-others
+returns-clause-others g c = λ told. subst (λ (x : Held). LeavesOthers c.flush_all-flushed.result (g.F.Folder.folder_faults c.args.folder.now) (g.F.Folder.folder_faults c.flush_all-flushed.new.folder) x.hall (g.F.Folder.files c.args.folder.now) (g.F.Folder.files c.flush_all-flushed.new.folder)) c.self.view_is (c.flush_all-flushed.ensures.others told)
 
 pub invariant_of-self : goal.invariant_of-self
 invariant_of-self g c = record { sound = λ still. absurd (false≢true (sym still)); epoch = subst (λ e. e < 2 ^ 24) (sym (ap (λ (x : Hall). x.epoch) c.flush_all-flushed.ensures.rest)) c.self.invariant.epoch }

@@ -2,7 +2,7 @@ use Rattle.std.proofs.Common.{rules, ℕ, ◌≡◌, List, false, subst, sym}
 use Rattle.disk_queue.specs.Opened.{FilesOfChange}
 use Rattle.nsq_base.specs.Name.{is_ephemeral}
 use Rattle.v2_frame.specs.declared.message.Message.{Message}
-use Rattle.backlog.specs.Lists.{OnDisk, WasFound}
+use Rattle.backlog.specs.Lists.{IsFoundAgain, OnDisk, WasFound}
 use Rattle.topic_core.specs.Seen.{Seen}
 use Rattle.topic_core.specs.Rows.{IsTopicOf, found_topic}
 use Rattle.topic_core.proofs.Saving.{opened_topic}
@@ -22,3 +22,6 @@ returns-clause-row g c = λ told messages found.
 
 pub returns-clause-others : goal.returns-clause-others
 returns-clause-others g c = λ told. subst (λ (name : List ℕ). FilesOfChange name (g.F.Folder.files c.args.folder.now) (g.F.Folder.files c.open.new.folder)) c.as_str.ensures (c.open.ensures.others told)
+
+pub returns-clause-again : goal.returns-clause-again
+returns-clause-again g c = λ told durable. subst (λ (name : List ℕ). IsFoundAgain name (g.F.Folder.files c.args.folder.now) (g.F.Folder.files c.open.new.folder)) c.as_str.ensures (c.in_ok-backlog.ensures.again told)

@@ -4,6 +4,6 @@ use Rattle.std.specs.List.{AllByRecursion}
 use Rattle.history.specs.Data.{CanKeepTopic, IsKept, KeptTopic}
 
 -- topics with good names, each once and in byte order, and so their channels
-pub record CanKeepAll (topics : List KeptTopic) : Type 0 where
-  pub topics : AllByRecursion CanKeepTopic topics
-  pub keeps : IsKept (λ (t : KeptTopic). t.name) topics topics
+pub record CanKeepAll (kept : List KeptTopic) : Type 0 where
+  pub topics : AllByRecursion CanKeepTopic kept
+  pub keeps : IsKept (λ (t : KeptTopic). t.name) kept kept

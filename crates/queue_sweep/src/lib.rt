@@ -1,0 +1,4 @@
+//! Files of queues that no topic and no channel has any longer are set aside.
+#![tactic(auto)]
+
+mod form;

@@ -1,1 +1,3 @@
 pub mod Stems
+pub mod Colons
+pub mod Listing

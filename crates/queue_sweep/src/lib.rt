@@ -2,3 +2,5 @@
 #![tactic(auto)]
 
 mod form;
+mod listed;
+mod queue_name;

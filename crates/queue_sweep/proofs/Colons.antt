@@ -1,5 +1,5 @@
 -- Where a name has its colon.
-use Rattle.std.proofs.Common.{◌≡◌, ◌≢◌, Option, Some, None, ℕ, ◌+◌, ◌==◌, List, [], ◌∷◌, ◌++◌, length, take, drop, refl, sym, ◌∙◌, ap, subst, inl, inr}
+use Rattle.std.proofs.Common.{◌≡◌, ◌≢◌, Option, Some, None, IfSome, ℕ, ◌+◌, ◌==◌, List, [], ◌∷◌, ◌++◌, length, take, drop, refl, sym, ◌∙◌, ap, subst, inl, inr}
 use Rattle.std.proofs.lemmas.List.{append_cancel_left, take_at}
 use Rattle.std.specs.List.{position}
 use Rattle.nsq_base.specs.Name.{IsName}
@@ -10,7 +10,7 @@ use Rattle.queue_image.specs.FileNames.IsFileOf.{own}
 use Rattle.queue_image.proofs.Naming.{Lacks, no_channel, one_queue}
 use Rattle.queue_image.proofs.Digits.{position-at, around}
 use Rattle.queue_sweep.specs.Forms.{HasForm}
-use Rattle.queue_sweep.specs.Names.{ReadsName, FindsQueue, HasNames}
+use Rattle.queue_sweep.specs.Names.{ReadsName, FindsQueue, HasNames, spelled, queue_named}
 use Rattle.queue_sweep.specs.declared.queue_name.QueueName.{QueueName}
 
 -- a list that such a byte stands nowhere in lacks it
@@ -67,3 +67,11 @@ name_of_parts name topic channel back n at named is named' whole is' = (
   around name 58 n at ∙ ap (λ (x : List ℕ). x ++ 58 ∷ drop (n + 1) name) (sym is) ∙ ap (λ (x : List ℕ). topic ++ 58 ∷ x) (sym whole ∙ sym is'),
   record { of_topic = subst (λ (x : List ℕ). IsName x) (sym is) named; of_channel = subst (λ (x : List ℕ). IsName x) (sym is') named' },
 )
+
+-- such parts are the name of a queue
+pub queue_name : (queue : QueueName) → HasNames queue → IsQueueName (spelled queue)
+queue_name queue named = go queue.channel named.of_channel
+  where
+    go : (channel : Option (List ℕ)) → IfSome channel IsName → IsQueueName (queue_named queue.topic channel)
+    go None h = of_topic named.of_topic
+    go (Some channel) h = of_channel queue.topic channel named.of_topic h refl

@@ -1,3 +1,4 @@
 pub mod Stems
 pub mod Colons
 pub mod Listing
+pub mod Sweeps

@@ -74,11 +74,11 @@ data_from_parts file rest stem digits i e around d number s = (
   number.0,
   number.1,
   e ∙ ap (λ (x : List ℕ). x ++ codes ".dat") (
-    around ∙ ap (λ (x : List ℕ). x ++ 46 ∷ drop (i + 1) rest) s
-    ∙ ap (λ (x : List ℕ). (stem ++ codes ".diskqueue") ++ 46 ∷ x) (sym d ∙ number.2)
-    ∙ sym (append_assoc (stem ++ codes ".diskqueue") (46 ∷ []) (file_digits number.0))
-    ∙ ap (λ (x : List ℕ). x ++ file_digits number.0) (append_assoc stem (codes ".diskqueue") (46 ∷ []))
-  ),
+      around ∙ ap (λ (x : List ℕ). x ++ 46 ∷ drop (i + 1) rest) s
+      ∙ ap (λ (x : List ℕ). (stem ++ codes ".diskqueue") ++ 46 ∷ x) (sym d ∙ number.2)
+      ∙ sym (append_assoc (stem ++ codes ".diskqueue") (46 ∷ []) (file_digits number.0))
+      ∙ ap (λ (x : List ℕ). x ++ file_digits number.0) (append_assoc stem (codes ".diskqueue") (46 ∷ []))
+      ),
 )
 
 -- the digits of a file's number are text
@@ -117,3 +117,7 @@ zeros_are n m digits zeros plain e d p same =
 -- the zeros in front of a number
 abbrev pub spelled_zeros : ℕ → List ℕ
 spelled_zeros n = replicate (6 - length (decimal n)) 48
+
+-- a number that was read is the one that was meant
+pub same_number : (m n : ℕ) → Some m ≡ Some n → m ≡ n
+same_number m n e = cc

@@ -1,3 +1,4 @@
 pub mod Forms
 pub mod Names
 pub mod Swept
+pub mod Steps

@@ -1,6 +1,12 @@
-//! Files of queues that no topic and no channel has any longer are set aside.
+//! The files of queues that no topic and no channel has any longer. At the start of a daemon they are set aside: else a topic or channel
+//! that is made anew would begin with what one of its name had left.
 #![tactic(auto)]
 
 mod form;
 mod listed;
 mod queue_name;
+mod sweeping;
+mod unswept;
+
+pub use sweeping::set_aside_unlisted;
+pub use unswept::Unswept;

@@ -5,8 +5,8 @@ ghost use Rattle.names_file.specs.Kept.{CanKeepAll};
 ghost use Rattle.queue_sweep.specs.Names.{HasNames, spelled};
 ghost use Rattle.queue_sweep.specs.Swept.{IsListedQueue, IsUnlisted, topic_name, channel_name};
 
-use names_file::{KeptChannel, KeptTopic};
 use crate::queue_name::{QueueName, queue_of};
+use names_file::{KeptChannel, KeptTopic};
 use nsq_base::{Chan, Topic};
 
 /// Whether the file has the form of a queue's data file or metadata, and that queue is none of these topics' and of their

@@ -27,7 +27,7 @@ returns c =
     let ends = stripped file (codes ".dat") rest c.in-Some.ensures.cases.0 c.in-Some.ensures.cases.1 in
     answers c.strip_suffix-2.result _ _ _ _
     (λ lacks name d.
-        let parts = around_dot name rest d.0 dot d.1 c.in-Some-last_dot.ensures (before_ending name file rest d.0 d.2 ends) in
-        not_stripped (take dot rest) (codes ".diskqueue") name lacks parts.0)
+    let parts = around_dot name rest d.0 dot d.1 c.in-Some-last_dot.ensures (before_ending name file rest d.0 d.2 ends) in
+    not_stripped (take dot rest) (codes ".diskqueue") name lacks parts.0)
     (λ stem found. data_from_parts file rest stem.now _ dot ends c.in-Some-last_dot.ensures.0 (take_rest rest (dot + 1)) (c.if-not-is_file_number.ensures.0 refl) (stripped (take dot rest) (codes ".diskqueue") stem.now found.0 found.1))
     c.strip_suffix-2.ensures.cases

@@ -2,3 +2,4 @@ pub mod Stems
 pub mod Colons
 pub mod Listing
 pub mod Sweeps
+pub mod Staying

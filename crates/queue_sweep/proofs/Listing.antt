@@ -1,6 +1,6 @@
 -- Which queues topics in byte order have.
-use Rattle.std.proofs.Common.{◌≡◌, ◌≢◌, ◌<◌, ◌≤◌, ◌↔◌, ◌⊎◌, Option, Some, None, Result, Ok, Err, is_ok, Bool, true, false, not, IsTrue, IfSome, ℕ, List, [], ◌∷◌, ◌++◌, length, map, get_or, refl, sym, ◌∙◌, ap, subst, inl, inr, arith}
-use Rattle.std.specs.List.{fold, All, AllByRecursion, Contains}
+use Rattle.std.proofs.Common.{◌≡◌, ◌≢◌, ◌<◌, ◌↔◌, ◌⊎◌, Option, Some, None, Result, Ok, Err, is_ok, Bool, true, false, not, IsTrue, ℕ, List, [], ◌∷◌, length, map, get_or, refl, sym, ◌∙◌, ap, subst, inl, inr, arith}
+use Rattle.std.specs.List.{fold, Contains}
 use Rattle.std.specs.Str.{bytes_eq}
 use Rattle.std.proofs.lemmas.Bool.{false≢true, cases_lt}
 use Rattle.std.proofs.lemmas.List.Elements.{All-contains, All-from_recursion, Contains-get_or, Contains-push, Contains-push_cases, Contains-append_left, Contains-append_right, Contains-append_cases}
@@ -10,23 +10,23 @@ use Rattle.nsq_base.specs.Name.{IsName}
 use Rattle.nsq_base.specs.Names.{IsAscendingBy, is_before, put_by}
 use Rattle.nsq_base.specs.Places.{StandsAt, BelongsAt, IsPlaceOf}
 use Rattle.nsq_base.proofs.PutBy.{IsAscendingBy-put_by}
-use Rattle.queue_image.specs.FileNames.{channel_queue, IsQueueFile}
+use Rattle.queue_image.specs.FileNames.{channel_queue}
 use Rattle.queue_image.proofs.Naming.{one_channel, no_channel}
 use Rattle.history.specs.Data.{KeptTopic, KeptChannel, CanKeepTopic, IsKept, durable}
 use Rattle.history.specs.Found.{queues_of}
 use Rattle.history.proofs.NameLists.{before_once}
 use Rattle.queue_sweep.specs.Forms.{HasForm}
 use Rattle.names_file.specs.Kept.{CanKeepAll}
-use Rattle.queue_sweep.specs.Names.{queue_named, spelled, HasNames, FindsQueue}
+use Rattle.queue_sweep.specs.Names.{queue_named, spelled, HasNames}
 use Rattle.queue_sweep.specs.Swept.{IsListedQueue, IsUnlisted, topic_name, channel_name}
 use Rattle.queue_sweep.specs.declared.queue_name.QueueName.{QueueName}
 use Rattle.queue_sweep.proofs.Colons.{one_form, queue_name}
 
 -- the first of a list is in it, and so is each of the rest
-first_in : {X : Type 0} (x : X) (xs : List X) → Contains (x ∷ xs) x
+pub first_in : {X : Type 0} (x : X) (xs : List X) → Contains (x ∷ xs) x
 first_in x xs = Contains-append_left (x ∷ []) xs x (Contains-push [] x)
 
-rest_in : {X : Type 0} (x : X) (xs : List X) (y : X) → Contains xs y → Contains (x ∷ xs) y
+pub rest_in : {X : Type 0} (x : X) (xs : List X) (y : X) → Contains xs y → Contains (x ∷ xs) y
 rest_in x xs y h = Contains-append_right (x ∷ []) xs y h
 
 none_in : {X A : Type 0} (y : X) → Contains [] y → A

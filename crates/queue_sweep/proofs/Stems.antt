@@ -1,17 +1,17 @@
 -- The parts of the name of a queue's file.
-use Rattle.std.proofs.Common.{◌≡◌, ◌≢◌, Option, Some, None, Bool, true, false, lit<, take, drop, take-append-drop, ℕ, ◌+◌, ◌-◌, ◌^◌, ◌<◌, ◌≤◌, ◌⊎◌, List, [], ◌∷◌, ◌++◌, length, replicate, codes, refl, sym, ◌∙◌, ap, subst, inl, inr, arith, append_assoc, length-append}
-use Rattle.std.proofs.lemmas.List.{append_cancel_left, append_cancel_right, drop_at, length-replicate}
-use Rattle.std.proofs.lemmas.Fmt.{IsAscii-from_digits, decimal_is_IsNumeral_wide}
+use Rattle.std.proofs.Common.{◌≡◌, ◌≢◌, Option, Some, None, true, false, lit<, take, drop, take-append-drop, ℕ, ◌+◌, ◌-◌, ◌^◌, ◌<◌, ◌⊎◌, List, [], ◌∷◌, ◌++◌, length, replicate, codes, refl, sym, ◌∙◌, ap, subst, inl, arith, append_assoc, length-append}
+use Rattle.std.proofs.lemmas.List.{append_cancel_left, append_cancel_right, drop_at}
+use Rattle.std.proofs.lemmas.Fmt.{IsAscii-from_digits}
 use Rattle.std.proofs.lemmas.Str.{IsUtf8-from_ascii}
 use Rattle.std.proofs.lemmas.Str.Parse.{without_leading_plus_none, digit_at}
 use Rattle.std.proofs.lemmas.Slice.Eq.{bytes_eq-Decides}
 use Rattle.std.specs.Fmt.{decimal}
 use Rattle.std.specs.Option.{MatchOption}
-use Rattle.std.specs.Str.{bytes_eq, IsUtf8, IsAscii}
+use Rattle.std.specs.Str.{bytes_eq, IsUtf8}
 use Rattle.std.specs.Str.Parse.{IsNumeral, digits_value, without_leading_plus}
-use Rattle.queue_image.specs.FileNames.{file_digits, data_file, meta_file}
+use Rattle.queue_image.specs.FileNames.{file_digits, data_file}
 use Rattle.queue_image.proofs.Naming.{Lacks, Lacks-digits, before_last_one, numeral-file_digits, digits_value-file_digits}
-use Rattle.queue_sweep.specs.Forms.{IsFileNumber, IsLastAt, IsDataFileOf, HasForm}
+use Rattle.queue_sweep.specs.Forms.{IsFileNumber, IsLastAt, IsDataFileOf}
 
 -- what holds of an answer holds of it in other words
 pub answers : {A : Type 0} (o : Option A) (P P' : Type 0) (Q Q' : A → Type 0) → (P → P') → ((x : A) → Q x → Q' x) → MatchOption o P Q → MatchOption o P' Q'

@@ -1,5 +1,5 @@
 -- Files of unlisted queues are set aside, one after the other.
-use Rattle.std.proofs.Common.{◌≡◌, ◌≢◌, ℕ, ◌+◌, ◌<◌, ◌≤◌, ◌⊎◌, Bool, true, false, List, [], ◌∷◌, ◌++◌, length, take, get_or, map, codes, Option, Some, None, IsSome, refl, sym, ◌∙◌, ap, subst, inl, inr, arith, String, string_bytes, Result, Ok, Err, OnOk}
+use Rattle.std.proofs.Common.{◌≡◌, ◌≢◌, ℕ, ◌+◌, ◌<◌, ◌≤◌, ◌⊎◌, Bool, true, false, List, [], ◌∷◌, ◌++◌, length, take, get_or, map, codes, Option, Some, None, IsSome, refl, sym, ◌∙◌, ap, subst, inl, inr, String, string_bytes, Result, Ok, Err, OnOk}
 use Rattle.std.specs.declared.alloc.Global.{Global}
 use Rattle.std.proofs.lemmas.Bool.{false≢true}
 use Rattle.std.proofs.lemmas.List.{take_more, take_all, map-append, append_cancel_right}
@@ -9,12 +9,11 @@ use Rattle.std.specs.List.{Contains}
 use Rattle.std.specs.Str.{bytes_eq}
 use Rattle.nsq_outside.specs.Files.{Files, SameFiles, IsRenamed, IsListing, AppendsListing}
 use Rattle.std.proofs.Math.Path.{fun_ext}
-use Rattle.queue_image.specs.FileNames.{set_aside, IsOwnFile}
+use Rattle.queue_image.specs.FileNames.{set_aside}
 use Rattle.queue_image.proofs.Naming.{aside_apart}
 use Rattle.history.specs.Data.{KeptTopic}
 use Rattle.queue_sweep.specs.Swept.{IsUnlisted, IsMovedAside, IsLeftAlone, IsSweptTo, HasOnlyListed}
 use Rattle.queue_sweep.specs.Steps.{SweepsOne, AreGone}
-use Rattle.queue_sweep.specs.declared.unswept.Unswept.{Unswept}
 use Rattle.queue_sweep.proofs.Colons.{own_file}
 
 some_is : (o : Option (List ℕ)) (x : List ℕ) → o ≡ Some x → IsSome o

@@ -2,3 +2,4 @@ pub mod Forms
 pub mod Names
 pub mod Swept
 pub mod Steps
+pub mod Laws

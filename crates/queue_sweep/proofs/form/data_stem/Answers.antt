@@ -1,7 +1,5 @@
-use Rattle.std.proofs.Common.{◌≡◌, ◌≢◌, ◌<◌, ◌^◌, ◌+◌, ◌∙◌, ◌++◌, List, ℕ, Some, true, false, sym, ap, subst, codes, take, drop, refl}
+use Rattle.std.proofs.Common.{◌≡◌, ◌+◌, ◌∙◌, true, false, codes, take, refl}
 use Rattle.std.proofs.lemmas.List.{take_rest}
-use Rattle.queue_image.specs.FileNames.{file_digits}
-use Rattle.queue_sweep.specs.Forms.{IsFileNumber, IsLastAt}
 use Rattle.queue_sweep.proofs.Stems.{stripped, not_stripped, before_ending, has_dot, around_dot, data_from_parts, answers}
 use Rattle.queue_sweep.proofs.form.data_stem.Goals as goal
 

@@ -1,6 +1,5 @@
-use Rattle.std.proofs.Common.{◌≡◌, ◌<◌, ◌^◌, ◌-◌, ◌∙◌, ◌++◌, List, ℕ, Some, true, false, sym, ap, replicate, length, arith}
+use Rattle.std.proofs.Common.{◌≡◌, ◌<◌, ◌^◌, ◌-◌, ◌∙◌, ◌++◌, List, ℕ, true, false, sym, ap, replicate, length, arith}
 use Rattle.std.specs.Fmt.{decimal}
-use Rattle.queue_image.specs.FileNames.{file_digits}
 use Rattle.queue_sweep.proofs.Stems.{stripped, not_stripped, zeros_before, zeros_are, spelled_zeros, same_number}
 use Rattle.queue_sweep.proofs.form.is_file_number.Goals as goal
 

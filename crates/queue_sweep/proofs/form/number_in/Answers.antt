@@ -1,4 +1,4 @@
-use Rattle.std.proofs.Common.{◌≡◌, ◌∙◌, List, ℕ, Some, ap, sym, subst}
+use Rattle.std.proofs.Common.{◌∙◌, List, ℕ, Some, ap, sym, subst}
 use Rattle.std.specs.Str.{IsUtf8}
 use Rattle.queue_sweep.proofs.Stems.{digits_utf8, digits_read}
 use Rattle.queue_sweep.proofs.form.number_in.Goals as goal

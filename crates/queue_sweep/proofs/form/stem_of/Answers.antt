@@ -1,4 +1,4 @@
-use Rattle.std.proofs.Common.{◌≡◌, List, ℕ, inl, inr, codes}
+use Rattle.std.proofs.Common.{inl, inr, codes}
 use Rattle.queue_sweep.proofs.Stems.{stripped, not_stripped, answers}
 use Rattle.queue_sweep.proofs.form.stem_of.Goals as goal
 

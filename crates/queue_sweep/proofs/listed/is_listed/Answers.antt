@@ -1,4 +1,4 @@
-use Rattle.std.proofs.Common.{◌≡◌, ◌↔◌, ◌∙◌, Bool, true, false, IsTrue, List, [], get_or, ℕ, Option, Some, None, ap, sym, subst, refl}
+use Rattle.std.proofs.Common.{◌↔◌, true, false, IsTrue, List, [], get_or, ℕ, Option, Some, None, sym, subst, refl}
 use Rattle.std.proofs.lemmas.Bool.{false≢true}
 use Rattle.std.proofs.lemmas.List.{get_or_default}
 use Rattle.history.specs.Data.{KeptTopic}

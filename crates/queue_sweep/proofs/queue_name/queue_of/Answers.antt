@@ -1,4 +1,4 @@
-use Rattle.std.proofs.Common.{◌≡◌, List, ℕ, subst}
+use Rattle.std.proofs.Common.{List, ℕ, subst}
 use Rattle.queue_sweep.specs.Forms.{HasForm}
 use Rattle.queue_sweep.proofs.Colons.{found_queue}
 use Rattle.queue_sweep.proofs.queue_name.queue_of.Goals as goal

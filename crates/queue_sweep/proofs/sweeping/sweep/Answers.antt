@@ -1,4 +1,4 @@
-use Rattle.std.proofs.Common.{◌≡◌, ◌∙◌, ◌≤◌, arith}
+use Rattle.std.proofs.Common.{◌∙◌, arith}
 use Rattle.queue_sweep.proofs.Sweeps.{swept_more, gone_more, gone_all}
 use Rattle.queue_sweep.proofs.sweeping.sweep.Goals as goal
 

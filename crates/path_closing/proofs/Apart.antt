@@ -1,7 +1,6 @@
 -- The file of names and its temporary are no queue's, and what an opening finds of queues stays where they change.
 use Rattle.std.proofs.Common.{◌≡◌, ◌≢◌, ◌⊎◌, inl, inr, ℕ, List, length, ap, arith}
 use Rattle.std.specs.Prelude.{Contains}
-use Rattle.std.specs.List.{All}
 use Rattle.std.proofs.lemmas.List.Elements.{All-weaker}
 use Rattle.nsq_outside.specs.Files.{Files}
 use Rattle.v2_frame.specs.declared.message.Message.{Message}

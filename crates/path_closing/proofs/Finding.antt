@@ -1,9 +1,9 @@
 -- An opening finds all that was left, where the queues have all messages and the file of names has all names.
-use Rattle.std.proofs.Common.{◌≡◌, ℕ, List, [], ◌∷◌, map, refl, ap, sym, subst, ◌∙◌}
+use Rattle.std.proofs.Common.{ℕ, List, [], ◌∷◌, map, refl, ap, sym, subst, ◌∙◌}
 use Rattle.std.specs.List.{All}
 use Rattle.std.proofs.lemmas.List.Elements.{All-head, All-tail}
 use Rattle.nsq_outside.specs.Files.{Files}
-use Rattle.history.specs.Data.{Kept, names_text}
+use Rattle.history.specs.Data.{names_text}
 use Rattle.history.specs.Found.{FindsChannel, FindsTopic, FoundChannel, FoundTopic, Pairwise}
 use Rattle.history.specs.Found.IsFound.{names as shows_names, spent as shows_spent}
 use Rattle.broker_history.specs.State.{Channel, State, Topic}

@@ -1,5 +1,5 @@
 -- What shutting a floor leaves, by what its flush and the store of its names left.
-use Rattle.std.proofs.Common.{◌≡◌, ◌⊎◌, inl, inr, ℕ, ◌≤◌, ◌<◌, ◌+◌, ◌-◌, ◌^◌, Bool, true, false, List, length, Option, refl, ap, sym, subst, ◌∙◌, arith}
+use Rattle.std.proofs.Common.{◌≡◌, ◌⊎◌, inl, inr, ℕ, ◌≤◌, ◌+◌, ◌-◌, ◌^◌, Bool, true, List, length, Option, subst, ◌∙◌, arith}
 use Rattle.std.specs.Prelude.{IsTrue, min}
 use Rattle.nsq_outside.specs.Causes.{DidFails, Rose}
 use Rattle.nsq_outside.specs.Files.{Files}
@@ -17,7 +17,7 @@ use Rattle.floor_rooms.specs.Kept.{hall_kept}
 use Rattle.floor_rooms.specs.Standing.{HoldsFor}
 use Rattle.floor_saving.specs.Flushing.{LeavesOthers, LeavesWhere}
 use Rattle.broker_floor.specs.Ending.{FloorFlushFails}
-use Rattle.path_closing.specs.Closings.{HasNames, IsTextOf, KeepsNames, Leaves, MissesSome, NamesOrOneMore, NamesStay, OldOrNew, ShutChanges, ShutFails, ShutsDown, WhereClean, WhereShutWants, WhereTried, shut_end, temp_name}
+use Rattle.path_closing.specs.Closings.{HasNames, IsTextOf, KeepsNames, Leaves, NamesOrOneMore, NamesStay, OldOrNew, ShutFails, ShutsDown, WhereClean, WhereShutWants, WhereTried, shut_end, temp_name}
 use Rattle.path_closing.specs.declared.shutting.ShutEnd.TheVariants as shut
 use Rattle.path_closing.proofs.Apart.{all_behind, but_behind, names_apart, temp_apart}
 use Rattle.path_closing.proofs.Finding.{all_left}

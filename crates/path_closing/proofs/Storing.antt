@@ -1,5 +1,5 @@
 -- The file of names as it was, or with the text of the names.
-use Rattle.std.proofs.Common.{◌≡◌, ◌⊎◌, inl, inr, ℕ, ◌<◌, ◌≤◌, ◌^◌, List, [], ◌++◌, length, Some, None, refl, ap, sym, subst, ◌∙◌, arith}
+use Rattle.std.proofs.Common.{◌≡◌, inl, inr, ℕ, ◌<◌, ◌≤◌, ◌^◌, List, [], ◌++◌, length, Some, None, ap, subst, ◌∙◌, arith}
 use Rattle.nsq_outside.specs.Files.{Files}
 use Rattle.nsq_outside.specs.declared.did.Did.{Did}
 use Rattle.nsq_outside.specs.declared.did.Did.TheVariants.{Done, Failed}
@@ -7,7 +7,7 @@ use Rattle.queue_files.specs.Replaced.{Replaces}
 use Rattle.history.specs.Data.{IsNames, Kept, KeptTopic, data_name, longest_data, names_text}
 use Rattle.names_file.specs.Kept.{CanKeepAll}
 use Rattle.names_file.specs.Texts.{kept_of}
-use Rattle.path_closing.specs.Closings.{HasNames, IsTextOf, KeepsNames, OldOrNew, temp_name}
+use Rattle.path_closing.specs.Closings.{IsTextOf, KeepsNames, OldOrNew, temp_name}
 
 -- the text that was appended to nothing is the text of what was lent
 pub is_text : (text out before : List ℕ) (told epoch : ℕ) (lent kept : List KeptTopic) → text ≡ out → out ≡ before ++ names_text (kept_of told lent) → before ≡ [] → told ≡ epoch → lent ≡ kept → told < 2 ^ 24 → CanKeepAll lent

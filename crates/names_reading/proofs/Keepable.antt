@@ -1,5 +1,5 @@
 -- What a file of names keeps can be written again, and is durable.
-use Rattle.std.proofs.Common.{◌≡◌, ℕ, Bool, true, false, not, List, [], ◌∷◌, Option, Some, None, refl, sym, ap, subst, ◌∙◌}
+use Rattle.std.proofs.Common.{◌≤◌, arith, ◌≡◌, ℕ, Bool, true, false, not, List, [], ◌∷◌, Option, Some, None, refl, sym, ap, subst, ◌∙◌}
 use Rattle.std.specs.List.{All, AllByRecursion}
 use Rattle.std.proofs.lemmas.Bool.{false≢true}
 use Rattle.std.proofs.lemmas.List.Elements.{All-nil, All-filter, All-weaker, filter_passes, recursion_from_All, All-from_recursion}
@@ -8,7 +8,7 @@ use Rattle.serde_json.specs.Data as json
 use Rattle.nsq_base.specs.Name.{is_ephemeral}
 use Rattle.nsq_base.specs.Names.{IsAscendingBy}
 use Rattle.nsq_base.proofs.PutBy.{filter_all}
-use Rattle.history.specs.Data.{KeptChannel, KeptTopic, ItemsSay, SaysList, SaysChannel, SaysTopic, IsKept, durable, in_order, CanKeepChannel, CanKeepTopic}
+use Rattle.history.specs.Data.{KeptChannel, KeptTopic, ItemsSay, SaysList, SaysChannel, SaysTopic, IsKept, durable, in_order, last_epoch, SaysEpoch, CanKeepChannel, CanKeepTopic}
 use Rattle.names_file.specs.Kept.{CanKeepAll}
 use Rattle.names_reading.specs.Durable.{AreDurable}
 use Rattle.names_reading.specs.Reading.{AreApart, ListKeeps}
@@ -95,3 +95,15 @@ topics_durable m kept h = record {
       let P : KeptTopic → Type 0 = λ t. All (λ (c : KeptChannel). is_ephemeral c.name ≡ false) t.channels in
       kept_all topic_name P h.listed kept h.keeps (list_all SaysTopic P topic_durable m h.listed h.says);
 }
+
+-- an epoch that a member says is not too great
+pub epoch_small : (m : Option json.Data) (epoch : ℕ) → SaysEpoch m epoch → epoch ≤ last_epoch
+epoch_small None epoch h = omega (arith, h)
+epoch_small (Some json.null) epoch h = omega (arith, h)
+epoch_small (Some (json.boolean b)) epoch h = absurd h
+epoch_small (Some (json.number (json.unsigned n))) epoch h = omega (arith, h.0, h.1)
+epoch_small (Some (json.number (json.negative z))) epoch h = absurd h
+epoch_small (Some (json.number (json.float x))) epoch h = absurd h
+epoch_small (Some (json.string s)) epoch h = absurd h
+epoch_small (Some (json.array ds)) epoch h = absurd h
+epoch_small (Some (json.object ms)) epoch h = absurd h

@@ -1,7 +1,7 @@
-ghost use Rattle.std.specs.Prelude.{◌≡◌, IfOk, IfErr, IsUtf8, Some, None};
+ghost use Rattle.std.specs.Prelude.{◌≡◌, ◌≤◌, IfOk, IfErr, IsUtf8, Some, None};
 ghost use Rattle.serde_json.specs.Read.{read};
 ghost use Rattle.serde_json.specs.View.{view};
-ghost use Rattle.history.specs.Data.{IsNames, IsBadNames};
+ghost use Rattle.history.specs.Data.{IsNames, IsBadNames, last_epoch};
 ghost use Rattle.names_file.specs.Kept.{CanKeepAll};
 ghost use Rattle.names_reading.specs.Durable.{AreDurable};
 ghost use Rattle.names_reading.specs.declared.names.Unread.TheVariants.{Bad, Memory};
@@ -65,6 +65,7 @@ impl<T: Drop> From<AllocFailed<T>> for Unread {
 /// by `write_names`, where that text isn't longer than 16 MiB.
 pub fn read_names(alloc: Global, text: &[u8]) -> Result<ListedNames, Unread>
     ensures names { IfOk result (λ names. IsNames text.now names) }
+    ensures epoch { IfOk result (λ names. names.epoch ≤ last_epoch) }
     ensures can { IfOk result (λ names. CanKeepAll names.topics) }
     ensures durable { IfOk result (λ names. AreDurable names.topics) }
     ensures bad { IfErr result (λ e. e ≡ Bad → IsBadNames text.now) }

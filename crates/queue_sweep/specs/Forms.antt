@@ -1,7 +1,6 @@
 -- The form of the name of a queue's file, and the name of the queue in it.
-use Rattle.std.specs.Prelude.{ℕ, ◌≡◌, ◌+◌, ◌<◌, ◌^◌, ◌⊎◌, ◌∷◌, ◌++◌, List, take, drop, Option, Some, None}
+use Rattle.std.specs.Prelude.{ℕ, ◌≡◌, ◌≢◌, ◌+◌, ◌<◌, ◌^◌, ◌⊎◌, ◌∷◌, ◌++◌, List, take, drop, Option, Some, None}
 use Rattle.std.specs.List.{AllByRecursion}
-use Rattle.std.specs.Prelude.{◌≢◌}
 use Rattle.queue_image.specs.FileNames.{file_digits, data_file, meta_file}
 
 -- the file has the name of a data file of the queue of that name

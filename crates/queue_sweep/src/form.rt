@@ -1,5 +1,5 @@
-ghost use Rattle.std.specs.Prelude.{◌≡◌, ◌≢◌, ◌^◌, ◌<◌, ◌↔◌, ◌-◌, ℕ, List, IsTrue, MatchOption, Some, replicate};
-ghost use Rattle.queue_image.specs.FileNames.{file_digits, data_file};
+ghost use Rattle.std.specs.Prelude.{◌≡◌, ◌^◌, ◌<◌, ◌↔◌, ℕ, List, IsTrue, MatchOption, Some, replicate};
+ghost use Rattle.queue_image.specs.FileNames.{file_digits};
 ghost use Rattle.queue_sweep.specs.Forms.{IsDataFileOf, HasForm, IsFileNumber, IsLastAt};
 
 use itoa::Buffer;

@@ -1,6 +1,6 @@
 use Rattle.serde_json.specs.View.{view}
 use Rattle.names_reading.proofs.Listing.{failed, names_bad}
-use Rattle.names_reading.proofs.Keepable.{topics_can, topics_durable}
+use Rattle.names_reading.proofs.Keepable.{topics_can, topics_durable, epoch_small}
 use Rattle.names_reading.proofs.names.read_names.Goals as goal
 
 pub returns-in_err-topics-clause-bad : goal.returns-in_err-topics-clause-bad
@@ -12,3 +12,6 @@ returns-clause-can c = topics_can _ _ c.in_ok-topics.ensures.value
 
 pub returns-clause-durable : goal.returns-clause-durable
 returns-clause-durable c = topics_durable _ _ c.in_ok-topics.ensures.value
+
+pub returns-clause-epoch : goal.returns-clause-epoch
+returns-clause-epoch c = epoch_small _ _ c.in-Some.ensures

@@ -1,0 +1,6 @@
+pub mod Orders
+pub mod Finding
+pub mod Joining
+pub mod Idling
+pub mod Ending
+pub mod Texts

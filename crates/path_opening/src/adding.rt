@@ -1,0 +1,92 @@
+ghost use Rattle.std.specs.Prelude.{◌≡◌, ◌≤◌, All, IfErr, IfOk, IsTrue, None, OnOk, [], false};
+ghost use Rattle.nsq_base.specs.Name.{is_ephemeral};
+ghost use Rattle.nsq_base.specs.Names.{IsAscendingBy};
+ghost use Rattle.names_file.specs.Kept.{CanKeepAll};
+ghost use Rattle.names_reading.specs.Durable.{AreDurable};
+ghost use Rattle.floor_rooms.specs.Rooms.{room_in};
+ghost use Rattle.path_opening.specs.Adding.{AddsOne, HasOthersOnly, IsAdded, IsNotAdded, IsNotOne, PutsTopic, pauses, why_of};
+
+use crate::opening::Why;
+use broker_floor::Floor;
+use broker_history::Entry;
+use names_file::{KeptChannel, KeptTopic};
+use nsq_base::{Chan, Memory};
+use nsq_outside::{Clock, Folder, Journal};
+use queue_opening::Open;
+use std::alloc::Global;
+
+/// Adds these topics with their channels to a floor that has none, in their order. Refused, each queue's list is found as before.
+pub(crate) fn add_topics<F: Folder, C: Clock, J: Journal<Entry>>(
+    alloc: Global,
+    floor: &mut Floor<F, C, J>,
+    topics: &[KeptTopic],
+) -> Result<(), Why>
+    requires unflushed { floor.old.held.flushed ≡ false }
+    requires empty { floor.old.held.hall.rooms.items ≡ [] }
+    requires can { CanKeepAll topics.now }
+    requires durable { AreDurable topics.now }
+    ensures added { OnOk result (IsAdded F.tells_files topics.now floor.old.held floor.new.held (F.files floor.old.folder) (F.files floor.new.folder) (F.folder_faults floor.old.folder) (F.folder_faults floor.new.folder)) }
+    ensures refused { IfErr result (λ why. IsNotAdded why F.tells_files topics.now (F.files floor.old.folder) (F.files floor.new.folder) (F.folder_faults floor.old.folder) (F.folder_faults floor.new.folder)) }
+    ensures clock { floor.new.clock ≡ floor.old.clock }
+    ensures journal { floor.new.journal ≡ floor.old.journal }
+    ensures faults { F.folder_faults floor.old.folder ≤ F.folder_faults floor.new.folder }
+{
+    'topics: for topic in topics {
+        match add_topic(alloc, floor, topic) {
+            Ok(()) => {}
+            Err(why) => return Err(why),
+        }
+    }
+    Ok(())
+}
+
+// Adds a topic with its channels, which are in byte order.
+fn add_topic<F: Folder, C: Clock, J: Journal<Entry>>(
+    alloc: Global,
+    floor: &mut Floor<F, C, J>,
+    topic: &KeptTopic,
+) -> Result<(), Why>
+    requires unflushed { floor.old.held.flushed ≡ false }
+    requires durable { is_ephemeral topic.now.name ≡ false }
+    requires channels { All (λ c. is_ephemeral c.name ≡ false) topic.now.channels }
+    requires order { IsAscendingBy (λ c. c.name) topic.now.channels }
+    requires new { room_in floor.old.held.hall.rooms.items topic.now.name ≡ None }
+    ensures adds { IsTrue F.tells_files → OnOk result (AddsOne topic.now floor.old.held.hall (F.files floor.old.folder) floor.new.held.hall (F.files floor.new.folder)) }
+    ensures puts { OnOk result (PutsTopic topic.now.name floor.old.held.hall floor.new.held.hall) }
+    ensures held { HasOthersOnly floor.old.held floor.new.held }
+    ensures refused { IfErr result (λ why. IsNotOne why F.tells_files topic.now (F.files floor.old.folder) (F.files floor.new.folder) (F.folder_faults floor.old.folder) (F.folder_faults floor.new.folder)) }
+    ensures clock { floor.new.clock ≡ floor.old.clock }
+    ensures journal { floor.new.journal ≡ floor.old.journal }
+    ensures faults { F.folder_faults floor.old.folder ≤ F.folder_faults floor.new.folder }
+{
+    let Ok(channels) = pauses_of(alloc, &topic.channels) else {
+        return Err(Why::Memory);
+    };
+    match floor.add(topic.topic, topic.paused, &channels) {
+        Ok(()) => Ok(()),
+        Err(refusal) => Err(why_of(refusal)),
+    }
+}
+
+// Each channel with its pause. Want of memory is the only error.
+#[tactic(auto, using(crate::proofs::Joining::pauses_next))]
+fn pauses_of(alloc: Global, channels: &[KeptChannel]) -> Result<Vec<(Chan, bool)>, Memory>
+    ensures { IfOk result (λ list. list.items ≡ pauses channels.now) }
+{
+    let mut list = Vec::new(alloc);
+    'channels: for channel in channels {
+        list.push((channel.channel, channel.paused))?;
+    }
+    Ok(list)
+}
+
+// Why a folder isn't opened one of whose queues was refused.
+fn why_of(refusal: Open) -> Why
+    ensures { result ≡ why_of refusal }
+{
+    match refusal {
+        Open::Fault => Why::Fault,
+        Open::BadMeta => Why::BadData,
+        Open::Memory => Why::Memory,
+    }
+}

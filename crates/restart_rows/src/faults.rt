@@ -1,5 +1,5 @@
 //! Folders of which one call after another fails: while ten topics with two channels each are opened, while their names are saved, and while they
-//! are shut.
+//! are shut. Each such call leads to Fault, also one that removes a file or makes something durable.
 
 use crate::bench::{Bench, Opened, folder_in, open_folder};
 use crate::calls::parted;
@@ -25,6 +25,15 @@ const SETTING: Setting = Setting {
 
 // More calls of the folder than any run makes.
 const MOST_CALLS: u64 = 10_000;
+
+// As many queues as there are, or more.
+const ALL: usize = 3 * TOPICS;
+
+// More calls of the folder than one opening, saving or shutting makes.
+const LASTING: u64 = 1_000;
+
+// A file that no topic and no channel has: an opening sets it aside.
+const UNLISTED: &str = "a.diskqueue.000000.dat";
 
 // The turns that fill a topic, whose name stands at the @: one message waits in it; of the channel a two copies are in flight, one is queued and one
 // deferred, and of b three are queued and one is deferred. Behind a 1 stands what the topic's client does.
@@ -52,6 +61,8 @@ enum Trial {
     Save,
     /// Shutting.
     Shut,
+    /// Shutting, over a folder whose later calls fail too.
+    ShutBroken,
 }
 
 struct Row {
@@ -61,7 +72,7 @@ struct Row {
     least: u64,
 }
 
-static ROWS: [Row; 3] = [
+static ROWS: [Row; 4] = [
     Row {
         name: "each call of an opening fails",
         trial: Trial::Open,
@@ -75,6 +86,11 @@ static ROWS: [Row; 3] = [
     Row {
         name: "each call of shutting fails",
         trial: Trial::Shut,
+        least: 100,
+    },
+    Row {
+        name: "all calls of shutting fail from one on",
+        trial: Trial::ShutBroken,
         least: 100,
     },
 ];
@@ -99,12 +115,12 @@ struct Base {
     listing: Listing,
 }
 
-// The calls that fail: that of this number.
-fn failing(call: u64) -> [Failing; 1] {
+// So many calls that fail, from the one of this number on.
+fn failing(call: u64, count: u64) -> [Failing; 1] {
     [Failing {
         call: FolderCall::Any,
         from: call,
-        to: call.saturating_add(1),
+        to: call.saturating_add(count),
     }]
 }
 
@@ -155,6 +171,7 @@ fn make_base(alloc: Global) -> Result<Option<Base>, Memory> {
     let Some(files) = shut_files(alloc, late)? else {
         return Ok(None);
     };
+    let files = with_file(alloc, &files, UNLISTED, b"x")?;
     match listing_of(alloc, &files)? {
         Some(listing) if is_filled(alloc, &listing)? => Ok(Some(Base {
             calls,
@@ -216,7 +233,7 @@ fn answers(bench: &mut Bench, call: &str, wanted: &[u8]) -> Result<bool, Memory>
 // An opening of which this call fails.
 fn opening(alloc: Global, base: &Base, call: u64) -> Result<Tried, Memory> {
     let options = options_of(alloc, SETTING)?;
-    let folder = folder_of(alloc, &base.files, &failing(call))?;
+    let folder = folder_of(alloc, &base.files, &failing(call, 1))?;
     match open_folder(alloc, folder, &options, SETTING.clock)? {
         Opened::Open(bench) => Ok(passed(folder_in(bench.leave()), call)),
         Opened::Refused(why, folder) => refusal(alloc, base, why, folder),
@@ -253,7 +270,7 @@ fn refusal(alloc: Global, base: &Base, why: Why, mut folder: MemFolder) -> Resul
 
 // Saving of which this call fails: once it is left then, and once it is tried again.
 fn saving(alloc: Global, base: &Base, call: u64) -> Result<Tried, Memory> {
-    let fails = failing(call);
+    let fails = failing(call, 1);
     let (Some(first), Some(second)) = (filled(alloc, &fails)?, filled(alloc, &fails)?) else {
         return Ok(Tried::Wrong("it isn't opened"));
     };
@@ -298,26 +315,59 @@ fn has_names(base: &Base, files: &[NamedFile]) -> bool {
     names == Some(base.names.as_slice()) || names == bytes_of(&base.files, NAMES)
 }
 
-// Shutting of which this call fails.
+// Shutting of which this call fails. Behind that no more than one queue was missed.
 fn shutting(alloc: Global, base: &Base, call: u64) -> Result<Tried, Memory> {
-    let Some(bench) = filled(alloc, &failing(call))? else {
+    let Some(bench) = filled(alloc, &failing(call, 1))? else {
         return Ok(Tried::Wrong("it isn't opened"));
     };
-    let (end, left) = bench.shut();
-    let mut folder = folder_in(left);
-    match end {
-        ShutEnd::Clean => Ok(passed(folder, call)),
-        ShutEnd::Fault => shut_left(alloc, base, &files_in(alloc, &mut folder)?),
-        ShutEnd::Memory => Ok(Tried::Wrong("it ends for want of memory")),
+    match shut_fails(alloc, base, call, bench)? {
+        Ok(files) => shut_left(alloc, base, &files, 1),
+        Err(tried) => Ok(tried),
     }
 }
 
-// Behind a fault the file of names is the old or the new one, and by the new one all queues but one at most have their messages. A second opening finds
-// what was kept.
-fn shut_left(alloc: Global, base: &Base, files: &[NamedFile]) -> Result<Tried, Memory> {
-    if !has_names(base, files) {
-        return Ok(Tried::Wrong("the file of names is another"));
+// Shutting of which this call and all later ones fail. Where the names were saved all the same, no queue was missed.
+fn breaking(alloc: Global, base: &Base, call: u64) -> Result<Tried, Memory> {
+    let Some(bench) = filled(alloc, &failing(call, LASTING))? else {
+        return Ok(Tried::Wrong("it isn't opened"));
+    };
+    match shut_fails(alloc, base, call, bench)? {
+        Ok(files) => {
+            let new_names = bytes_of(&files, NAMES) == bytes_of(&base.files, NAMES);
+            shut_left(alloc, base, &files, if new_names { 0 } else { ALL })
+        }
+        Err(tried) => Ok(tried),
     }
+}
+
+// The files that shutting leaves where it ends in a fault, and else what became of it.
+fn shut_fails(
+    alloc: Global,
+    base: &Base,
+    call: u64,
+    bench: Bench,
+) -> Result<Result<Vec<NamedFile>, Tried>, Memory> {
+    let (end, left) = bench.shut();
+    let mut folder = folder_in(left);
+    match end {
+        ShutEnd::Clean => return Ok(Err(passed(folder, call))),
+        ShutEnd::Memory => return Ok(Err(Tried::Wrong("it ends for want of memory"))),
+        ShutEnd::Fault => {}
+    }
+    let files = files_in(alloc, &mut folder)?;
+    if has_names(base, &files) {
+        return Ok(Ok(files));
+    }
+    Ok(Err(Tried::Wrong("the file of names is another")))
+}
+
+// By the new file of names all queues but so many at most have their messages, and a second opening finds what was kept by the one that is there.
+fn shut_left(
+    alloc: Global,
+    base: &Base,
+    files: &[NamedFile],
+    most: usize,
+) -> Result<Tried, Memory> {
     let new_names = bytes_of(&base.files, NAMES).unwrap_or(b"");
     let whole = with_file(alloc, files, NAMES, new_names)?;
     let (Some(listing), Some(found)) = (listing_of(alloc, &whole)?, listing_of(alloc, files)?)
@@ -325,8 +375,8 @@ fn shut_left(alloc: Global, base: &Base, files: &[NamedFile]) -> Result<Tried, M
         return Ok(Tried::Wrong("nothing is found any longer"));
     };
     match listing.differences(&base.listing) {
-        Some(0 | 1) => {}
-        _ => return Ok(Tried::Wrong("more than one queue was missed")),
+        Some(missed) if missed <= most => {}
+        _ => return Ok(Tried::Wrong("too many queues were missed")),
     }
     if !reopens(alloc, files, &found)? {
         return Ok(Tried::Wrong("a second opening finds something else"));
@@ -340,6 +390,7 @@ fn try_call(alloc: Global, base: &Base, trial: Trial, call: u64) -> Result<Tried
         Trial::Open => opening(alloc, base, call),
         Trial::Save => saving(alloc, base, call),
         Trial::Shut => shutting(alloc, base, call),
+        Trial::ShutBroken => breaking(alloc, base, call),
     }
 }
 
@@ -347,7 +398,7 @@ fn try_call(alloc: Global, base: &Base, trial: Trial, call: u64) -> Result<Tried
 fn first_call(base: &Base, trial: Trial) -> u64 {
     match trial {
         Trial::Open => 0,
-        Trial::Save | Trial::Shut => base.calls,
+        Trial::Save | Trial::Shut | Trial::ShutBroken => base.calls,
     }
 }
 

@@ -11,7 +11,7 @@ use Rattle.floor_rooms.specs.declared.hall.Hall.{Hall}
 use Rattle.floor_saving.specs.Flushing.{LeavesOthers, LeavesWhere, MissesFew}
 use Rattle.broker_floor.specs.Ending.{FloorFlushFails, flushed_at}
 
-is_done : Flushed → Bool
+abbrev is_done : Flushed → Bool
 is_done Done = true
 is_done Fault = false
 

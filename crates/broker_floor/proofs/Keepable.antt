@@ -1,6 +1,6 @@
 -- The file of names can keep the durable topics of a sound hall.
 use Rattle.std.proofs.Common.{◌≡◌, ◌≢◌, ℕ, ◌<◌, ◌+◌, Bool, true, false, not, cond, List, [], ◌∷◌, ◌++◌, length, map, get_or, refl, ap, sym, subst, ◌∙◌, arith, append_assoc, length-append}
-use Rattle.std.specs.Prelude.{IsTrue}
+use Rattle.std.specs.Prelude.{IfOk, IsTrue, Result, Ok, Err}
 use Rattle.std.specs.List.{All, AllByRecursion, AllPairs, filter, fold}
 use Rattle.std.proofs.lemmas.Bool.{false≢true}
 use Rattle.std.proofs.lemmas.List.{length-map, get_or-map, append-nil, get_or_append_left}
@@ -108,3 +108,8 @@ module _ (h : Hall) where
     topics = rooms_can h.rooms.items sound.rooms;
     keeps = items_kept topic_name (λ (t : KeptTopic). t.name) room_kept (λ r. refl) h.rooms.items sound.room_order;
   }
+
+-- so it can keep what is told of them
+pub kept_can : {T E : Type 0} (h : Hall) (result : Result T E) (items : T → List KeptTopic) → CanKeepAll (hall_kept h) → IfOk result (λ kept. items kept ≡ hall_kept h) → IfOk result (λ kept. CanKeepAll (items kept))
+kept_can h (Ok kept) items can is = subst CanKeepAll (sym is) can
+kept_can h (Err e) items can is = is

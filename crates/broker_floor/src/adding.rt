@@ -2,7 +2,7 @@ ghost use Rattle.std.specs.Prelude.{◌≡◌, ◌≤◌, All, IfErr, IsTrue, No
 ghost use Rattle.nsq_base.specs.Name.{is_ephemeral};
 ghost use Rattle.queue_opening.specs.Refusals.{OpenFails};
 ghost use Rattle.floor_rooms.specs.Rooms.{room_in};
-ghost use Rattle.floor_opening.specs.Opened.{AreApart, OnlyTopicFiles, OpensRoom, OpensTo, RefusesTopic};
+ghost use Rattle.floor_opening.specs.Opened.{AreApart, BadStays, ListsStay, NoneIsBad, OnlyTheirFiles, OnlyTopicFiles, OpensRoom, OpensTo, RefusesTopic};
 
 use crate::Floor;
 use broker_history::Entry;
@@ -22,6 +22,10 @@ impl<F: Folder, C: Clock, J: Journal<Entry>> Floor<F, C, J> {
         requires new { room_in self.old.held.hall.rooms.items topic ≡ None }
         ensures opens { OnOk result (OpensRoom self.old.held.hall.options topic paused self.old.held.hall.rooms.items self.new.held.hall.rooms.items) }
         ensures told { IsTrue F.tells_files → OnOk result (OpensTo topic paused channels.now self.old.held.hall (F.files self.old.folder) self.new.held.hall (F.files self.new.folder)) }
+        ensures again { IsTrue F.tells_files → ListsStay (F.files self.old.folder) (F.files self.new.folder) }
+        ensures good { IsTrue F.tells_files → OnOk result (NoneIsBad topic channels.now (F.files self.old.folder)) }
+        ensures theirs { IsTrue F.tells_files → OnlyTheirFiles topic channels.now (F.files self.old.folder) (F.files self.new.folder) }
+        ensures bad { IsTrue F.tells_files → OnOk result (BadStays (F.files self.old.folder) (F.files self.new.folder)) }
         ensures same { OnErr result (self.new.held.hall.rooms.items ≡ self.old.held.hall.rooms.items) }
         ensures held { self.new.held ≡ record (self.old.held) { hall = record (self.old.held.hall) { rooms = self.new.held.hall.rooms; pending = self.new.held.hall.pending } } }
         ensures clock { self.new.clock ≡ self.old.clock }

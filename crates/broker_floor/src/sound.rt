@@ -13,7 +13,7 @@ ghost use Rattle.floor_rooms.specs.Standing.{HoldsFor};
 ghost use Rattle.floor_moves.specs.Moves.{sight};
 ghost use Rattle.floor_saving.specs.Flushing.{LeavesOthers, LeavesWhere};
 ghost use Rattle.floor_turns.specs.Turning.{TakesTurn};
-ghost use Rattle.floor_opening.specs.Opened.{AreApart, OnlyTopicFiles, OpensRoom, OpensTo, RefusesTopic};
+ghost use Rattle.floor_opening.specs.Opened.{AreApart, BadStays, ListsStay, NoneIsBad, OnlyTheirFiles, OnlyTopicFiles, OpensRoom, OpensTo, RefusesTopic};
 
 use crate::serving::turn_at;
 use backlog::Flushed;
@@ -162,6 +162,10 @@ impl SoundHall {
         requires new { room_in self.old.hall.rooms.items topic ≡ None }
         ensures opens { OnOk result (OpensRoom self.old.hall.options topic paused self.old.hall.rooms.items self.new.hall.rooms.items) }
         ensures told { IsTrue F.tells_files → OnOk result (OpensTo topic paused channels.now self.old.hall (F.files folder.old) self.new.hall (F.files folder.new)) }
+        ensures again { IsTrue F.tells_files → ListsStay (F.files folder.old) (F.files folder.new) }
+        ensures good { IsTrue F.tells_files → OnOk result (NoneIsBad topic channels.now (F.files folder.old)) }
+        ensures theirs { IsTrue F.tells_files → OnlyTheirFiles topic channels.now (F.files folder.old) (F.files folder.new) }
+        ensures bad { IsTrue F.tells_files → OnOk result (BadStays (F.files folder.old) (F.files folder.new)) }
         ensures same { OnErr result (self.new.hall.rooms.items ≡ self.old.hall.rooms.items) }
         ensures rest { self.new ≡ record (self.old) { hall = record (self.old.hall) { rooms = self.new.hall.rooms; pending = self.new.hall.pending } } }
         ensures refused { IsTrue F.tells_files → IfErr result (λ e. RefusesTopic topic channels.now (F.files folder.old) (F.files folder.new) e) }

@@ -1,3 +1,4 @@
 pub mod Parting
 pub mod Starting
 pub mod Joining
+pub mod Leaving

@@ -1,5 +1,5 @@
 -- What opening a topic with its channels makes of a hall, and what it leaves of files.
-use Rattle.std.specs.Prelude.{◌≡◌, ◌≢◌, ◌⊎◌, ◌≤◌, ℕ, Bool, false, true, IsTrue, List, [], ◌∷◌, ◌++◌, All, Contains, map, None}
+use Rattle.std.specs.Prelude.{◌≡◌, ◌≢◌, ◌⊎◌, ◌≤◌, ℕ, ◌+◌, Bool, false, true, IsTrue, List, [], ◌∷◌, ◌++◌, All, Contains, map, None}
 use Rattle.std.specs.List.{list_any}
 use Rattle.std.specs.Str.{bytes_eq}
 use Rattle.nsq_base.specs.Name.{IsName}
@@ -7,12 +7,14 @@ use Rattle.nsq_base.specs.Names.{IsAscendingBy}
 use Rattle.nsq_base.specs.declared.options.Options.{Options}
 use Rattle.nsq_outside.specs.Files.{Files}
 use Rattle.queue_image.specs.FileNames.{IsFileOf}
+use Rattle.queue_image.specs.Finds.{BadMeta, IsFound}
+use Rattle.queue_opening.specs.Again.{FindsSameList}
 use Rattle.queue_opening.specs.declared.refusal.Open.{Open}
 use Rattle.queue_opening.specs.declared.refusal.Open.TheVariants.{Memory}
 use Rattle.v2_frame.specs.declared.message.Message.{Message}
 use Rattle.history.specs.Data.{KeptChannel}
 use Rattle.history.specs.Found.{FindsChannel, FoundChannel, HasMessages, Pairwise}
-use Rattle.backlog.specs.Seen.{QueueIsSaved}
+use Rattle.backlog.specs.Seen.{QueueIsSaved, longest_body}
 use Rattle.backlog.specs.Lists.{OpenRefused}
 use Rattle.broker_history.specs.Found.{started_channel}
 use Rattle.broker_history.specs.State.{State, Topic, with_channel, with_topic}
@@ -100,6 +102,43 @@ pub record HasOpened (tells : Bool) (options : Options) (topic : List ℕ) (done
   pub only : IsTrue tells → OnlyTopicFiles topic old new
   pub others : IsTrue tells → OtherQueuesStay topic done old new
   pub faults : before ≤ now
+
+-- the list that an opening finds of a queue in the old files is found in the new ones, whatever the queue
+abbrev pub ListsStay : Files → Files → Type 0
+ListsStay old new = (name : List ℕ) → FindsSameList 26 (26 + longest_body) name old new
+
+-- the metadata of the queue of this name is not in its grammar
+abbrev pub IsBad : Files → (name : List ℕ) → Type 0
+IsBad files name = IsFound 26 (26 + longest_body) files name BadMeta
+
+-- a queue whose metadata is bad in the old files has bad metadata in the new ones
+abbrev pub BadStays : Files → Files → Type 0
+BadStays old new = (name : List ℕ) → IsBad old name → IsBad new name
+
+-- none of these channels' queues has bad metadata
+abbrev pub NoChannelIsBad : (topic : List ℕ) → List (List ℕ × Bool) → Files → Type 0
+NoChannelIsBad topic channels files = All (λ c. IsBad files (queue_name topic c.0) → ⊥) channels
+
+-- nor has the topic's own
+pub record NoneIsBad (topic : List ℕ) (opened : List (List ℕ × Bool)) (files : Files) : Type 0 where
+  pub own : IsBad files topic → ⊥
+  pub channels : NoChannelIsBad topic opened files
+
+-- no file changes but those of these channels' queues, set aside or not
+abbrev pub OnlyChannelFiles : (topic : List ℕ) → List (List ℕ × Bool) → Files → Files → Type 0
+OnlyChannelFiles topic channels old new = (file : List ℕ) → All (λ c. IsFileOf (queue_name topic c.0) file → ⊥) channels → new file ≡ old file
+
+-- and of the topic's own
+abbrev pub OnlyTheirFiles : (topic : List ℕ) → List (List ℕ × Bool) → Files → Files → Type 0
+OnlyTheirFiles topic channels old new = (file : List ℕ) → (IsFileOf topic file → ⊥) → All (λ c. IsFileOf (queue_name topic c.0) file → ⊥) channels → new file ≡ old file
+
+-- what the opening of these channels leaves to be found: each queue's list and each queue's bad metadata, and none of theirs had any. Nothing changes but
+-- their files
+pub record LeavesFound (topic : List ℕ) (done : List (List ℕ × Bool)) (old new : Files) : Type 0 where
+  pub again : ListsStay old new
+  pub good : NoChannelIsBad topic done old
+  pub bad : BadStays old new
+  pub only : OnlyChannelFiles topic done old new
 
 -- a hall as it is once a topic was opened into it: the topic with its channels joined, all of them saved
 pub record OpensRoom (options : Options) (topic : List ℕ) (on : Bool) (old new : List Room) : Type 0 where

@@ -7,13 +7,13 @@ ghost use Rattle.queue_opening.specs.Refusals.{OpenFails};
 ghost use Rattle.disk_queue.specs.Opened.{FilesOfChange};
 ghost use Rattle.v2_frame.specs.declared.message.Message.{Message};
 ghost use Rattle.history.specs.Found.{HasMessages};
-ghost use Rattle.backlog.specs.Lists.{OpenRefused};
+ghost use Rattle.backlog.specs.Lists.{IsFoundAgain, OpenRefused};
 ghost use Rattle.broker_history.specs.Found.{started_channel};
 ghost use Rattle.topic_core.specs.Kept.{IsNamed};
 ghost use Rattle.channel_core.specs.Seen.{queue_name};
 ghost use Rattle.floor_rooms.specs.Rooms.{channel_name, put_stall, stall_in};
 ghost use Rattle.floor_rooms.specs.Standing.{IsStallOf};
-ghost use Rattle.floor_opening.specs.Opened.{AreApart, HasOpened, IsOpenedStall, OnlyTopicFiles, RefusesChannel};
+ghost use Rattle.floor_opening.specs.Opened.{AreApart, HasOpened, IsOpenedStall, LeavesFound, ListsStay, OnlyChannelFiles, OnlyTopicFiles, RefusesChannel};
 
 use channel_core::Channel;
 use floor_rooms::{Hall, Room, Stall};
@@ -37,6 +37,9 @@ pub fn open_channels<F: Folder>(
     requires named { IsNamed topic room.old.queue.backlog }
     requires empty { room.old.stalls.items ≡ [] }
     ensures opened { OnOk result (HasOpened F.tells_files hall.now.options topic channels.now (F.files folder.old) (F.files folder.new) (F.folder_faults folder.old) (F.folder_faults folder.new) room.old room.new) }
+    ensures leaves { IsTrue F.tells_files → OnOk result (LeavesFound topic channels.now (F.files folder.old) (F.files folder.new)) }
+    ensures again { IsTrue F.tells_files → ListsStay (F.files folder.old) (F.files folder.new) }
+    ensures theirs { IsTrue F.tells_files → OnlyChannelFiles topic channels.now (F.files folder.old) (F.files folder.new) }
     ensures refused { IsTrue F.tells_files → IfErr result (λ e. RefusesChannel topic channels.now (F.files folder.old) (F.files folder.new) e) }
     ensures files { IsTrue F.tells_files → OnlyTopicFiles topic (F.files folder.old) (F.files folder.new) }
     ensures faults { F.folder_faults folder.old ≤ F.folder_faults folder.new }
@@ -65,6 +68,7 @@ fn open_stall<F: Folder>(
     ensures stall { IfOk result (IsOpenedStall hall.now.options topic) }
     ensures named { IfOk result (λ s. channel_name s ≡ channel) }
     ensures told { IsTrue F.tells_files → IfOk result (λ s. (messages : List Message) → HasMessages (F.files folder.old) (queue_name topic channel) messages → IsStallOf (F.files folder.new) s (started_channel (record { name = channel; paused = paused; messages = messages }))) }
+    ensures again { IsTrue F.tells_files → OnOk result (IsFoundAgain (queue_name topic channel) (F.files folder.old) (F.files folder.new)) }
     ensures refused { IsTrue F.tells_files → IfErr result (λ e. OpenRefused (queue_name topic channel) (F.files folder.old) (F.files folder.new) e) }
     ensures others { IsTrue F.tells_files → FilesOfChange (queue_name topic channel) (F.files folder.old) (F.files folder.new) }
     ensures faults { F.folder_faults folder.old ≤ F.folder_faults folder.new }

@@ -6,12 +6,12 @@ ghost use Rattle.queue_opening.specs.Refusals.{OpenFails};
 ghost use Rattle.disk_queue.specs.Opened.{FilesOfChange};
 ghost use Rattle.v2_frame.specs.declared.message.Message.{Message};
 ghost use Rattle.history.specs.Found.{HasMessages};
-ghost use Rattle.backlog.specs.Lists.{OpenRefused};
+ghost use Rattle.backlog.specs.Lists.{IsFoundAgain, OpenRefused};
 ghost use Rattle.topic_core.specs.Rows.{found_topic, paused_in};
 ghost use Rattle.floor_rooms.specs.Rooms.{put_room, room_in, topic_name};
 ghost use Rattle.floor_rooms.specs.Sound.{IsSound};
 ghost use Rattle.floor_rooms.specs.Standing.{IsRoomOf};
-ghost use Rattle.floor_opening.specs.Opened.{AreApart, IsOpenedRoom, OnlyTopicFiles, OpensRoom, OpensTo, RefusesTopic};
+ghost use Rattle.floor_opening.specs.Opened.{AreApart, BadStays, IsOpenedRoom, ListsStay, NoneIsBad, OnlyTheirFiles, OnlyTopicFiles, OpensRoom, OpensTo, RefusesTopic};
 
 use crate::channels::open_channels;
 use floor_rooms::{Hall, Room};
@@ -37,6 +37,10 @@ pub fn open_topic<F: Folder>(
     requires new { room_in hall.old.rooms.items topic ≡ None }
     ensures opens { OnOk result (OpensRoom hall.old.options topic paused hall.old.rooms.items hall.new.rooms.items) }
     ensures told { IsTrue F.tells_files → OnOk result (OpensTo topic paused channels.now hall.old (F.files folder.old) hall.new (F.files folder.new)) }
+    ensures again { IsTrue F.tells_files → ListsStay (F.files folder.old) (F.files folder.new) }
+    ensures good { IsTrue F.tells_files → OnOk result (NoneIsBad topic channels.now (F.files folder.old)) }
+    ensures theirs { IsTrue F.tells_files → OnlyTheirFiles topic channels.now (F.files folder.old) (F.files folder.new) }
+    ensures bad { IsTrue F.tells_files → OnOk result (BadStays (F.files folder.old) (F.files folder.new)) }
     ensures same { OnErr result (hall.new.rooms.items ≡ hall.old.rooms.items) }
     ensures rest { hall.new ≡ record hall.old { rooms = hall.new.rooms; pending = hall.new.pending } }
     ensures sound { IsSound hall.new }
@@ -63,6 +67,7 @@ fn open_queue<F: Folder>(
     ensures room { IfOk result (IsOpenedRoom hall.now.options topic paused) }
     ensures empty { IfOk result (λ r. r.stalls.items ≡ []) }
     ensures told { IsTrue F.tells_files → IfOk result (λ r. (messages : List Message) → HasMessages (F.files folder.old) topic messages → IsRoomOf (F.files folder.new) r (paused_in paused (found_topic topic messages))) }
+    ensures again { IsTrue F.tells_files → OnOk result (IsFoundAgain topic (F.files folder.old) (F.files folder.new)) }
     ensures refused { IsTrue F.tells_files → IfErr result (λ e. OpenRefused topic (F.files folder.old) (F.files folder.new) e) }
     ensures others { IsTrue F.tells_files → FilesOfChange topic (F.files folder.old) (F.files folder.new) }
     ensures faults { F.folder_faults folder.old ≤ F.folder_faults folder.new }

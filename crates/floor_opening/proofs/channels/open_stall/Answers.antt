@@ -11,3 +11,6 @@ returns-clause-told g c = λ told messages has.
     let durable = or_false (is_ephemeral c.args.topic) (is_ephemeral c.args.channel) c.requires.durable c.requires.also in
     opened_stall_of (g.F.Folder.files c.open.new.folder) c.args.topic c.args.channel c.args.paused c.args.hall.now.options c.in_ok-opened.opened (record { channel = c.pause.new.self; since = None; members = c.new.result }) messages c.pause.ensures c.in_ok-opened.ensures.seen durable
     (c.in_ok-opened.ensures.list told durable messages (was_found (g.F.Folder.files c.args.folder.now) (queue_name c.args.topic c.args.channel) messages has)) (c.in_ok-opened.ensures.stands told)
+
+pub returns-clause-again : goal.returns-clause-again
+returns-clause-again g c = λ told. c.in_ok-opened.ensures.again told (or_false (is_ephemeral c.args.topic) (is_ephemeral c.args.channel) c.requires.durable c.requires.also)

@@ -12,3 +12,6 @@ returns-clause-told g c = λ told messages has.
     opened_room_of before after c.args.topic c.args.paused messages (record { queue = c.pause.new.self; since = None; listed = true; names = None; stalls = c.new.result }) has c.new.ensures.items
     (c.pause.ensures.row after (found_topic c.args.topic messages) (c.in_ok-queue.ensures.row told messages (finds_messages before c.args.topic messages c.requires has)))
     (subst (λ (q : TopicSeen). Stands q.backlog.queue after) (sym c.pause.ensures.seen) (c.in_ok-queue.ensures.stands told))
+
+pub returns-clause-again : goal.returns-clause-again
+returns-clause-again g c = λ told. c.in_ok-queue.ensures.again told c.requires

@@ -8,6 +8,7 @@ use Rattle.floor_rooms.specs.Rooms.{put_room, room_in}
 use Rattle.floor_opening.specs.Opened.{IsOpenedRoom, IsOpenedStall, RefusesTopic, kept_channels, opened_topic}
 use Rattle.floor_opening.proofs.Parting.{handed_on}
 use Rattle.floor_opening.proofs.Joining.{found_later, opened_with, put_sound, put_stands, refuses_later, rest_both}
+use Rattle.floor_opening.proofs.Leaving.{bad_opened, bad_then, lists_opened, lists_refused, lists_same, lists_then, none_bad}
 use Rattle.floor_opening.proofs.opening.open_topic.Goals as goal
 
 pub returns-in_err-room-clause-files : goal.returns-in_err-room-clause-files
@@ -60,3 +61,30 @@ returns-clause-sound g c =
 
 pub returns-clause-files : goal.returns-clause-files
 returns-clause-files g c = λ told file no_topic no_channel. c.open_channels.ensures.files told file no_topic no_channel ∙ c.open_queue.ensures.others told file no_topic
+
+pub returns-in_err-room-clause-again : goal.returns-in_err-room-clause-again
+returns-in_err-room-clause-again g c = λ told. lists_refused c.args.topic (g.F.Folder.files c.args.folder.now) (g.F.Folder.files c.open_queue.new.folder) c.in_err-room.field-0.0 (c.open_queue.ensures.others told) (c.in_err-room.ensures.refused told)
+
+pub returns-in_err-open_channels-clause-again : goal.returns-in_err-open_channels-clause-again
+returns-in_err-open_channels-clause-again g c = λ told. lists_then (g.F.Folder.files c.args.folder.now) (g.F.Folder.files c.open_queue.new.folder) (g.F.Folder.files c.open_channels.new.folder) (lists_opened c.args.topic (g.F.Folder.files c.args.folder.now) (g.F.Folder.files c.open_queue.new.folder) (c.open_queue.ensures.others told) (c.in_ok-room.ensures.again told)) (c.open_channels.ensures.again told)
+
+pub returns-clause-again : goal.returns-clause-again
+returns-clause-again g c = λ told. lists_then (g.F.Folder.files c.args.folder.now) (g.F.Folder.files c.open_queue.new.folder) (g.F.Folder.files c.open_channels.new.folder) (lists_opened c.args.topic (g.F.Folder.files c.args.folder.now) (g.F.Folder.files c.open_queue.new.folder) (c.open_queue.ensures.others told) (c.in_ok-room.ensures.again told)) (c.open_channels.ensures.again told)
+
+pub returns-clause-good : goal.returns-clause-good
+returns-clause-good g c = λ told. none_bad c.args.topic c.args.channels.now (g.F.Folder.files c.args.folder.now) (g.F.Folder.files c.open_queue.new.folder) (g.F.Folder.files c.open_channels.new.folder) (c.open_queue.ensures.others told) (c.in_ok-room.ensures.again told) (c.in_ok-open_channels.ensures.leaves told)
+
+pub returns-clause-bad : goal.returns-clause-bad
+returns-clause-bad g c = λ told. bad_then (g.F.Folder.files c.args.folder.now) (g.F.Folder.files c.open_queue.new.folder) (g.F.Folder.files c.open_channels.new.folder) (bad_opened c.args.topic (g.F.Folder.files c.args.folder.now) (g.F.Folder.files c.open_queue.new.folder) (c.open_queue.ensures.others told) (c.in_ok-room.ensures.again told)) (c.in_ok-open_channels.ensures.leaves told).bad
+
+pub returns-in_err-room-clause-theirs : goal.returns-in_err-room-clause-theirs
+returns-in_err-room-clause-theirs g c = λ told file no_topic no_channel. c.open_queue.ensures.others told file no_topic
+
+pub returns-in_err-open_channels-clause-theirs : goal.returns-in_err-open_channels-clause-theirs
+returns-in_err-open_channels-clause-theirs g c = λ told file no_topic no_channel. c.open_channels.ensures.theirs told file no_channel ∙ c.open_queue.ensures.others told file no_topic
+
+pub returns-clause-theirs : goal.returns-clause-theirs
+returns-clause-theirs g c = λ told file no_topic no_channel. c.open_channels.ensures.theirs told file no_channel ∙ c.open_queue.ensures.others told file no_topic
+
+pub returns-in_err-reserve_room-clause-again : goal.returns-in_err-reserve_room-clause-again
+returns-in_err-reserve_room-clause-again g c = λ told. lists_same (g.F.Folder.files c.args.folder.now)

@@ -1,0 +1,128 @@
+//! Texts that are bad.
+
+use crate::held::good_text;
+use nsq_base::Memory;
+
+// No object in JSON.
+const SHAPES: [&str; 18] = [
+    "",
+    " ",
+    "null",
+    "[]",
+    "true",
+    "0",
+    r#""{}""#,
+    "{",
+    "{}}",
+    "{} x",
+    "{}{}",
+    r#"{"a":1,}"#,
+    "{a:1}",
+    r#"{"a":01}"#,
+    r#"{"a":"\ud800"}"#,
+    r#"{"a":1e400}"#,
+    r#"{"topics":[{"name":"t"}]"#,
+    "\u{feff}{}",
+];
+
+// Epochs and lists of topics that are of another kind or out of range.
+const FILES: [&str; 21] = [
+    r#"{"id_epoch":16777216}"#,
+    r#"{"id_epoch":4294967296}"#,
+    r#"{"id_epoch":18446744073709551616}"#,
+    r#"{"id_epoch":-1}"#,
+    r#"{"id_epoch":-0}"#,
+    r#"{"id_epoch":1.5}"#,
+    r#"{"id_epoch":1.0}"#,
+    r#"{"id_epoch":1e0}"#,
+    r#"{"id_epoch":"1"}"#,
+    r#"{"id_epoch":true}"#,
+    r#"{"id_epoch":[]}"#,
+    r#"{"id_epoch":{}}"#,
+    r#"{"id_epoch":7,"id_epoch":16777216}"#,
+    r#"{"topics":0}"#,
+    r#"{"topics":"t"}"#,
+    r#"{"topics":true}"#,
+    r#"{"topics":{}}"#,
+    r#"{"topics":[null]}"#,
+    r#"{"topics":["t"]}"#,
+    r#"{"topics":[[]]}"#,
+    r#"{"topics":[{"name":"t"},1]}"#,
+];
+
+// Topics.
+const TOPICS: [&str; 21] = [
+    r#"{"topics":[{}]}"#,
+    r#"{"topics":[{"paused":true}]}"#,
+    r#"{"topics":[{"name":null}]}"#,
+    r#"{"topics":[{"name":1}]}"#,
+    r#"{"topics":[{"name":["t"]}]}"#,
+    r#"{"topics":[{"name":""}]}"#,
+    r#"{"topics":[{"name":"a b"}]}"#,
+    r#"{"topics":[{"name":"é"}]}"#,
+    r#"{"topics":[{"name":"t\u0000"}]}"#,
+    r##"{"topics":[{"name":"#ephemeral"}]}"##,
+    r#"{"topics":[{"name":"t#ephemera"}]}"#,
+    r#"{"topics":[{"name":"t#ephemeral#ephemeral"}]}"#,
+    r#"{"topics":[{"name":"abcdefghabcdefghabcdefghabcdefghabcdefghabcdefghabcdefghabcdefghi"}]}"#,
+    r#"{"topics":[{"name":"abcdefghabcdefghabcdefghabcdefghabcdefghabcdefghabcdefg#ephemeral"}]}"#,
+    r#"{"topics":[{"name":"t","paused":0}]}"#,
+    r#"{"topics":[{"name":"t","paused":"true"}]}"#,
+    r#"{"topics":[{"name":"t","paused":[]}]}"#,
+    r#"{"topics":[{"name":"e#ephemeral","paused":1}]}"#,
+    r#"{"topics":[{"name":"t"},{"name":"t"}]}"#,
+    r#"{"topics":[{"name":"t"},{"name":"a"},{"name":"z"},{"name":"t","paused":true}]}"#,
+    r#"{"topics":[{"name":"t"},{"name":"e#ephemeral"},{"name":"\u0074"}]}"#,
+];
+
+// Channels.
+const CHANNELS: [&str; 20] = [
+    r#"{"topics":[{"name":"t","channels":0}]}"#,
+    r#"{"topics":[{"name":"t","channels":"c"}]}"#,
+    r#"{"topics":[{"name":"t","channels":false}]}"#,
+    r#"{"topics":[{"name":"t","channels":{}}]}"#,
+    r#"{"topics":[{"name":"t","channels":[null]}]}"#,
+    r#"{"topics":[{"name":"t","channels":["c"]}]}"#,
+    r#"{"topics":[{"name":"t","channels":[{}]}]}"#,
+    r#"{"topics":[{"name":"t","channels":[{"name":null}]}]}"#,
+    r#"{"topics":[{"name":"t","channels":[{"name":1}]}]}"#,
+    r#"{"topics":[{"name":"t","channels":[{"name":""}]}]}"#,
+    r#"{"topics":[{"name":"t","channels":[{"name":"a/b"}]}]}"#,
+    r#"{"topics":[{"name":"t","channels":[{"name":"abcdefghabcdefghabcdefghabcdefghabcdefghabcdefghabcdefghabcdefghi"}]}]}"#,
+    r#"{"topics":[{"name":"t","channels":[{"name":"c","paused":1}]}]}"#,
+    r#"{"topics":[{"name":"t","channels":[{"name":"c","paused":{}}]}]}"#,
+    r#"{"topics":[{"name":"t","channels":[{"name":"e#ephemeral","paused":"x"}]}]}"#,
+    r#"{"topics":[{"name":"t","channels":[{"name":"c"},{"name":"c"}]}]}"#,
+    r#"{"topics":[{"name":"t","channels":[{"name":"c","paused":true},{"name":"b"},{"name":"c"}]}]}"#,
+    r#"{"topics":[{"name":"a"},{"name":"t","channels":[{"name":"c"},{"name":"c"}]}]}"#,
+    r#"{"topics":[{"name":"e#ephemeral","channels":[{"name":"c"},{"name":"c"}]}]}"#,
+    r#"{"topics":[{"name":"e#ephemeral","channels":[{"name":"a b"}]}]}"#,
+];
+
+#[test]
+fn shapes(rt: HostRuntime) -> Result<(), Memory> {
+    let good = good_text(rt.alloc(), &SHAPES)?;
+    assert!(rt; good.is_none(), "{}", good.unwrap_or(""));
+    Ok(())
+}
+
+#[test]
+fn files(rt: HostRuntime) -> Result<(), Memory> {
+    let good = good_text(rt.alloc(), &FILES)?;
+    assert!(rt; good.is_none(), "{}", good.unwrap_or(""));
+    Ok(())
+}
+
+#[test]
+fn topics(rt: HostRuntime) -> Result<(), Memory> {
+    let good = good_text(rt.alloc(), &TOPICS)?;
+    assert!(rt; good.is_none(), "{}", good.unwrap_or(""));
+    Ok(())
+}
+
+#[test]
+fn channels(rt: HostRuntime) -> Result<(), Memory> {
+    let good = good_text(rt.alloc(), &CHANNELS)?;
+    assert!(rt; good.is_none(), "{}", good.unwrap_or(""));
+    Ok(())
+}

@@ -1,0 +1,5 @@
+pub mod Stems
+pub mod Colons
+pub mod Listing
+pub mod Sweeps
+pub mod Staying

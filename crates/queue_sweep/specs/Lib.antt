@@ -1,0 +1,5 @@
+pub mod Forms
+pub mod Names
+pub mod Swept
+pub mod Steps
+pub mod Laws

@@ -161,14 +161,7 @@ fn fill(alloc: Global, bench: &mut Bench, topic: usize) -> Result<(), Memory> {
 
 // What is left of all topics where no call fails; none where that isn't what was filled in.
 fn make_base(alloc: Global) -> Result<Option<Base>, Memory> {
-    let (Some(early), Some(late)) = (filled(alloc, &[])?, filled(alloc, &[])?) else {
-        return Ok(None);
-    };
-    let mut folder = folder_in(early.leave());
-    let calls = folder.called().len() as u64;
-    let files = files_in(alloc, &mut folder)?;
-    let names = Vec::from_slice(alloc, bytes_of(&files, NAMES).unwrap_or(b""))?;
-    let Some(files) = shut_files(alloc, late)? else {
+    let (Some((calls, names)), Some(files)) = (early(alloc)?, late(alloc)?) else {
         return Ok(None);
     };
     let files = with_file(alloc, &files, UNLISTED, b"x")?;
@@ -183,8 +176,21 @@ fn make_base(alloc: Global) -> Result<Option<Base>, Memory> {
     }
 }
 
-// The files that are left; none where they aren't shut cleanly.
-fn shut_files(alloc: Global, bench: Bench) -> Result<Option<Vec<NamedFile>>, Memory> {
+// How many calls were made once all topics are filled, and the file of names then.
+fn early(alloc: Global) -> Result<Option<(u64, Vec<u8>)>, Memory> {
+    let Some(bench) = filled(alloc, &[])? else {
+        return Ok(None);
+    };
+    let folder = folder_in(bench.leave());
+    let names = Vec::from_slice(alloc, folder.file(NAMES).unwrap_or(b""))?;
+    Ok(Some((folder.called().len() as u64, names)))
+}
+
+// The files that are left of all topics; none where they aren't shut cleanly.
+fn late(alloc: Global) -> Result<Option<Vec<NamedFile>>, Memory> {
+    let Some(bench) = filled(alloc, &[])? else {
+        return Ok(None);
+    };
     let (end, left) = bench.shut();
     if end != ShutEnd::Clean {
         return Ok(None);
@@ -270,48 +276,54 @@ fn refusal(alloc: Global, base: &Base, why: Why, mut folder: MemFolder) -> Resul
 
 // Saving of which this call fails: once it is left then, and once it is tried again.
 fn saving(alloc: Global, base: &Base, call: u64) -> Result<Tried, Memory> {
-    let fails = failing(call, 1);
-    let (Some(first), Some(second)) = (filled(alloc, &fails)?, filled(alloc, &fails)?) else {
-        return Ok(Tried::Wrong("it isn't opened"));
-    };
-    match saved_once(alloc, base, call, first)? {
-        Tried::Right => saved_again(alloc, base, second),
+    match saved_once(alloc, base, call)? {
+        Tried::Right => saved_again(alloc, base, call),
         other => Ok(other),
     }
 }
 
 // Behind a saving that failed the file of names is the old or the new one, and the names are still to be saved.
-fn saved_once(alloc: Global, base: &Base, call: u64, mut bench: Bench) -> Result<Tried, Memory> {
+fn saved_once(alloc: Global, base: &Base, call: u64) -> Result<Tried, Memory> {
+    let Some(mut bench) = filled(alloc, &failing(call, 1))? else {
+        return Ok(Tried::Wrong("it isn't opened"));
+    };
     if answers(&mut bench, "save", b"done")? {
         return Ok(passed(folder_in(bench.leave()), call));
     }
     if !answers(&mut bench, "changed", b"yes")? {
         return Ok(Tried::Wrong("nothing is to be saved any longer"));
     }
-    let files = files_in(alloc, &mut folder_in(bench.leave()))?;
-    if has_names(base, &files) {
+    if has_names(base, folder_in(bench.leave()).file(NAMES)) {
         return Ok(Tried::Right);
     }
     Ok(Tried::Wrong("the file of names is another"))
 }
 
 // Saving that failed is made once more, and all is saved.
-fn saved_again(alloc: Global, base: &Base, mut bench: Bench) -> Result<Tried, Memory> {
-    let failed = answers(&mut bench, "save", b"fault")?;
-    let done = answers(&mut bench, "save", b"done")?;
-    if !failed || !done || !answers(&mut bench, "changed", b"no")? {
+fn saved_again(alloc: Global, base: &Base, call: u64) -> Result<Tried, Memory> {
+    let Some(mut bench) = filled(alloc, &failing(call, 1))? else {
+        return Ok(Tried::Wrong("it isn't opened"));
+    };
+    if !saves_then(&mut bench)? {
         return Ok(Tried::Wrong("it can't be saved again"));
     }
-    let files = files_in(alloc, &mut folder_in(bench.leave()))?;
-    if bytes_of(&files, NAMES) != bytes_of(&base.files, NAMES) {
+    if folder_in(bench.leave()).file(NAMES) != bytes_of(&base.files, NAMES) {
         return Ok(Tried::Wrong("something else is saved"));
     }
     Ok(Tried::Right)
 }
 
+// Whether saving fails, and is done as it is made once more.
+fn saves_then(bench: &mut Bench) -> Result<bool, Memory> {
+    Ok(
+        answers(bench, "save", b"fault")?
+            && answers(bench, "save", b"done")?
+            && answers(bench, "changed", b"no")?,
+    )
+}
+
 // Whether the file of names is the old or the new one.
-fn has_names(base: &Base, files: &[NamedFile]) -> bool {
-    let names = bytes_of(files, NAMES);
+fn has_names(base: &Base, names: Option<&[u8]>) -> bool {
     names == Some(base.names.as_slice()) || names == bytes_of(&base.files, NAMES)
 }
 
@@ -355,7 +367,7 @@ fn shut_fails(
         ShutEnd::Fault => {}
     }
     let files = files_in(alloc, &mut folder)?;
-    if has_names(base, &files) {
+    if has_names(base, bytes_of(&files, NAMES)) {
         return Ok(Ok(files));
     }
     Ok(Err(Tried::Wrong("the file of names is another")))

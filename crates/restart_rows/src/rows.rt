@@ -64,13 +64,13 @@ pub const ROW: Row = Row {
     runs: &[],
 };
 
-// What a run did: its files before and behind it, its options, its opening moment, and how it was shut.
+// What a run did: its options, its opening moment, how it was shut, what its floor left, and its files behind it.
 #[derive(Drop)]
 struct Ran {
-    before: Vec<NamedFile>,
     options: Options,
     began: u64,
     end: Option<ShutEnd>,
+    left: Left,
     after: Vec<NamedFile>,
 }
 
@@ -118,26 +118,36 @@ fn service_differs(
     options: Options,
     mut bench: Bench,
 ) -> Result<Vec<u8>, Memory> {
-    if run.refused.is_some() {
-        return said(alloc, "the opening", b"isn't refused");
-    }
-    let began = bench.began();
-    let wrong = lines_differ(alloc, &mut bench, run.lines)?;
+    let wrong = start_differs(alloc, run, &mut bench)?;
     if !wrong.is_empty() {
         return Ok(wrong);
     }
+    let ran = finish(alloc, run, options, bench)?;
+    let wrong = end_differs(alloc, run, files, &ran)?;
+    *files = ran.after;
+    Ok(wrong)
+}
+
+// What differs until a run is shut.
+fn start_differs(alloc: Global, run: &Run, bench: &mut Bench) -> Result<Vec<u8>, Memory> {
+    if run.refused.is_some() {
+        return said(alloc, "the opening", b"isn't refused");
+    }
+    lines_differ(alloc, bench, run.lines)
+}
+
+// Ends a run.
+fn finish(alloc: Global, run: &Run, options: Options, bench: Bench) -> Result<Ran, Memory> {
+    let began = bench.began();
     let (end, mut left) = ended(run, bench);
     let after = files_in(alloc, &mut left.folder)?;
-    let ran = Ran {
-        before: std::mem::replace(files, Vec::new(alloc)),
+    Ok(Ran {
         options,
         began,
         end,
+        left,
         after,
-    };
-    let wrong = end_differs(alloc, run, &ran, left.journal.entries())?;
-    *files = ran.after;
-    Ok(wrong)
+    })
 }
 
 // Shuts a floor, or lets it go where the run says so.
@@ -177,17 +187,18 @@ fn line_differs(alloc: Global, bench: &mut Bench, line: &str) -> Result<Vec<u8>,
     said(alloc, line, &told)
 }
 
-// What differs in what a run noted and left.
+// What differs in what a run over these files noted and left.
 fn end_differs(
     alloc: Global,
     run: &Run,
+    before: &[NamedFile],
     ran: &Ran,
-    entries: &[(Entry, End)],
 ) -> Result<Vec<u8>, Memory> {
     if ran.end != run.end {
         return said(alloc, "the end", b"is another");
     }
-    let states = states_of(alloc, &ran.options, &ran.before, ran.began, entries)?;
+    let entries = ran.left.journal.entries();
+    let states = states_of(alloc, &ran.options, before, ran.began, entries)?;
     if states.is_empty() {
         return said(alloc, "the history", b"isn't legal");
     }

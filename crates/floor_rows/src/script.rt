@@ -15,7 +15,7 @@ use backlog::Flushed;
 use broker_floor::Floor;
 use broker_history::Entry;
 use desk::{Call, Turned};
-use floor_words::KeptTopic;
+use names_file::KeptTopic;
 use nsq_base::{Memory, Options};
 use nsq_fakes::MemFolder;
 use nsq_outside::{End, Kit};

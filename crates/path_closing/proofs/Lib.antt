@@ -1,0 +1,4 @@
+pub mod Apart
+pub mod Finding
+pub mod Leaving
+pub mod Storing

@@ -1,0 +1,11 @@
+//! What a daemon leaves in its data path: the file of its durable names, `nsqd.dat`, is saved while it runs, and the messages and the names are written
+//! as it is shut.
+#![tactic(auto)]
+
+mod laws;
+mod saving;
+mod shutting;
+
+pub use laws::names_are_kept;
+pub use saving::{Saved, save};
+pub use shutting::{ShutEnd, shut};

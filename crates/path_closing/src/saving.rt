@@ -1,0 +1,84 @@
+ghost use Rattle.std.specs.Prelude.{◌≡◌, ◌≤◌, false, IfOk, IsTrue};
+ghost use Rattle.nsq_outside.specs.Files.{SameFiles};
+ghost use Rattle.queue_files.specs.Replaced.{OnlyTwoChange};
+ghost use Rattle.history.specs.Data.{data_name};
+ghost use Rattle.names_file.specs.Texts.{kept_of};
+ghost use Rattle.broker_history.specs.State.{State};
+ghost use Rattle.floor_rooms.specs.Kept.{hall_kept};
+ghost use Rattle.floor_rooms.specs.Standing.{HoldsFor};
+ghost use Rattle.path_closing.specs.Closings.{HeldBehind, IsTextOf, KeepsNames, OldOrNew, SaveFails, WhereSaved, WhereSaveWants, temp_name};
+
+use broker_floor::Floor;
+use broker_history::Entry;
+use names_file::write_names;
+use nsq_base::Memory;
+use nsq_outside::{Clock, Did, Folder, Journal};
+use std::alloc::Global;
+
+/// The file of the durable names.
+pub(crate) const NAMES: &str = "nsqd.dat";
+
+/// What the file of names is called while it is written.
+pub(crate) const NAMES_TEMP: &str = "nsqd.dat.tmp";
+
+/// The most bytes that the file of names has.
+const LONGEST_NAMES: usize = 1 << 24;
+
+/// How saving the names ended.
+#[derive(Clone, Copy, PartialEq, Eq)]
+pub enum Saved {
+    /// They are in the folder, durably.
+    Done,
+    /// The folder failed, and its count of faults rose in this call. The file has its old content or the new one.
+    Fault,
+    /// Want of memory for the text, or one of more than 16 MiB. No file changed.
+    Memory,
+}
+
+/// Writes the file of the durable names as they are: the run's epoch, and the durable topics and channels with their pauses. At every moment the file has
+/// its old content or the new one. Where that is done the floor notes that no name is unsaved; after another answer it still says what was to be saved.
+/// Requires that the floor wasn't flushed.
+pub fn save<F: Folder, C: Clock, J: Journal<Entry>>(
+    alloc: Global,
+    floor: &mut Floor<F, C, J>,
+) -> Saved
+    requires unflushed { floor.old.held.flushed ≡ false }
+    ensures names { IsTrue F.tells_files → WhereSaved result (KeepsNames (F.files floor.new.folder) (kept_of floor.old.held.hall.epoch (hall_kept floor.old.held.hall))) }
+    ensures held { HeldBehind result floor.old.held floor.new.held }
+    ensures stands { IsTrue F.tells_files → (s : State) → HoldsFor floor.old.held.hall (F.files floor.old.folder) s → HoldsFor floor.new.held.hall (F.files floor.new.folder) s }
+    ensures text { IsTrue F.tells_files → OldOrNew (F.files floor.old.folder) (F.files floor.new.folder) (kept_of floor.old.held.hall.epoch (hall_kept floor.old.held.hall)) }
+    ensures memory { IsTrue F.tells_files → WhereSaveWants result (SameFiles (F.files floor.old.folder) (F.files floor.new.folder)) }
+    ensures others { IsTrue F.tells_files → OnlyTwoChange (F.files floor.old.folder) (F.files floor.new.folder) data_name temp_name }
+    ensures clock { floor.new.clock ≡ floor.old.clock }
+    ensures journal { floor.new.journal ≡ floor.old.journal }
+    ensures faults { F.folder_faults floor.old.folder ≤ F.folder_faults floor.new.folder }
+    ensures cause { SaveFails (F.folder_faults floor.old.folder) (F.folder_faults floor.new.folder) result }
+{
+    let Ok(text) = text_of(alloc, floor) else {
+        return Saved::Memory;
+    };
+    match floor.store(NAMES, NAMES_TEMP, &text) {
+        Did::Done => {
+            floor.saved();
+            Saved::Done
+        }
+        Did::Failed => Saved::Fault,
+    }
+}
+
+// The text of the file of names, as they are. Want of memory is the only error, also for a text of more than 16 MiB.
+pub(crate) fn text_of<F: Folder, C: Clock, J: Journal<Entry>>(
+    alloc: Global,
+    floor: &Floor<F, C, J>,
+) -> Result<Vec<u8>, Memory>
+    requires { floor.now.held.flushed ≡ false }
+    ensures { IfOk result (λ text. IsTextOf text.items (kept_of floor.now.held.hall.epoch (hall_kept floor.now.held.hall))) }
+{
+    let kept = floor.kept(alloc)?;
+    let mut text = Vec::new(alloc);
+    write_names(alloc, floor.epoch(), &kept, &mut text)?;
+    if text.len() > LONGEST_NAMES {
+        return Err(Memory);
+    }
+    Ok(text)
+}

@@ -1,0 +1,101 @@
+ghost use Rattle.std.specs.Prelude.{◌≡◌, ◌≤◌, false, true, IsTrue};
+ghost use Rattle.nsq_outside.specs.Causes.{DidFails};
+ghost use Rattle.queue_files.specs.Replaced.{OnlyTwoChange, Replaces};
+ghost use Rattle.history.specs.Data.{data_name};
+ghost use Rattle.names_file.specs.Texts.{kept_of};
+ghost use Rattle.broker_history.specs.State.{State};
+ghost use Rattle.floor_rooms.specs.Kept.{hall_kept};
+ghost use Rattle.floor_rooms.specs.Standing.{HoldsFor};
+ghost use Rattle.path_closing.specs.Closings.{KeepsNames, Leaves, MissesSome, NamesStay, OldOrNew, ShutChanges, ShutFails, ShutsDown, WhereClean, WhereShutWants, shut_end, temp_name};
+
+use crate::saving::{NAMES, NAMES_TEMP, text_of};
+use backlog::Flushed;
+use broker_floor::Floor;
+use broker_history::Entry;
+use nsq_outside::{Clock, Did, Folder, Journal, Kit};
+use std::alloc::Global;
+
+/// How a floor was shut.
+#[derive(Clone, Copy, PartialEq, Eq)]
+pub enum ShutEnd {
+    /// All that was left is in the folder, durably: the messages and the names.
+    Clean,
+    /// The folder failed: its count of faults rose in this call, or a disk fault had kept the Stop's turn from paying all that was owed.
+    Fault,
+    /// Want of memory for the text of the file of names, or one of more than 16 MiB. The messages were written, as far as the folder let them.
+    Memory,
+}
+
+/// Writes the messages that are left into the queues' files, then the file of the durable names, and gives the kit back. The messages take no memory.
+/// Clock and journal are as they were.
+///
+/// After Clean an opening finds all that the run left, each message as often, and nothing else; where the run had the last epoch it finds that none is
+/// left. A fault keeps nothing else from being written: after every answer no more queues were missed than the folder's count of faults rose, the names
+/// counted as one more where they were missed too. The file of names has its old content or the new one, and after Memory it is as it was.
+/// Requires that the floor wasn't flushed.
+pub fn shut<F: Folder, C: Clock, J: Journal<Entry>>(
+    alloc: Global,
+    floor: Floor<F, C, J>,
+) -> (ShutEnd, Kit<F, C, J>)
+    requires unflushed { floor.held.flushed ≡ false }
+    ensures clock { result.1.clock ≡ floor.clock }
+    ensures journal { result.1.journal ≡ floor.journal }
+    ensures names { IsTrue F.tells_files → WhereClean result.0 (KeepsNames (F.files result.1.folder) (kept_of floor.held.hall.epoch (hall_kept floor.held.hall))) }
+    ensures left { IsTrue F.tells_files → (s : State) → HoldsFor floor.held.hall (F.files floor.folder) s → WhereClean result.0 (Leaves s (F.files result.1.folder)) }
+    ensures queues { IsTrue F.tells_files → MissesSome result.0 (F.folder_faults floor.folder) (F.folder_faults result.1.folder) floor.held.hall (F.files floor.folder) (F.files result.1.folder) }
+    ensures text { IsTrue F.tells_files → OldOrNew (F.files floor.folder) (F.files result.1.folder) (kept_of floor.held.hall.epoch (hall_kept floor.held.hall)) }
+    ensures memory { IsTrue F.tells_files → WhereShutWants result.0 (NamesStay (F.files floor.folder) (F.files result.1.folder)) }
+    ensures files { IsTrue F.tells_files → ShutChanges (F.files floor.folder) (F.files result.1.folder) }
+    ensures faults { F.folder_faults floor.folder ≤ F.folder_faults result.1.folder }
+    ensures cause { ShutFails floor.held.hall.stuck (F.folder_faults floor.folder) (F.folder_faults result.1.folder) result.0 }
+{
+    let mut floor = floor;
+    let end = write_down(alloc, &mut floor);
+    (end, floor.end())
+}
+
+// Writes the messages that are left, then the names.
+fn write_down<F: Folder, C: Clock, J: Journal<Entry>>(
+    alloc: Global,
+    floor: &mut Floor<F, C, J>,
+) -> ShutEnd
+    requires unflushed { floor.old.held.flushed ≡ false }
+    ensures shuts { ShutsDown F.tells_files result floor.old.held.hall (F.files floor.old.folder) (F.files floor.new.folder) (F.folder_faults floor.old.folder) (F.folder_faults floor.new.folder) }
+    ensures clock { floor.new.clock ≡ floor.old.clock }
+    ensures journal { floor.new.journal ≡ floor.old.journal }
+{
+    // The names first, as long as the floor vouches that the file can keep them.
+    let text = text_of(alloc, floor);
+    let flushed = floor.flush();
+    let Ok(text) = text else {
+        return ShutEnd::Memory;
+    };
+    let stored = store_behind(floor, &text);
+    end_of(flushed, stored)
+}
+
+// Writes the text of the names. Requires that the messages were written before.
+fn store_behind<F: Folder, C: Clock, J: Journal<Entry>>(
+    floor: &mut Floor<F, C, J>,
+    text: &[u8],
+) -> Did
+    requires { floor.old.held.flushed ≡ true }
+    ensures content { IsTrue F.tells_files → Replaces (F.files floor.old.folder) (F.files floor.new.folder) data_name temp_name text.now result }
+    ensures others { IsTrue F.tells_files → OnlyTwoChange (F.files floor.old.folder) (F.files floor.new.folder) data_name temp_name }
+    ensures clock { floor.new.clock ≡ floor.old.clock }
+    ensures journal { floor.new.journal ≡ floor.old.journal }
+    ensures faults { F.folder_faults floor.old.folder ≤ F.folder_faults floor.new.folder }
+    ensures cause { DidFails (F.folder_faults floor.old.folder) (F.folder_faults floor.new.folder) result }
+{
+    floor.store(NAMES, NAMES_TEMP, text)
+}
+
+// How a floor is shut whose messages were written so, and whose names were stored so.
+fn end_of(flushed: Flushed, stored: Did) -> ShutEnd
+    ensures { result ≡ shut_end flushed stored }
+{
+    match (flushed, stored) {
+        (Flushed::Done, Did::Done) => ShutEnd::Clean,
+        (Flushed::Fault, _) | (Flushed::Done, Did::Failed) => ShutEnd::Fault,
+    }
+}

@@ -235,7 +235,7 @@ impl Left {
 /// The files of a folder.
 fn files_of(alloc: Global, folder: &mut MemFolder) -> Result<Vec<NamedFile>, Memory> {
     let mut names = Vec::new(alloc);
-    let Listing::Done = folder.list(alloc, &mut names) else {
+    let Listing::Done = folder.list(alloc, "", &mut names) else {
         return Err(Memory);
     };
     let mut files = Vec::new(alloc);

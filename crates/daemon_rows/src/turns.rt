@@ -486,7 +486,7 @@ fn are_files(
     files: &[(&str, &[u8])],
 ) -> Result<bool, Memory> {
     let mut names = Vec::new(alloc);
-    let Listing::Done = folder.list(alloc, &mut names) else {
+    let Listing::Done = folder.list(alloc, "", &mut names) else {
         return Err(Memory);
     };
     for (name, bytes) in files {

@@ -96,7 +96,7 @@ fn begin<F: Folder>(alloc: Global, folder: &mut F) -> Result<(), Why>
     ensures faults { F.folder_faults folder.old ≤ F.folder_faults folder.new }
 {
     let mut names = Vec::new(alloc);
-    match folder.list(alloc, &mut names) {
+    match folder.list(alloc, "", &mut names) {
         Listing::Done => {}
         Listing::Failed => return Err(Why::Fault),
         Listing::Memory => return Err(Why::Memory),

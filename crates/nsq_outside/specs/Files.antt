@@ -24,22 +24,26 @@ SameFiles old new = (name : List ℕ) → new name ≡ old name
 abbrev pub OnlyChanges : Files → Files → List ℕ → Type 0
 OnlyChanges old new name = (other : List ℕ) → other ≢ name → new other ≡ old other
 
--- the names are those of the files, each once
-pub record IsListing (files : Files) (names : List (List ℕ)) : Type 0 where
-  pub each : (name : List ℕ) → Contains names name ↔ IsSome (files name)
+-- a name begins with these bytes; each name begins with none
+abbrev pub BeginsWith : List ℕ → List ℕ → Type 0
+BeginsWith name beginning = take (length beginning) name ≡ beginning
+
+-- the names are those of the files whose names begin so, each once
+pub record IsListing (files : Files) (beginning : List ℕ) (names : List (List ℕ)) : Type 0 where
+  pub each : (name : List ℕ) → Contains names name ↔ (IsSome (files name) × BeginsWith name beginning)
   pub once : AllPairs (λ a b. a ≢ b) names
 
--- the names of the files joined the names that were there
-pub record AppendsListing (files : Files) (old new : List (String Global)) : Type 0 where
+-- the names of the files whose names begin so joined the names that were there
+pub record AppendsListing (files : Files) (beginning : List ℕ) (old new : List (String Global)) : Type 0 where
   pub added : List (String Global)
   pub appended : new ≡ old ++ added
-  pub listing : IsListing files (map string_bytes added)
+  pub listing : IsListing files beginning (map string_bytes added)
 
 -- the listing is appended, or nothing
-abbrev pub Lists : Files → List (String Global) → List (String Global) → Listing → Type 0
-Lists files old new Listed = AppendsListing files old new
-Lists files old new NotListed = new ≡ old
-Lists files old new Memory = new ≡ old
+abbrev pub Lists : Files → List ℕ → List (String Global) → List (String Global) → Listing → Type 0
+Lists files beginning old new Listed = AppendsListing files beginning old new
+Lists files beginning old new NotListed = new ≡ old
+Lists files beginning old new Memory = new ≡ old
 
 -- names were appended, or none
 abbrev pub Appends : List (String Global) → List (String Global) → Listing → Type 0

@@ -51,9 +51,10 @@ pub trait Folder {
     /// and any other call leaves it. Of a type that doesn't, a call may raise it too that doesn't answer so.
     ghost counts_exactly: { Bool };
 
-    /// Appends the name of each file once, in any order. After another answer than `Done` the names are as before.
-    fn list(&mut self, alloc: Global, names: &mut Vec<String>) -> Listing
-        ensures names { IsTrue tells_files → Lists (files self.old) names.old.items names.new.items result }
+    /// Appends the name of each file whose name begins with `beginning` once, in any order; of each file, where that is empty.
+    /// After another answer than `Done` the names are as before.
+    fn list(&mut self, alloc: Global, beginning: &str, names: &mut Vec<String>) -> Listing
+        ensures names { IsTrue tells_files → Lists (files self.old) beginning.now names.old.items names.new.items result }
         ensures kept { Appends names.old.items names.new.items result }
         ensures same { IsTrue tells_files → SameFiles (files self.old) (files self.new) }
         ensures faults { folder_faults self.old ≤ folder_faults self.new }

@@ -50,7 +50,7 @@ pub fn answers<F: Folder>(alloc: Global, folder: &mut F, step: Step) -> Result<b
 /// Whether a listing gives these names and no others.
 fn lists<F: Folder>(alloc: Global, folder: &mut F, want: &[&str]) -> Result<bool, Memory> {
     let mut names = Vec::new(alloc);
-    if folder.list(alloc, &mut names) != Listing::Done {
+    if folder.list(alloc, "", &mut names) != Listing::Done {
         return Ok(false);
     }
     let mut all = names.len() == want.len();
@@ -73,7 +73,7 @@ fn is_among(names: &[String], want: &str) -> bool {
 /// Whether a listing fails.
 fn list_fails<F: Folder>(alloc: Global, folder: &mut F) -> bool {
     let mut names = Vec::new(alloc);
-    folder.list(alloc, &mut names) == Listing::Failed
+    folder.list(alloc, "", &mut names) == Listing::Failed
 }
 
 /// Whether a read answers so, and leaves these bytes in its buffer.

@@ -6,6 +6,10 @@ use Rattle.nsq_base.specs.Name.{IsName}
 abbrev pub file_digits : ℕ → List ℕ
 file_digits n = replicate (6 - length (decimal n)) 48 ++ decimal n
 
+-- how the name of each file of the queue begins
+abbrev pub file_beginning : List ℕ → List ℕ
+file_beginning name = name ++ codes ".diskqueue."
+
 -- the queue's data file of that number
 abbrev pub data_file : List ℕ → ℕ → List ℕ
 data_file name n = name ++ codes ".diskqueue." ++ file_digits n ++ codes ".dat"

@@ -1,10 +1,17 @@
 ghost use Rattle.std.specs.Prelude.{◌≡◌, ◌^◌, ◌<◌, IfOk, MatchOption, string_bytes};
-ghost use Rattle.queue_image.specs.FileNames.{data_file, meta_file, meta_temp, set_aside, channel_queue};
+ghost use Rattle.queue_image.specs.FileNames.{file_beginning, data_file, meta_file, meta_temp, set_aside, channel_queue};
 ghost use Rattle.queue_image.specs.Answered.{NumbersFile, MayNumber};
 
 use crate::decimals::value_up_to;
 use nsq_base::Memory;
 use std::alloc::Global;
+
+/// How the name of each file of a queue begins: `name.diskqueue.`.
+pub fn file_beginning(alloc: Global, name: &str) -> Result<String, Memory>
+    ensures { IfOk result (λ beginning. string_bytes beginning ≡ file_beginning name.now) }
+{
+    Ok(format!(in alloc; "{name}.diskqueue.")?)
+}
 
 /// The name of a queue's data file: `name.diskqueue.NNNNNN.dat`, with six digits, and more only where the number needs more.
 pub fn data_file(alloc: Global, name: &str, number: u64) -> Result<String, Memory>

@@ -245,8 +245,11 @@ fn list_numbers<F: Folder>(alloc: Global, folder: &mut F, name: &str) -> Result<
     ensures exact { IsTrue F.counts_exactly → OpenCounts (F.folder_faults folder.old) (F.folder_faults folder.new) result }
     ensures meta { IfErr result NotBadMeta }
 {
+    let Ok(beginning) = file_names::file_beginning(alloc, name) else {
+        return Err(Open::Memory);
+    };
     let mut names = Vec::new(alloc);
-    match folder.list(alloc, &mut names) {
+    match folder.list(alloc, beginning.as_str(), &mut names) {
         Listing::Done => {}
         Listing::Failed => return Err(Open::Fault),
         Listing::Memory => return Err(Open::Memory),

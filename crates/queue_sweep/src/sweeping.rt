@@ -33,7 +33,7 @@ pub fn set_aside_unlisted<F: Folder>(
     ensures exact { IsTrue F.counts_exactly → SweepCounts (F.folder_faults folder.old) (F.folder_faults folder.new) result }
 {
     let mut files = Vec::new(alloc);
-    match folder.list(alloc, &mut files) {
+    match folder.list(alloc, "", &mut files) {
         Listing::Done => {}
         Listing::Failed => return Err(Unswept::Fault),
         Listing::Memory => return Err(Unswept::Memory),

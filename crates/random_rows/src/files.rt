@@ -12,7 +12,7 @@ use std::alloc::Global;
 fn names_in(alloc: Global, folder: &mut MemFolder) -> Result<Vec<String>, Memory> {
     let mut names = Vec::new(alloc);
     for _ in 0..100 {
-        match folder.list(alloc, &mut names) {
+        match folder.list(alloc, "", &mut names) {
             Listing::Done => return Ok(names),
             Listing::Failed => {}
             Listing::Memory => return Err(Memory),

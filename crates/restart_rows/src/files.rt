@@ -60,7 +60,7 @@ pub fn files_in(alloc: Global, folder: &mut MemFolder) -> Result<Vec<NamedFile>,
 fn names_in(alloc: Global, folder: &mut MemFolder) -> Result<Vec<String>, Memory> {
     let mut names = Vec::new(alloc);
     for _ in 0..2_000 {
-        match folder.list(alloc, &mut names) {
+        match folder.list(alloc, "", &mut names) {
             Listing::Done => return Ok(names),
             Listing::Failed => {}
             Listing::Memory => return Err(Memory),

@@ -9,8 +9,8 @@ use Rattle.std.proofs.lemmas.List.Kept.{AllPairs-filter}
 use Rattle.nsq_base.specs.Name.{is_ephemeral, IsName}
 use Rattle.nsq_base.specs.Names.{is_before, put_by, IsAscendingBy}
 use Rattle.nsq_base.proofs.PutBy.{filter_all, filter_none}
-use Rattle.history.specs.Data.{KeptTopic, KeptChannel, CanKeepTopic, IsKept, durable, in_order}
-use Rattle.history.proofs.NameLists.{before_once}
+use Rattle.path_image.specs.Data.{KeptTopic, KeptChannel, CanKeepTopic, IsKept, durable, in_order}
+use Rattle.path_image.proofs.NameLists.{before_once}
 use Rattle.broker_core.specs.Floors.{Room}
 use Rattle.broker_core.specs.Flushes.{CanKeepAll, is_durable, kept_topic, kept_topics}
 use Rattle.broker_core.specs.Tables.{AreRooms}

@@ -19,7 +19,7 @@ use Rattle.history.specs.declared.entry.Act.TheVariants.{Began, Did, Refused, Go
 use Rattle.history.specs.declared.entry.Entry.{Entry}
 use Rattle.history.specs.Legal.{History, Legal, none, more, last_moment}
 use Rattle.history.specs.Reply.{error, ok_frame, most_ids, has_ids, reply}
-use Rattle.history.specs.Found.{Pairwise}
+use Rattle.path_image.specs.Found.{Pairwise}
 use Rattle.history.specs.State.{State, Client, is_there, has_begun, at_moment, with_client, without_client, published, published_topic, published_message, put_topic, put_message, topic_or_new}
 use Rattle.history.specs.Step.{IsAllowedAct, DoesAct, DoesCommand}
 use Rattle.history.specs.Talk.{own, is_gone}

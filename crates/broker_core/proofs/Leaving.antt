@@ -17,8 +17,9 @@ use Rattle.queue_image.proofs.Naming.{one_queue}
 use Rattle.queue_image.proofs.Keeping.{finding_keeps}
 use Rattle.disk_queue.specs.Seen.{Seen}
 use Rattle.disk_queue.specs.Holding.{IsIdle}
-use Rattle.history.specs.Found.{Pairwise, IsRecordOf, compared, least_record, longest_record}
-use Rattle.history.proofs.NameLists.{before_once}
+use Rattle.path_image.specs.Found.{Pairwise, IsRecordOf, least_record, longest_record}
+use Rattle.history.specs.Starting.{compared}
+use Rattle.path_image.proofs.NameLists.{before_once}
 use Rattle.broker_core.specs.Calls.{longest_message}
 use Rattle.broker_core.specs.Floors.{Room}
 use Rattle.broker_core.specs.Flushes.{IsMade, IsMadeWhere, FoundWhereDone, WhereDone, IsUnwritten, IsFoundRoom, DurableChange, TopicsChange, both_flushed, bodies_of, flushed_room, flushed_rooms}

@@ -9,7 +9,7 @@ use Rattle.std.proofs.lemmas.List.Folds.{list_any-append}
 use Rattle.nsq_base.specs.Name.{is_ephemeral}
 use Rattle.nsq_base.specs.Names.{is_before, put_by}
 use Rattle.v2_frame.specs.declared.message.Message.{Message}
-use Rattle.history.specs.Found.{Pairwise}
+use Rattle.path_image.specs.Found.{Pairwise}
 use Rattle.history.specs.State.{State, Waiting, Topic, Client, topic_or_new, new_topic, counted, with_waiting, is_full, put_message, put_topic}
 use Rattle.broker_core.specs.Floors.{Room, IsRoomOf}
 use Rattle.broker_core.specs.Tables.{has, new_room, name_of, room_or_new, put_in, put_room, with_message}

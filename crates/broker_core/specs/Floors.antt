@@ -7,7 +7,7 @@ use Rattle.v2_frame.specs.declared.message.Message.{Message}
 use Rattle.history.specs.Legal.{History, Legal, faults_of}
 use Rattle.history.specs.State as state
 use Rattle.history.specs.State.{State, Waiting, has_begun, is_there}
-use Rattle.history.specs.Found.{Pairwise}
+use Rattle.path_image.specs.Found.{Pairwise}
 use Rattle.history.specs.Talk.{own}
 use Rattle.broker_core.specs.declared.settings.Settings.{Settings}
 use Rattle.broker_core.specs.Moments.{IsTimed, moment_of}

@@ -10,8 +10,9 @@ use Rattle.v2_frame.specs.declared.message.Message.{Message}
 use Rattle.history.specs.declared.entry.Act.{Act}
 use Rattle.history.specs.declared.entry.Act.TheVariants.{Did}
 use Rattle.v2_frame.specs.Written.{message_bytes}
-use Rattle.history.specs.Data.{KeptTopic, CanKeepTopic, IsKept}
-use Rattle.history.specs.Found.{Pairwise, IsRecordOf, IsFoundQueue, compared}
+use Rattle.path_image.specs.Data.{KeptTopic, CanKeepTopic, IsKept}
+use Rattle.path_image.specs.Found.{Pairwise, IsRecordOf, IsFoundQueue}
+use Rattle.history.specs.Starting.{compared}
 use Rattle.queue_image.specs.FileNames.{meta_file, IsOwnFile}
 use Rattle.queue_image.specs.Finds.{IsFound, Records}
 use Rattle.disk_queue.specs.Seen.{Seen, fresh_queue}

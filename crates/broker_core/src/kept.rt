@@ -11,7 +11,7 @@ pub struct KeptChannel {
 }
 
 impl Model for KeptChannel {
-    ghost use Rattle.history.specs.Data.{KeptChannel};
+    ghost use Rattle.path_image.specs.Data.{KeptChannel};
 
     ghost Value = { KeptChannel };
 
@@ -30,7 +30,7 @@ pub struct KeptTopic {
 }
 
 impl Model for KeptTopic {
-    ghost use Rattle.history.specs.Data.{KeptTopic};
+    ghost use Rattle.path_image.specs.Data.{KeptTopic};
 
     ghost Value = { KeptTopic };
 

@@ -1,7 +1,7 @@
 ghost use Rattle.std.specs.Prelude.{◌≡◌, ◌≤◌, ◌&&◌, not, nat_le, [], All, length, is_some, IsTrue, IfOk, OnOk, OnErr};
 ghost use Rattle.nsq_base.specs.Name.{is_ephemeral};
 ghost use Rattle.v2_frame.specs.Messages.{FitsItsBytes};
-ghost use Rattle.history.specs.Data.{CanKeepTopic};
+ghost use Rattle.path_image.specs.Data.{CanKeepTopic};
 ghost use Rattle.queue_image.specs.FileNames.{meta_file};
 ghost use Rattle.disk_queue.specs.Holding.{Holds, IsIdle, SaveStands, OwnChange};
 ghost use Rattle.broker_core.specs.Flushes.{IsShort, IsMade, IsMadeWhere, FlushFails, DurableChange, PutsAll, FoundWhereDone, WhereDone, IsUnwritten, IsFoundRoom, bodies_of, flushed_room, kept_topic};

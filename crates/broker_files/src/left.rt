@@ -1,5 +1,5 @@
 use broker_state::{ChannelState, MessageCopy, State, TakenMessage, TopicState, Waiting};
-use history_plain::{FoundChannel, FoundNames, FoundTopic, KeptChannel, KeptNames, KeptTopic};
+use path_plain::{FoundChannel, FoundNames, FoundTopic, KeptChannel, KeptNames, KeptTopic};
 use nsq_base::Memory;
 use std::alloc::Global;
 use v2_frame::Message;

@@ -6,7 +6,7 @@ mod left;
 mod starting;
 mod text;
 
-pub use history_plain::{
+pub use path_plain::{
     Finding, FoundChannel, FoundNames, FoundTopic, KeptChannel, KeptNames, KeptTopic, found,
     read_names,
 };

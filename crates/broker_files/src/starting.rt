@@ -1,7 +1,7 @@
 ghost use Rattle.std.specs.Prelude.{◌<◌};
 
 use broker_state::{ChannelState, MessageCopy, Place, State, TopicState, Waiting};
-use history_plain::{FoundChannel, FoundNames, FoundTopic};
+use path_plain::{FoundChannel, FoundNames, FoundTopic};
 use nsq_base::{Memory, Options};
 use std::alloc::Global;
 use v2_frame::Message;

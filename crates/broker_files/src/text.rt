@@ -1,4 +1,4 @@
-use history_plain::{KeptChannel, KeptNames, KeptTopic};
+use path_plain::{KeptChannel, KeptNames, KeptTopic};
 use itoa::Buffer;
 use nsq_base::Memory;
 use std::alloc::Global;

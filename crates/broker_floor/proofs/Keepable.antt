@@ -11,8 +11,8 @@ use Rattle.nsq_base.specs.Name.{is_ephemeral}
 use Rattle.nsq_base.specs.Names.{is_before, put_by, IsAscendingBy}
 use Rattle.nsq_base.specs.declared.options.Options.{Options}
 use Rattle.nsq_base.proofs.PutBy.{filter_all, filter_none}
-use Rattle.history.specs.Data.{KeptTopic, KeptChannel, CanKeepChannel, CanKeepTopic, IsKept, durable, in_order}
-use Rattle.history.proofs.NameLists.{before_once}
+use Rattle.path_image.specs.Data.{KeptTopic, KeptChannel, CanKeepChannel, CanKeepTopic, IsKept, durable, in_order}
+use Rattle.path_image.proofs.NameLists.{before_once}
 use Rattle.names_file.specs.Kept.{CanKeepAll}
 use Rattle.floor_rooms.specs.declared.stall.Stall.{Stall}
 use Rattle.floor_rooms.specs.declared.room.Room.{Room}

@@ -9,7 +9,7 @@ use Rattle.v2_frame.specs.declared.message.Message.{Message}
 use Rattle.broker_history.specs.State.{Place, Queued, InFlight, Deferred, Copy, Waiting, is_live, is_queued, is_in_flight, is_with}
 use Rattle.broker_history.specs.Channels.{one, Moves, MovesLive, JoinsLive, HasLive}
 use Rattle.broker_history.specs.Topics.{Fits, HasWaiting}
-use Rattle.history.specs.Found.{Pairwise}
+use Rattle.path_image.specs.Found.{Pairwise}
 use Rattle.broker_history.specs.Laws.{CountsLive, TakenFrom}
 use Rattle.broker_history.proofs.Lists.{exact_bytes, same_bytes}
 

@@ -5,8 +5,8 @@ use Rattle.std.proofs.lemmas.List.{append-nil}
 use Rattle.nsq_base.specs.Name.{is_ephemeral}
 use Rattle.nsq_base.specs.declared.options.Options.{Options}
 use Rattle.v2_frame.specs.declared.message.Message.{Message}
-use Rattle.history.specs.Data.{durable}
-use Rattle.history.specs.Found.{FoundChannel, FoundTopic, Found, Pairwise}
+use Rattle.path_image.specs.Data.{durable}
+use Rattle.path_image.specs.Found.{FoundChannel, FoundTopic, Found, Pairwise}
 use Rattle.broker_history.specs.State.{Waiting, Queued, Copy, Channel, Topic, compared, is_live}
 use Rattle.broker_history.specs.Channels.{copy_at}
 use Rattle.broker_history.specs.Found.{started_channel, started, start}

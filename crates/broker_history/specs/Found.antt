@@ -1,7 +1,7 @@
--- The state that a run starts from. What an opening finds in a folder (`IsFound`) stands in `history`.
+-- The state that a run starts from. What an opening finds in a folder (`IsFound`) stands in `path_image`.
 use Rattle.std.specs.Prelude.{ℕ, ◌+◌, false, [], map, None}
 use Rattle.nsq_base.specs.declared.options.Options.{Options}
-use Rattle.history.specs.Found.{FoundChannel, FoundTopic, Found}
+use Rattle.path_image.specs.Found.{FoundChannel, FoundTopic, Found}
 use Rattle.broker_history.specs.State.{Queued, Channel, Topic, State}
 use Rattle.broker_history.specs.Channels.{copy_at}
 

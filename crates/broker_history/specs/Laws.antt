@@ -17,7 +17,7 @@ use Rattle.broker_history.specs.Credit.{rdy, in_flight_with}
 use Rattle.broker_history.specs.Moments.{IsTimed, HasReadings}
 use Rattle.broker_history.specs.Found.{start}
 use Rattle.broker_history.specs.Left.{IsAllLeft}
-use Rattle.history.specs.Found.{FoundChannel, FoundTopic, Found}
+use Rattle.path_image.specs.Found.{FoundChannel, FoundTopic, Found}
 use Rattle.nsq_base.specs.Name.{is_ephemeral}
 use Rattle.nsq_base.specs.declared.options.Options.{Options}
 use Rattle.v2_frame.specs.declared.message.Message.{Message}

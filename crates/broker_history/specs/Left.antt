@@ -1,8 +1,8 @@
 -- What a stop leaves: the names that are kept, and the messages that aren't done with.
 use Rattle.std.specs.Prelude.{◌≡◌, ℕ, List, [], ◌∷◌, ◌++◌, map, filter, Option, Some, None, option_map, unwrap_or}
 use Rattle.v2_frame.specs.declared.message.Message.{Message}
-use Rattle.history.specs.Data.{KeptChannel, KeptTopic, Kept, durable}
-use Rattle.history.specs.Found.{FoundChannel, FoundTopic, Found, Pairwise}
+use Rattle.path_image.specs.Data.{KeptChannel, KeptTopic, Kept, durable}
+use Rattle.path_image.specs.Found.{FoundChannel, FoundTopic, Found, Pairwise}
 use Rattle.broker_history.specs.State.{Copy, Waiting, Taken, Channel, Topic, State, compared, is_live, topic_of, channel_at}
 use Rattle.broker_history.specs.Channels.{AsOften}
 

@@ -6,7 +6,7 @@ use Rattle.nsq_base.specs.MsgId.{id_of}
 use Rattle.nsq_base.specs.Name.{is_ephemeral}
 use Rattle.nsq_base.specs.Names.{TopicList}
 use Rattle.v2_frame.specs.declared.message.Message.{Message}
-use Rattle.history.specs.Found.{Pairwise}
+use Rattle.path_image.specs.Found.{Pairwise}
 use Rattle.broker_history.specs.State.{Waiting, Taken, Topic, IsSame, counted, is_empty, is_due, channel_names}
 use Rattle.broker_history.specs.Channels.{AsOften}
 

@@ -4,7 +4,7 @@ use Rattle.std.specs.List.{filter}
 use Rattle.std.proofs.lemmas.List.{append-nil}
 use Rattle.std.proofs.lemmas.List.Elements.{filter-append}
 use Rattle.nsq_base.specs.Names.{is_before}
-use Rattle.history.proofs.NameLists.{before_once}
+use Rattle.path_image.proofs.NameLists.{before_once}
 
 -- what a filter keeps of one more element
 pub filter_in : {X : Type 0} (p : X → Bool) (xs : List X) (x : X) → p x ≡ true → filter p (xs ++ x ∷ []) ≡ filter p xs ++ x ∷ []

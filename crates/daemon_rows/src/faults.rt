@@ -3,7 +3,7 @@
 
 use crate::hosts::{Fault, Given, run};
 use crate::three::{LONGEST, THREE, Told, run_three, told_of};
-use history_plain::{Finding, FoundNames, found};
+use path_plain::{Finding, FoundNames, found};
 use nsq_base::{Body, Memory};
 use nsq_fakes::MemFolder;
 use nsq_outside::{Did, Folder, Host, Kit, Listing};

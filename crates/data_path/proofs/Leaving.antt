@@ -14,11 +14,12 @@ use Rattle.queue_image.specs.Finds.{Records}
 use Rattle.queue_image.proofs.Naming.{long_name}
 use Rattle.queue_image.proofs.Keeping.{finding_keeps}
 use Rattle.queue_files.specs.Replaced.{OnlyTwoChange}
-use Rattle.history.specs.Data.{KeptTopic, CanKeep, names_text, data_name, last_epoch, durable}
-use Rattle.history.specs.Found.{Pairwise, FoundTopic, FindsTopic, IsLeft, HasMessages, compared, left_in, least_record, longest_record}
-use Rattle.history.specs.Found.IsFound.{names as shows_names, spent as shows_spent}
+use Rattle.path_image.specs.Data.{KeptTopic, CanKeep, names_text, data_name, last_epoch, durable}
+use Rattle.path_image.specs.Found.{Pairwise, FoundTopic, FindsTopic, HasMessages, least_record, longest_record}
+use Rattle.history.specs.Starting.{IsLeft, compared, left_in}
+use Rattle.path_image.specs.Found.IsFound.{names as shows_names, spent as shows_spent}
 use Rattle.history.specs.State.{State, Topic}
-use Rattle.history.proofs.NameTexts.{names_text-IsNames}
+use Rattle.path_image.proofs.NameTexts.{names_text-IsNames}
 use Rattle.broker_core.specs.Floors.{Room, IsRoomOf}
 use Rattle.broker_core.specs.Flushes.{WhereDone, IsUnwritten, HasExactly, IsFoundRoom, TopicsChange, CanKeepAll, is_durable, kept_topic, kept_topics, flushed_room, flushed_rooms}
 use Rattle.broker_core.specs.declared.flushed.Flushed.{Flushed}

@@ -8,7 +8,7 @@ use Rattle.json.specs.Token.{Token}
 use Rattle.json.specs.Print.{token_text}
 use Rattle.nsq_base.specs.Name.{IsName}
 use Rattle.nsq_base.proofs.AsciiTexts.{IsUtf8-computed, IsUtf8-name}
-use Rattle.history.specs.Data.{KeptChannel, KeptTopic, CanKeepChannel, CanKeepTopic, names_text}
+use Rattle.path_image.specs.Data.{KeptChannel, KeptTopic, CanKeepChannel, CanKeepTopic, names_text}
 use Rattle.data_path.specs.Texts.{kept_of, channel_text, topic_text, items_text, list_text, end_text, comma_if}
 use Rattle.data_path.proofs.NameTexts.{end_parts, topic_parts, names_parts}
 

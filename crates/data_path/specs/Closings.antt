@@ -4,8 +4,9 @@ use Rattle.nsq_base.specs.Name.{IsEphemeral}
 use Rattle.nsq_outside.specs.Causes.{Rose}
 use Rattle.nsq_outside.specs.Files.{Files}
 use Rattle.queue_image.specs.FileNames.{IsOwnFile}
-use Rattle.history.specs.Data.{Kept, IsNames, data_name, last_epoch, names_text}
-use Rattle.history.specs.Found.{Found, Names, EpochSpent, IsFound, IsAllLeft}
+use Rattle.path_image.specs.Data.{Kept, IsNames, data_name, last_epoch, names_text}
+use Rattle.path_image.specs.Found.{Found, Names, EpochSpent, IsFound}
+use Rattle.history.specs.Starting.{IsAllLeft}
 use Rattle.history.specs.State.{State}
 use Rattle.broker_core.specs.Floors.{Room}
 use Rattle.broker_core.specs.Flushes.{IsFoundRoom, kept_topics}

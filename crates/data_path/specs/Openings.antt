@@ -3,8 +3,8 @@ use Rattle.std.specs.Prelude.{◌≡◌, ◌≢◌, ℕ, Bool, IsTrue, List, [],
 use Rattle.nsq_outside.specs.Causes.{Rose}
 use Rattle.nsq_outside.specs.Files.{Files, SameFiles}
 use Rattle.queue_image.specs.FileNames.{meta_file}
-use Rattle.history.specs.Data.{data_name, names_text}
-use Rattle.history.specs.Found.{Found}
+use Rattle.path_image.specs.Data.{data_name, names_text}
+use Rattle.path_image.specs.Found.{Found}
 use Rattle.data_path.specs.Texts.{kept_of}
 use Rattle.data_path.specs.declared.opening.Why.{Why}
 use Rattle.data_path.specs.declared.opening.Why.TheVariants.{NotEmpty, Fault, Memory}

@@ -1,7 +1,7 @@
 ghost use Rattle.std.specs.Prelude.{◌≡◌, ◌≤◌, All, IsTrue};
 ghost use Rattle.nsq_outside.specs.Files.{SameFiles};
 ghost use Rattle.queue_files.specs.Replaced.{OnlyTwoChange};
-ghost use Rattle.history.specs.Data.{data_name};
+ghost use Rattle.path_image.specs.Data.{data_name};
 ghost use Rattle.history.specs.State.{State};
 ghost use Rattle.broker_core.specs.Floors.{Stands};
 ghost use Rattle.broker_core.specs.Flushes.{IsUnwritten, kept_topics};

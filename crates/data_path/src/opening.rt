@@ -1,7 +1,8 @@
 ghost use Rattle.std.specs.Prelude.{◌≡◌, ◌+◌, ◌≤◌, ℕ, [], Some, false, IsTrue, IfOk, IfErr, OnOk};
 ghost use Rattle.nsq_base.specs.Options.{IsInRange};
-ghost use Rattle.history.specs.Data.{data_name, names_text};
-ghost use Rattle.history.specs.Found.{IsFound, Names, start};
+ghost use Rattle.path_image.specs.Data.{data_name, names_text};
+ghost use Rattle.path_image.specs.Found.{IsFound, Names};
+ghost use Rattle.history.specs.Starting.{start};
 ghost use Rattle.broker_core.specs.Floors.{Stands};
 ghost use Rattle.broker_core.specs.Moments.{moment_of};
 ghost use Rattle.broker_core.specs.Turns.{scene};

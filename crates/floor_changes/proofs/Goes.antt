@@ -18,7 +18,7 @@ use Rattle.nsq_base.proofs.PutBy.{Less-from_before, byte_order-flip, filter_all,
 use Rattle.nsq_outside.specs.Files.{Files}
 use Rattle.queue_image.specs.FileNames.{meta_file}
 use Rattle.queue_image.specs.Metas.{IsIdle}
-use Rattle.history.specs.Found.{Pairwise}
+use Rattle.path_image.specs.Found.{Pairwise}
 use Rattle.disk_queue.specs.Seen.{Seen as Queue}
 use Rattle.disk_queue.specs.declared.answers.Emptied.TheVariants as emptying
 use Rattle.backlog.specs.Seen.{Seen as Backlog, EmptyQueueSeen, SameQueue, disk_depth, ring_depth}

@@ -13,7 +13,7 @@ use Rattle.nsq_base.proofs.PutBy.{parts_at}
 use Rattle.nsq_outside.specs.Files.{Files}
 use Rattle.queue_image.specs.FileNames.{meta_file}
 use Rattle.queue_image.specs.Metas.{IsIdle}
-use Rattle.history.specs.Found.{Pairwise}
+use Rattle.path_image.specs.Found.{Pairwise}
 use Rattle.disk_queue.specs.Seen.{Seen as Queue}
 use Rattle.backlog.specs.Lists.{DiskChanges}
 use Rattle.broker_history.specs.State.{Channel, Client, State, has_channel, is_ephemeral_channel}

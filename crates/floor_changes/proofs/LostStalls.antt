@@ -15,8 +15,8 @@ use Rattle.nsq_outside.specs.Files.{Files}
 use Rattle.queue_image.specs.FileNames.{meta_file}
 use Rattle.queue_image.specs.Metas.{IsIdle}
 use Rattle.v2_frame.specs.declared.message.Message.{Message}
-use Rattle.history.specs.Data.{durable}
-use Rattle.history.specs.Found.{Pairwise}
+use Rattle.path_image.specs.Data.{durable}
+use Rattle.path_image.specs.Found.{Pairwise}
 use Rattle.broker_history.specs.State.{Channel, Client, Closing, Fresh, Lost, Phase, Route, State, Subscribed, Taken, Topic, channel_of, has_channel, is_empty, is_ephemeral_channel, is_lost, is_on, topic_of, with_topic}
 use Rattle.broker_history.specs.Changes.{lost, without_channel}
 use Rattle.broker_history.specs.Topics.{owed_no_more, still_owed, without_name}

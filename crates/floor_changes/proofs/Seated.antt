@@ -11,8 +11,8 @@ use Rattle.nsq_base.specs.Names.{IsAscendingBy}
 use Rattle.nsq_base.specs.Options.{IsInRange}
 use Rattle.nsq_base.proofs.PutBy.{All-put_by, IsAscendingBy-put_by}
 use Rattle.nsq_outside.specs.Files.{Files}
-use Rattle.history.specs.Data.{durable}
-use Rattle.history.specs.Found.{Pairwise}
+use Rattle.path_image.specs.Data.{durable}
+use Rattle.path_image.specs.Found.{Pairwise}
 use Rattle.broker_history.specs.State.{Client, Route, State, is_empty}
 use Rattle.broker_history.specs.Channels.{IsKept}
 use Rattle.broker_history.proofs.Lists.{exact_bytes, find_put}

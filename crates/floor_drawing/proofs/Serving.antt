@@ -7,7 +7,7 @@ use Rattle.std.proofs.lemmas.Option.{get_or_from_slice_get, slice_get-get_or}
 use Rattle.nsq_outside.specs.Files.{Files}
 use Rattle.nsq_outside.specs.declared.journal.End.TheVariants.{Done, Faulted}
 use Rattle.v2_frame.specs.declared.message.Message.{Message}
-use Rattle.history.specs.Found.{Pairwise}
+use Rattle.path_image.specs.Found.{Pairwise}
 use Rattle.broker_history.specs.State.{Channel, Client, Phase, Fresh, Subscribed, Closing, Lost, Route, State, channel_at, client_channel, flying, is_subscribed}
 use Rattle.broker_history.specs.Channels.{can_send, has_credit, is_free}
 use Rattle.broker_history.specs.Credit.{has_message, is_quiet, may_get}

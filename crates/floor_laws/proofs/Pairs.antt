@@ -6,7 +6,7 @@ use Rattle.std.proofs.lemmas.Bool.{false≢true}
 use Rattle.std.proofs.lemmas.List.Elements.{All-head, All-tail, All-weaker, filter_passes}
 use Rattle.nsq_base.specs.Names.{is_before, byte_order, put_by}
 use Rattle.nsq_base.proofs.PutBy.{other_from_order, Less-from_before, byte_order-flip}
-use Rattle.history.specs.Found.{Pairwise}
+use Rattle.path_image.specs.Found.{Pairwise}
 
 -- a name that comes before another, or behind it, is another one
 before_apart : (a b : List ℕ) → is_before a b ≡ true → bytes_eq b a ≡ false

@@ -1,6 +1,6 @@
 -- Topics of which nothing but whether they are listed changed.
 use Rattle.std.proofs.Common.{ℕ, List, refl, ap, ◌∙◌}
-use Rattle.history.specs.Found.{Pairwise}
+use Rattle.path_image.specs.Found.{Pairwise}
 use Rattle.floor_rooms.specs.declared.room.Room.{Room}
 use Rattle.floor_rooms.specs.Changes.{KeepsRoom, KeepsRooms}
 use Rattle.floor_rooms.proofs.Dating.{keeps_room_alike, pairs_same, pairs_weaker, since_equal}

@@ -1,6 +1,6 @@
 ghost use Rattle.std.specs.Prelude.{◌≡◌, ℕ, List, ◌∷◌, IfSome, None};
 ghost use Rattle.nsq_outside.specs.Files.{Files};
-ghost use Rattle.history.specs.Found.{Pairwise};
+ghost use Rattle.path_image.specs.Found.{Pairwise};
 ghost use Rattle.broker_history.specs.State.{State};
 ghost use Rattle.floor_rooms.specs.Sound.{IsSound};
 ghost use Rattle.floor_rooms.specs.Standing.{HoldsFor};

@@ -16,8 +16,8 @@ use Rattle.nsq_outside.specs.Files.{Files}
 use Rattle.queue_image.specs.FileNames.IsFileOf.{own}
 use Rattle.queue_image.proofs.Naming.{one_channel, one_queue}
 use Rattle.v2_frame.specs.declared.message.Message.{Message}
-use Rattle.history.specs.Data.{KeptChannel}
-use Rattle.history.specs.Found.{FindsChannel, FoundChannel, HasMessages, Pairwise}
+use Rattle.path_image.specs.Data.{KeptChannel}
+use Rattle.path_image.specs.Found.{FindsChannel, FoundChannel, HasMessages, Pairwise}
 use Rattle.disk_queue.specs.Opened.{FilesOfChange}
 use Rattle.disk_queue.specs.Seen.{Seen as Queue}
 use Rattle.broker_history.specs.Found.{started_channel}

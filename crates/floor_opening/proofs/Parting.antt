@@ -7,7 +7,7 @@ use Rattle.std.proofs.lemmas.Bool.{false≢true}
 use Rattle.std.proofs.lemmas.List.Elements.{All-cons, All-head, All-nil, All-tail}
 use Rattle.nsq_base.specs.Name.{IsName}
 use Rattle.nsq_base.specs.Places.{StandsAt}
-use Rattle.history.specs.Found.{Pairwise}
+use Rattle.path_image.specs.Found.{Pairwise}
 use Rattle.broker_history.proofs.Lists.{same_bytes}
 use Rattle.channel_core.specs.Seen.{queue_name}
 use Rattle.floor_rooms.proofs.Placing.{found_standing}

@@ -12,7 +12,7 @@ use Rattle.queue_files.specs.declared.options.QueueOptions.{QueueOptions}
 use Rattle.queue_image.proofs.Keeping.{finding_keeps}
 use Rattle.queue_image.specs.Finds.{Records}
 use Rattle.v2_frame.specs.declared.message.Message.{Message}
-use Rattle.history.specs.Found.{HasMessages, IsRecordOf, Pairwise}
+use Rattle.path_image.specs.Found.{HasMessages, IsRecordOf, Pairwise}
 use Rattle.disk_queue.specs.Seen.{Seen as Queue}
 use Rattle.backlog.specs.Seen.{IsOpenedAt, Seen as Backlog}
 use Rattle.backlog.specs.Lists.{OnDisk, Stands}

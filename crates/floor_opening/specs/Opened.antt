@@ -12,8 +12,8 @@ use Rattle.queue_opening.specs.Again.{FindsSameList}
 use Rattle.queue_opening.specs.declared.refusal.Open.{Open}
 use Rattle.queue_opening.specs.declared.refusal.Open.TheVariants.{Memory}
 use Rattle.v2_frame.specs.declared.message.Message.{Message}
-use Rattle.history.specs.Data.{KeptChannel}
-use Rattle.history.specs.Found.{FindsChannel, FoundChannel, HasMessages, Pairwise}
+use Rattle.path_image.specs.Data.{KeptChannel}
+use Rattle.path_image.specs.Found.{FindsChannel, FoundChannel, HasMessages, Pairwise}
 use Rattle.backlog.specs.Seen.{QueueIsSaved, longest_body}
 use Rattle.backlog.specs.Lists.{OpenRefused}
 use Rattle.broker_history.specs.Found.{started_channel}

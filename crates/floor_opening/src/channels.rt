@@ -6,7 +6,7 @@ ghost use Rattle.nsq_base.specs.Places.{BelongsAt};
 ghost use Rattle.queue_opening.specs.Refusals.{OpenFails};
 ghost use Rattle.disk_queue.specs.Opened.{FilesOfChange};
 ghost use Rattle.v2_frame.specs.declared.message.Message.{Message};
-ghost use Rattle.history.specs.Found.{HasMessages};
+ghost use Rattle.path_image.specs.Found.{HasMessages};
 ghost use Rattle.backlog.specs.Lists.{IsFoundAgain, OpenRefused};
 ghost use Rattle.broker_history.specs.Found.{started_channel};
 ghost use Rattle.topic_core.specs.Kept.{IsNamed};

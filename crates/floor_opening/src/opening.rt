@@ -5,7 +5,7 @@ ghost use Rattle.nsq_base.specs.Places.{BelongsAt};
 ghost use Rattle.queue_opening.specs.Refusals.{OpenFails};
 ghost use Rattle.disk_queue.specs.Opened.{FilesOfChange};
 ghost use Rattle.v2_frame.specs.declared.message.Message.{Message};
-ghost use Rattle.history.specs.Found.{HasMessages};
+ghost use Rattle.path_image.specs.Found.{HasMessages};
 ghost use Rattle.backlog.specs.Lists.{IsFoundAgain, OpenRefused};
 ghost use Rattle.topic_core.specs.Rows.{found_topic, paused_in};
 ghost use Rattle.floor_rooms.specs.Rooms.{put_room, room_in, topic_name};

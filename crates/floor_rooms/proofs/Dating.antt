@@ -5,7 +5,7 @@ use Rattle.std.specs.List.{All, find, slice_get}
 use Rattle.std.specs.Str.{bytes_eq}
 use Rattle.std.proofs.lemmas.Bool.{false≢true}
 use Rattle.std.proofs.lemmas.List.Elements.{All-head, All-tail}
-use Rattle.history.specs.Found.{Pairwise}
+use Rattle.path_image.specs.Found.{Pairwise}
 use Rattle.broker_history.proofs.Lists.{exact_bytes, find_gone, find_put}
 use Rattle.channel_core.specs.declared.about.About.{About}
 use Rattle.floor_laws.proofs.Pairs.{IfBoth, pairs_found}

@@ -16,7 +16,7 @@ use Rattle.nsq_outside.specs.Files.{Files}
 use Rattle.queue_files.specs.declared.options.QueueOptions.{QueueOptions}
 use Rattle.queue_image.specs.FileNames.{meta_file}
 use Rattle.queue_image.specs.Metas.{IsIdle}
-use Rattle.history.specs.Found.{Pairwise}
+use Rattle.path_image.specs.Found.{Pairwise}
 use Rattle.disk_queue.specs.Seen.{Seen as Queue, fresh_queue}
 use Rattle.backlog.specs.Seen.{QueueIsSaved}
 use Rattle.backlog.specs.Lists.{Stands}

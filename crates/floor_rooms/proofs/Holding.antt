@@ -5,7 +5,7 @@ use Rattle.std.specs.List.{find, slice_get}
 use Rattle.std.specs.Global.{Vec}
 use Rattle.std.specs.Str.{bytes_eq}
 use Rattle.nsq_outside.specs.Files.{Files}
-use Rattle.history.specs.Found.{Pairwise}
+use Rattle.path_image.specs.Found.{Pairwise}
 use Rattle.nsq_base.specs.Names.{put_by}
 use Rattle.broker_history.specs.State.{Channel, Topic, State, with_topic}
 use Rattle.broker_history.proofs.Lists.{exact_bytes, find_put}

@@ -11,8 +11,8 @@ use Rattle.nsq_base.specs.Name.{is_ephemeral}
 use Rattle.nsq_base.specs.Names.{put_by}
 use Rattle.nsq_base.specs.Places.{BelongsAt}
 use Rattle.nsq_base.proofs.PutBy.{put_by-belongs}
-use Rattle.history.specs.Data.{durable}
-use Rattle.history.specs.Found.{Pairwise}
+use Rattle.path_image.specs.Data.{durable}
+use Rattle.path_image.specs.Found.{Pairwise}
 use Rattle.broker_history.specs.State.{is_ephemeral_channel}
 use Rattle.broker_history.proofs.Lists.{exact_bytes}
 use Rattle.channel_core.specs.declared.about.About.{About}

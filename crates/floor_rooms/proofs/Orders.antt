@@ -10,7 +10,7 @@ use Rattle.std.proofs.lemmas.List.Kept.{AllPairs-cons}
 use Rattle.nsq_base.specs.Names.{byte_order, is_before, IsAscendingBy, put_by}
 use Rattle.nsq_base.proofs.PutBy.{byte_order-flip, Less-from_before, filters_part}
 use Rattle.nsq_outside.specs.Files.{Files}
-use Rattle.history.specs.Found.{Pairwise}
+use Rattle.path_image.specs.Found.{Pairwise}
 use Rattle.broker_history.specs.State.{Channel, Topic, State, with_topic, with_channel, at_moment}
 use Rattle.broker_history.specs.Changes.{AtTopic, AtChannel}
 use Rattle.broker_history.proofs.Lists.{same_bytes}

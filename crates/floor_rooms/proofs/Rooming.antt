@@ -10,7 +10,7 @@ use Rattle.nsq_base.specs.Names.{put_by}
 use Rattle.nsq_outside.specs.Files.{Files}
 use Rattle.queue_image.specs.FileNames.{meta_file}
 use Rattle.queue_image.specs.Metas.{IsIdle}
-use Rattle.history.specs.Found.{Pairwise}
+use Rattle.path_image.specs.Found.{Pairwise}
 use Rattle.broker_history.specs.State.{Topic, State, topic_of, with_topic}
 use Rattle.broker_history.specs.Changes.{AtTopic}
 use Rattle.broker_history.proofs.Lists.{find_put, find_passes, exact_bytes, same_bytes}

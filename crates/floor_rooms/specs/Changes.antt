@@ -2,7 +2,7 @@
 use Rattle.std.specs.Prelude.{◌≡◌, ◌≢◌, ◌⊎◌, ◌≤◌, ℕ, Bool, true, false, List, ◌∷◌, [], ◌++◌, All, if◌then◌else◌, Option, Some, None, IfSome, IsSome, slice_get, slice_set, option_and_then}
 use Rattle.nsq_outside.specs.Files.{Files}
 use Rattle.queue_image.specs.FileNames.{IsOwnFile, IsQueueName}
-use Rattle.history.specs.Found.{Pairwise}
+use Rattle.path_image.specs.Found.{Pairwise}
 use Rattle.backlog.specs.Seen.{SameQueue}
 use Rattle.topic_core.specs.Laws.{OwnFilesStay}
 use Rattle.topic_core.specs.Seen.{IsSettled, owed_of}

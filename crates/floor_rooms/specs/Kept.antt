@@ -1,6 +1,6 @@
 -- What the file of names keeps of a hall, and that a change of it is told.
 use Rattle.std.specs.Prelude.{◌≡◌, false, List, map}
-use Rattle.history.specs.Data.{KeptChannel, KeptTopic, durable}
+use Rattle.path_image.specs.Data.{KeptChannel, KeptTopic, durable}
 use Rattle.floor_rooms.specs.declared.stall.Stall.{Stall}
 use Rattle.floor_rooms.specs.declared.room.Room.{Room}
 use Rattle.floor_rooms.specs.declared.hall.Hall.{Hall}

@@ -5,7 +5,7 @@ use Rattle.nsq_outside.specs.Files.{Files}
 use Rattle.queue_image.specs.FileNames.{meta_file}
 use Rattle.queue_image.specs.Metas.{IsIdle}
 use Rattle.v2_frame.specs.declared.message.Message.{Message}
-use Rattle.history.specs.Found.{Pairwise}
+use Rattle.path_image.specs.Found.{Pairwise}
 use Rattle.backlog.specs.Lists.{OnDisk, Stands}
 use Rattle.broker_history.specs.State.{Channel, Topic, State, is_ephemeral_channel}
 use Rattle.broker_history.specs.Channels.{IsKept}

@@ -4,8 +4,8 @@ use Rattle.std.specs.Prelude.{IfSome, option_and_then}
 use Rattle.std.specs.Str.{bytes_eq}
 use Rattle.disk_queue.specs.Seen.{Seen as Queue}
 use Rattle.backlog.specs.Seen.{SameQueue}
-use Rattle.history.specs.Data.{durable}
-use Rattle.history.specs.Found.{Pairwise}
+use Rattle.path_image.specs.Data.{durable}
+use Rattle.path_image.specs.Found.{Pairwise}
 use Rattle.floor_laws.proofs.Pairs.{IfBoth, pairs_found}
 use Rattle.floor_rooms.specs.declared.stall.Stall.{Stall}
 use Rattle.floor_rooms.specs.declared.room.Room.{Room}

@@ -14,7 +14,7 @@ use Rattle.nsq_outside.specs.Files.{Files}
 use Rattle.queue_image.specs.Finds.{Records}
 use Rattle.queue_image.proofs.Keeping.{finding_keeps}
 use Rattle.v2_frame.specs.declared.message.Message.{Message}
-use Rattle.history.specs.Found.{HasMessages, Pairwise}
+use Rattle.path_image.specs.Found.{HasMessages, Pairwise}
 use Rattle.disk_queue.specs.Seen.{Seen as Queue}
 use Rattle.backlog.specs.Lists.{DiskChanges, OnDisk, Stands}
 use Rattle.backlog.specs.Answers.{FlushFails}

@@ -6,8 +6,8 @@ use Rattle.std.proofs.lemmas.List.Elements.{All-cons, All-head, All-nil, All-tai
 use Rattle.std.proofs.lemmas.Option.{get_or_from_slice_get, slice_get-get_or, slice_get_within}
 use Rattle.nsq_base.specs.Name.{IsName, is_ephemeral}
 use Rattle.nsq_outside.specs.Files.{Files}
-use Rattle.history.specs.Data.{durable}
-use Rattle.history.specs.Found.{Pairwise}
+use Rattle.path_image.specs.Data.{durable}
+use Rattle.path_image.specs.Found.{Pairwise}
 use Rattle.backlog.specs.Lists.{DiskChanges, Stands}
 use Rattle.backlog.specs.Answers.{FlushFails}
 use Rattle.backlog.specs.declared.answers.Flushed.{Flushed}

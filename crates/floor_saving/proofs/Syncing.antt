@@ -23,7 +23,7 @@ use Rattle.floor_rooms.proofs.Sounding.{KeepsRest, at_all, members_before, membe
 use Rattle.floor_rooms.proofs.Marked.{IsElse, else_keeps, else_stays}
 use Rattle.floor_rooms.proofs.Turning.{room_change, stall_change}
 use Rattle.floor_rooms.proofs.Filing.{only_of_channel, only_of_topic}
-use Rattle.history.specs.Found.{Pairwise}
+use Rattle.path_image.specs.Found.{Pairwise}
 use Rattle.floor_saving.specs.Saving.{ClearsRoom, ClearsRooms, ClearsStall, IsNotDue, IsQueueDone, MarkGoes, SavesRoom, SavesStall, Synced}
 use Rattle.floor_saving.proofs.Marking.{early_same, goes_still, mark_goes, mark_kept, queue_done}
 use Rattle.floor_saving.proofs.Clearing.{clears_at_room, clears_at_stall}

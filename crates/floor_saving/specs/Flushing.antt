@@ -4,7 +4,7 @@ use Rattle.nsq_base.specs.Name.{IsName, is_ephemeral}
 use Rattle.nsq_base.specs.Names.{IsAscendingBy}
 use Rattle.nsq_outside.specs.Files.{Files}
 use Rattle.v2_frame.specs.declared.message.Message.{Message}
-use Rattle.history.specs.Found.{HasMessages, Pairwise}
+use Rattle.path_image.specs.Found.{HasMessages, Pairwise}
 use Rattle.backlog.specs.Answers.{FlushFails}
 use Rattle.backlog.specs.declared.answers.Flushed.{Flushed}
 use Rattle.backlog.specs.declared.answers.Flushed.TheVariants.{Done, Fault}

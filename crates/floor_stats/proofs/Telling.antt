@@ -9,7 +9,7 @@ use Rattle.nsq_base.specs.Name.{is_ephemeral}
 use Rattle.nsq_base.specs.declared.options.Options.{Options}
 use Rattle.nsq_outside.specs.Files.{Files}
 use Rattle.v2_frame.specs.declared.message.Message.{Message}
-use Rattle.history.specs.Found.{Pairwise}
+use Rattle.path_image.specs.Found.{Pairwise}
 use Rattle.backlog.specs.Lists.{OnDisk}
 use Rattle.broker_history.specs.declared.stats.ClientStats.{ClientStats}
 use Rattle.broker_history.specs.declared.stats.ChannelStats.{ChannelStats}

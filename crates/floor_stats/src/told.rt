@@ -1,6 +1,6 @@
 ghost use Rattle.std.specs.Prelude.{◌≡◌, ◌<◌, All, AllPairs, IfOk, IsSome, filter};
 ghost use Rattle.nsq_outside.specs.Files.{Files};
-ghost use Rattle.history.specs.Found.{Pairwise};
+ghost use Rattle.path_image.specs.Found.{Pairwise};
 ghost use Rattle.broker_history.specs.State.{State, has_channel};
 ghost use Rattle.broker_history.specs.Said.{Tells, is_wanted};
 ghost use Rattle.floor_rooms.specs.Rooms.{channel_name, client_in, topic_name};

@@ -7,8 +7,8 @@ use Rattle.std.proofs.lemmas.Bool.{false≢true}
 use Rattle.std.proofs.lemmas.Option.{get_or_from_slice_get}
 use Rattle.nsq_base.specs.Name.{is_ephemeral}
 use Rattle.nsq_outside.specs.Files.{Files}
-use Rattle.history.specs.Data.{durable}
-use Rattle.history.specs.Found.{Pairwise}
+use Rattle.path_image.specs.Data.{durable}
+use Rattle.path_image.specs.Found.{Pairwise}
 use Rattle.broker_history.specs.State.{Channel, State, is_ephemeral_channel}
 use Rattle.broker_history.specs.Changes.{set_paused}
 use Rattle.channel_core.specs.Seen.{seen_channel}

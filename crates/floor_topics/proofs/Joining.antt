@@ -12,7 +12,7 @@ use Rattle.nsq_outside.specs.Files.{Files}
 use Rattle.queue_files.specs.declared.options.QueueOptions.{QueueOptions}
 use Rattle.queue_image.specs.FileNames.{meta_file}
 use Rattle.queue_image.specs.Metas.{IsIdle}
-use Rattle.history.specs.Found.{Pairwise}
+use Rattle.path_image.specs.Found.{Pairwise}
 use Rattle.v2_frame.specs.declared.message.Message.{Message}
 use Rattle.disk_queue.specs.Seen.{Seen as Queue, forgotten, fresh_queue}
 use Rattle.disk_queue.specs.Holding.{SaveStands}

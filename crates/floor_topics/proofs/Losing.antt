@@ -7,7 +7,7 @@ use Rattle.std.proofs.lemmas.Bool.{false≢true}
 use Rattle.std.proofs.lemmas.Option.{get_or_from_slice_get, slice_get_within}
 use Rattle.nsq_base.specs.Name.{is_ephemeral}
 use Rattle.nsq_outside.specs.Files.{Files}
-use Rattle.history.specs.Found.{Pairwise}
+use Rattle.path_image.specs.Found.{Pairwise}
 use Rattle.broker_history.specs.State.{Channel, State, Topic, channel_of, is_empty, topic_of}
 use Rattle.broker_history.specs.Changes.{deleted, deleted_in, lost, with_fewer, without_channel, without_topic}
 use Rattle.floor_laws.proofs.Pairs.{IfBoth, pairs_found}

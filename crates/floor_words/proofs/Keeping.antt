@@ -6,7 +6,7 @@ use Rattle.std.proofs.lemmas.List.{append-nil, map-append}
 use Rattle.std.proofs.lemmas.List.Elements.{filter-append}
 use Rattle.nsq_base.specs.Name.{is_ephemeral}
 use Rattle.nsq_outside.specs.Files.{Files}
-use Rattle.history.specs.Data.{durable}
+use Rattle.path_image.specs.Data.{durable}
 use Rattle.broker_history.specs.State.{Channel, State, Topic}
 use Rattle.broker_history.specs.Left.{kept_channel, kept_names, kept_topic}
 use Rattle.floor_laws.proofs.Counting.{counts_alike}

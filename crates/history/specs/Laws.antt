@@ -1,6 +1,5 @@
 -- What follows from the definitions, each the contract of a function that does nothing.
 use Rattle.std.specs.Prelude.{◌≡◌, ℕ, ◌+◌, ◌≤◌, Bool, false, List, [], ◌∷◌, ◌++◌}
-use Rattle.nsq_outside.specs.Files.{Files}
 use Rattle.nsq_outside.specs.declared.journal.End.{End}
 use Rattle.v2_frame.specs.declared.command.Command.{Command}
 use Rattle.v2_frame.specs.declared.fault.Limits.{Limits}
@@ -15,8 +14,6 @@ use Rattle.history.specs.State.{State}
 use Rattle.history.specs.Legal.{History, Legal, has_stop, stops_of, faults_of, faults_apart}
 use Rattle.history.specs.Talk.{own, has_gone, stops_before_gone, IsOpen, IsTalk, IsTalkIn, bytes_of, commands_of}
 use Rattle.history.specs.Follow.{IsFront, Follows}
-use Rattle.history.specs.Data.{Kept, IsNames, CanKeep, names_text}
-use Rattle.history.specs.Found.{Finding, IsFound}
 
 -- two legal histories, the second from where the first leads, are one
 abbrev pub HistoriesJoin : Type 0
@@ -93,15 +90,3 @@ TalksFollowScripts = (limits : Limits) (pieces : List (List ℕ)) (h : History) 
 abbrev pub OnlyTalksFollowScripts : Type 0
 OnlyTalksFollowScripts = (limits : Limits) (pieces : List (List ℕ)) (h : History) (commands : List Command) (rest : Rest)
     → IsOpen limits pieces h → IsScript limits (bytes_of pieces) commands rest → Follows limits pieces h (commands_of h) × IsFront (commands_of h) commands
-
--- the text that is written for what can be kept keeps it
-abbrev pub NamesReadBack : Type 0
-NamesReadBack = (kept : Kept) → CanKeep kept → IsNames (names_text kept) kept
-
--- a text keeps one thing only
-abbrev pub NamesAreOne : Type 0
-NamesAreOne = (text : List ℕ) (a b : Kept) → IsNames text a → IsNames text b → a ≡ b
-
--- an opening finds one thing only
-abbrev pub FindingIsOne : Type 0
-FindingIsOne = (files : Files) (x y : Finding) → IsFound files x → IsFound files y → x ≡ y

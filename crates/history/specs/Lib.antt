@@ -3,8 +3,6 @@ pub mod Reply
 pub mod Step
 pub mod Legal
 pub mod Talk
-pub mod Data
-pub mod Once
-pub mod Found
 pub mod Laws
 pub mod Follow
+pub mod Starting

@@ -1,6 +1,6 @@
 //! What follows from the definitions alone: each function's contract is a law, and its body is empty.
 
-ghost use Rattle.history.specs.Laws.{HistoriesJoin, FrontsAreLegal, StopsAreOnce, FaultsAreApartButOne, MomentsNeverFall, OwnEntriesJoin, OnlyGonesTell, GonesTell, OthersAreNotGone, TalksStay, TalksWithoutGone, TalksWithGone, TalksTakeCommandsInOrder, FinishedTalksTakeAll, TalksFollowScripts, OnlyTalksFollowScripts, NamesReadBack, NamesAreOne, FindingIsOne};
+ghost use Rattle.history.specs.Laws.{HistoriesJoin, FrontsAreLegal, StopsAreOnce, FaultsAreApartButOne, MomentsNeverFall, OwnEntriesJoin, OnlyGonesTell, GonesTell, OthersAreNotGone, TalksStay, TalksWithoutGone, TalksWithGone, TalksTakeCommandsInOrder, FinishedTalksTakeAll, TalksFollowScripts, OnlyTalksFollowScripts};
 
 /// Legal histories join, each front of one is legal, its moments never fall, it has one Stop at most, and of its disk faults at
 /// most one stands just before that.
@@ -30,15 +30,4 @@ pub fn talks()
     ensures all { FinishedTalksTakeAll }
     ensures follow { TalksFollowScripts }
     ensures only_follow { OnlyTalksFollowScripts }
-{}
-
-/// The text that is written for names reads back as them.
-pub fn names()
-    ensures { NamesReadBack }
-{}
-
-/// A file of names keeps one thing only, and an opening of a folder finds one thing only.
-pub fn openings()
-    ensures names { NamesAreOne }
-    ensures finding { FindingIsOne }
 {}

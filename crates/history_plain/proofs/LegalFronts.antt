@@ -5,7 +5,7 @@ use Rattle.history.specs.declared.entry.Entry.{Entry}
 use Rattle.history.specs.State.{State}
 use Rattle.history.specs.Legal.{History, MayStep, Step, Legal, more, IsIllegal}
 use Rattle.history.proofs.Histories.{not_legal_behind}
-use Rattle.history_plain.proofs.Lists.{take_next, parts_at}
+use Rattle.path_plain.proofs.Lists.{take_next, parts_at}
 
 -- a legal history up to a place, and one more step
 pub legal_next : (s t u : State) (h : History) (i : ℕ) (d e : Entry × End) → i < length h → e ≡ get_or h i d → Legal s (take i h) t → Step t e u → Legal s (take (i + 1) h) u

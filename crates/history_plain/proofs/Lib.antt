@@ -1,5 +1,2 @@
-pub mod Lists
 pub mod LegalFronts
 pub mod PlainTalk
-pub mod NameLists
-pub mod FindingLemmas

@@ -27,7 +27,7 @@ use Rattle.history.specs.Reply.{answered, answer_bytes, memory_frame, written_by
 use Rattle.history.specs.Talk.{Going, IsOpen, IsWaiting, IsClosed, ClosesBy, HasFault, closes_answer, place_of, WithGone, MayHaveGone, IsCutShort, IsGivenUp, Finishes, Closes, Breaks, GivesUp, bytes_of, command_in, commands_of}
 use Rattle.history.specs.Follow.{IsFront, Takes, TakeAll, IsPiece, Timely, none, more}
 use Rattle.history_plain.specs.PlainTalk.{Stays, IsTaken, MayRead, EndsScript, IsCut}
-use Rattle.history_plain.proofs.Lists.{take_next}
+use Rattle.path_plain.proofs.Lists.{take_next}
 use Rattle.history.proofs.Talks.{bytes_of-next, commands_of-next, did_commands, Tracks, tracks, tracks_did, waiting_script}
 use Rattle.history.proofs.Following.{TakeAll-next, taken_commands, front_all, settle, needs_more, has_fault, ready, row_shorter, tracked_front, began_commands, open_from_follows, follows, open_front}
 

@@ -1,3 +1,1 @@
-pub mod Reads
 pub mod PlainTalk
-pub mod Findings

@@ -2,7 +2,7 @@ ghost use Rattle.std.specs.Prelude.{◌≡◌, [], ◌∷◌, ◌++◌, IfOk, On
 ghost use Rattle.std.specs.Str.{bytes_eq};
 ghost use Rattle.history.specs.State.{is_there, has_begun, with_client, without_client};
 
-use crate::by_name::Named;
+use path_plain::Named;
 use nsq_base::{Memory, Options, Topic};
 use std::alloc::Global;
 use std::marker::Model;

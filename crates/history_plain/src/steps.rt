@@ -8,7 +8,7 @@ ghost use Rattle.history.specs.Reply.{reply, refusal, ok_frame};
 ghost use Rattle.history.specs.Step.{IsServed, CanFault, IsAllowedAct, IsAllowed, DoesCommand, DoesAct};
 ghost use Rattle.history.specs.Legal.{Step, MayStep};
 
-use crate::by_name::put;
+use path_plain::put;
 use crate::replies::{has_ids, ok_frame, refusal, reply, same_frame, same_reply};
 use crate::{State, TopicState, Waiting};
 use history::{Act, Entry};

@@ -1,6 +1,6 @@
 //! Folders, and what an opening finds in each.
 
-use history_plain::{Finding, FoundChannel, FoundNames, FoundTopic, found};
+use path_plain::{Finding, FoundChannel, FoundNames, FoundTopic, found};
 use nsq_base::{Body, Memory};
 use queue_plain::NamedFile;
 use std::alloc::Global;

@@ -1,4 +1,4 @@
-//! Rows of the crates `history` and `history_plain`: histories, texts of names, what openings find, and conversations.
+//! Rows of the crates `history`, `path_image` and their plain programs: histories, texts of names, what openings find, and conversations.
 #![tactic(auto)]
 
 #[cfg(test)]

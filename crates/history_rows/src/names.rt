@@ -1,6 +1,6 @@
 //! Texts of a file of names, and what each keeps.
 
-use history_plain::{KeptChannel, KeptNames, KeptTopic, read_names};
+use path_plain::{KeptChannel, KeptNames, KeptTopic, read_names};
 use nsq_base::Memory;
 use std::alloc::Global;
 use std::test::Fail;

@@ -1,7 +1,7 @@
 -- The text that is written keeps what it was written of.
 use Rattle.std.proofs.Common.{ℕ, ◌≤◌, ◌<◌, ◌^◌, ◌≡◌, List, length, subst, sym, arith}
-use Rattle.history.specs.Data.{IsNames, KeptTopic, longest_data, names_text}
-use Rattle.history.proofs.NameTexts.{names_text-IsNames}
+use Rattle.path_image.specs.Data.{IsNames, KeptTopic, longest_data, names_text}
+use Rattle.path_image.proofs.NameTexts.{names_text-IsNames}
 use Rattle.names_file.specs.Kept.{CanKeepAll}
 use Rattle.names_file.specs.Texts.{kept_of}
 use Rattle.names_file.proofs.Utf8Names.{names_utf8}

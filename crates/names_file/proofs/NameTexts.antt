@@ -12,7 +12,7 @@ use Rattle.json.proofs.Printed.Strings.{escape_byte_plain}
 use Rattle.serde_json.specs.Data as json
 use Rattle.serde_json.specs.Written as written
 use Rattle.nsq_base.specs.Name.{IsName, is_name_byte, is_ephemeral, ephemeral_suffix}
-use Rattle.history.specs.Data.{items_of, KeptChannel, KeptTopic, channel_data, topic_data, names_text}
+use Rattle.path_image.specs.Data.{items_of, KeptChannel, KeptTopic, channel_data, topic_data, names_text}
 use Rattle.names_file.specs.Texts.{kept_of, channel_text, topic_text, items_text, list_text, end_text, comma_if}
 
 -- bytes that JSON writes as they are

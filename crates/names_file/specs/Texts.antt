@@ -2,7 +2,7 @@
 use Rattle.std.specs.Prelude.{ℕ, List, [], ◌∷◌, ◌++◌, Bool, true, false, codes}
 use Rattle.serde_json.specs.Data as json
 use Rattle.serde_json.specs.Written as written
-use Rattle.history.specs.Data.{KeptChannel, KeptTopic, Kept, channel_data, topic_data}
+use Rattle.path_image.specs.Data.{KeptChannel, KeptTopic, Kept, channel_data, topic_data}
 
 -- what the file keeps: an epoch and topics
 abbrev pub kept_of : ℕ → List KeptTopic → Kept

@@ -11,7 +11,7 @@ pub struct KeptChannel {
 }
 
 impl Model for KeptChannel {
-    ghost use Rattle.history.specs.Data as names;
+    ghost use Rattle.path_image.specs.Data as names;
 
     ghost Value = { names.KeptChannel };
 
@@ -30,7 +30,7 @@ pub struct KeptTopic {
 }
 
 impl Model for KeptTopic {
-    ghost use Rattle.history.specs.Data as names;
+    ghost use Rattle.path_image.specs.Data as names;
 
     ghost Value = { names.KeptTopic };
 

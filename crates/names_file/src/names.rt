@@ -1,5 +1,5 @@
 ghost use Rattle.std.specs.Prelude.{◌≡◌, ◌≤◌, ◌++◌, List, length, ℕ, OnOk, OnErr};
-ghost use Rattle.history.specs.Data.{IsNames, longest_data, names_text};
+ghost use Rattle.path_image.specs.Data.{IsNames, longest_data, names_text};
 ghost use Rattle.nsq_base.specs.Name.{IsName};
 ghost use Rattle.names_file.specs.Kept.{CanKeepAll};
 ghost use Rattle.names_file.specs.Texts.{kept_of, channel_text, topic_text, list_text, end_text, comma_if};

@@ -8,7 +8,7 @@ use Rattle.serde_json.specs.Data as json
 use Rattle.nsq_base.specs.Name.{is_ephemeral}
 use Rattle.nsq_base.specs.Names.{IsAscendingBy}
 use Rattle.nsq_base.proofs.PutBy.{filter_all}
-use Rattle.history.specs.Data.{KeptChannel, KeptTopic, ItemsSay, SaysList, SaysChannel, SaysTopic, IsKept, durable, in_order, last_epoch, SaysEpoch, CanKeepChannel, CanKeepTopic}
+use Rattle.path_image.specs.Data.{KeptChannel, KeptTopic, ItemsSay, SaysList, SaysChannel, SaysTopic, IsKept, durable, in_order, last_epoch, SaysEpoch, CanKeepChannel, CanKeepTopic}
 use Rattle.names_file.specs.Kept.{CanKeepAll}
 use Rattle.names_reading.specs.Durable.{AreDurable}
 use Rattle.names_reading.specs.Reading.{AreApart, ListKeeps}

@@ -10,8 +10,8 @@ use Rattle.serde_json.specs.View.{items_of}
 use Rattle.serde_json.specs.Find.{get, as_array}
 use Rattle.serde_json.specs.Read.{read}
 use Rattle.nsq_base.specs.Name.{is_ephemeral}
-use Rattle.history.specs.Data.{KeptChannel, KeptTopic, ItemsSay, SaysList, SaysChannel, SaysTopic, IsBadNames, durable, in_order}
-use Rattle.history.specs.Once.{items_once}
+use Rattle.path_image.specs.Data.{KeptChannel, KeptTopic, ItemsSay, SaysList, SaysChannel, SaysTopic, IsBadNames, durable, in_order}
+use Rattle.path_image.specs.Once.{items_once}
 use Rattle.names_reading.specs.declared.names.Unread.{Unread}
 use Rattle.names_reading.specs.declared.names.Unread.TheVariants.{Bad}
 use Rattle.names_reading.specs.Reading.{AreApart, AreSorted, SaysNothing, ItemsKeep, ListKeeps, present}

@@ -8,7 +8,7 @@ use Rattle.std.proofs.lemmas.List.Elements.{All-nil, All-cons, All-head, All-tai
 use Rattle.std.proofs.lemmas.List.Sorted.{IsPermutation-sym, Contains-permutation}
 use Rattle.nsq_base.specs.Names.{byte_order, is_before, IsAscendingBy, put_by}
 use Rattle.nsq_base.proofs.PutBy.{byte_order-flip, same_from_tie, IsAscendingBy-put_by, All-put_by}
-use Rattle.history.proofs.NameLists.{before_once}
+use Rattle.path_image.proofs.NameLists.{before_once}
 use Rattle.names_reading.specs.Reading.{AreApart}
 
 module _ {X : Type 0} where

@@ -12,7 +12,7 @@ use Rattle.std.proofs.lemmas.List.Sums.{length-filter}
 use Rattle.std.proofs.lemmas.Slice.Eq.{bytes_eq-Decides}
 use Rattle.nsq_base.specs.Names.{byte_order, is_before, IsAscendingBy}
 use Rattle.nsq_base.proofs.PutBy.{byte_order-flip, same_from_tie, is_before-trans, filter_none}
-use Rattle.history.proofs.NameLists.{before_once}
+use Rattle.path_image.proofs.NameLists.{before_once}
 use Rattle.names_reading.specs.Reading.{AreApart, AreSorted}
 use Rattle.names_reading.proofs.Putting.{sorted_put}
 

@@ -1,7 +1,7 @@
 -- Topics and channels that are written to disk.
 use Rattle.std.specs.Prelude.{◌≡◌, false, List, All}
 use Rattle.nsq_base.specs.Name.{is_ephemeral}
-use Rattle.history.specs.Data.{KeptChannel, KeptTopic}
+use Rattle.path_image.specs.Data.{KeptChannel, KeptTopic}
 
 -- no topic is ephemeral, and no channel of theirs
 pub record AreDurable (these : List KeptTopic) : Type 0 where

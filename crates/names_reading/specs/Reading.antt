@@ -1,7 +1,7 @@
 -- What the parts of a reader of the file of names answer. No public clause cites this module.
 use Rattle.std.specs.Prelude.{◌≡◌, ℕ, ◌≢◌, List, AllPairs, Option, Some, None, MatchOption}
 use Rattle.serde_json.specs.Data as json
-use Rattle.history.specs.Data.{ItemsSay, SaysList, IsKept, durable, in_order}
+use Rattle.path_image.specs.Data.{ItemsSay, SaysList, IsKept, durable, in_order}
 
 module _ {D X : Type 0} (Says : D → X → Type 0) where
   -- the data says nothing

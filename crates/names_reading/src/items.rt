@@ -2,8 +2,8 @@ ghost use Rattle.std.specs.Prelude.{◌≡◌, IfOk, IfErr, codes};
 ghost use Rattle.serde_json.specs.Data.{Data};
 ghost use Rattle.serde_json.specs.Find.{get};
 ghost use Rattle.serde_json.specs.View.{view, items_view};
-ghost use Rattle.history.specs.Data.{SaysChannel, SaysTopic, ItemsSay};
-ghost use Rattle.history.specs.Once.{channel_once, topic_once};
+ghost use Rattle.path_image.specs.Data.{SaysChannel, SaysTopic, ItemsSay};
+ghost use Rattle.path_image.specs.Once.{channel_once, topic_once};
 ghost use Rattle.names_reading.specs.Reading.{SaysNothing, ItemsKeep, ListKeeps};
 ghost use Rattle.names_reading.specs.declared.names.Unread.TheVariants.{Bad};
 

@@ -1,6 +1,6 @@
 //! The text of a daemon's file of durable names, `nsqd.dat`, is read.
 //!
-//! `history`'s `specs/Data.antt` says what a text keeps, and which text is bad.
+//! `path_image`'s `specs/Data.antt` says what a text keeps, and which text is bad.
 #![tactic(auto)]
 
 mod items;

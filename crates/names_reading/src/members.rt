@@ -1,7 +1,7 @@
 ghost use Rattle.std.specs.Prelude.{◌≡◌, option_map, option_and_then, codes};
 ghost use Rattle.serde_json.specs.Find.{get, as_str};
 ghost use Rattle.serde_json.specs.View.{view};
-ghost use Rattle.history.specs.Data.{SaysFlag, SaysEpoch};
+ghost use Rattle.path_image.specs.Data.{SaysFlag, SaysEpoch};
 ghost use Rattle.names_reading.specs.Reading.{Answers, present};
 
 use serde_json::Value;

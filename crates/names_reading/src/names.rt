@@ -1,7 +1,7 @@
 ghost use Rattle.std.specs.Prelude.{◌≡◌, ◌≤◌, IfOk, IfErr, IsUtf8, Some, None};
 ghost use Rattle.serde_json.specs.Read.{read};
 ghost use Rattle.serde_json.specs.View.{view};
-ghost use Rattle.history.specs.Data.{IsNames, IsBadNames, last_epoch};
+ghost use Rattle.path_image.specs.Data.{IsNames, IsBadNames, last_epoch};
 ghost use Rattle.names_file.specs.Kept.{CanKeepAll};
 ghost use Rattle.names_reading.specs.Durable.{AreDurable};
 ghost use Rattle.names_reading.specs.declared.names.Unread.TheVariants.{Bad, Memory};
@@ -27,7 +27,7 @@ pub struct ListedNames {
 }
 
 impl Model for ListedNames {
-    ghost use Rattle.history.specs.Data.{Kept};
+    ghost use Rattle.path_image.specs.Data.{Kept};
 
     ghost Value = { Kept };
 

@@ -6,7 +6,7 @@ use Rattle.std.proofs.lemmas.List.Elements.{All-nil, All-cons, All-head, All-tai
 use Rattle.nsq_base.specs.Name.{IsEphemeral}
 use Rattle.queue_image.specs.FileNames.{IsOwnFile}
 use Rattle.history.specs.Legal.{none}
-use Rattle.history.specs.Found.{Pairwise}
+use Rattle.path_image.specs.Found.{Pairwise}
 use Rattle.history.specs.State.{State, Topic}
 use Rattle.broker_core.specs.Floors.{Room, IsRoomOf, Scene, LedTo, Leads}
 use Rattle.broker_core.specs.Following.{legal_follow, faults_follow, times_follow}

@@ -12,8 +12,9 @@ use Rattle.nsq_outside.specs.declared.host.Kind.{Kind}
 use Rattle.v2_frame.specs.declared.fault.Limits.{Limits}
 use Rattle.nsq_outside.specs.declared.journal.End.{End}
 use Rattle.history.specs.declared.entry.Entry.{Entry}
-use Rattle.history.specs.Data.{data_name}
-use Rattle.history.specs.Found.{IsFound, Names, start}
+use Rattle.path_image.specs.Data.{data_name}
+use Rattle.path_image.specs.Found.{IsFound, Names}
+use Rattle.history.specs.Starting.{start}
 use Rattle.history.specs.Legal.{History, Legal, stops_of, faults_of, faults_apart}
 use Rattle.history.proofs.Stops.{stops_once, faults_but_one}
 use Rattle.broker_core.specs.Floors.{Scene, Stands}

@@ -10,8 +10,9 @@ use Rattle.v2_frame.specs.declared.fault.Limits.{Limits}
 use Rattle.nsq_outside.specs.declared.journal.End.{End}
 use Rattle.history.specs.declared.entry.Act.TheVariants.{Stop}
 use Rattle.history.specs.declared.entry.Entry.{Entry}
-use Rattle.history.specs.Data.{data_name, last_epoch}
-use Rattle.history.specs.Found.{Found, IsFound, Names, start}
+use Rattle.path_image.specs.Data.{data_name, last_epoch}
+use Rattle.path_image.specs.Found.{Found, IsFound, Names}
+use Rattle.history.specs.Starting.{start}
 use Rattle.history.specs.Legal.{History, Legal, stops_of, faults_of, faults_apart}
 use Rattle.history.specs.State.{State, Topic}
 use Rattle.broker_core.specs.Floors.{Scene, Stands}

@@ -10,15 +10,14 @@ use Rattle.queue_image.specs.Finds.{Records}
 use Rattle.queue_image.proofs.Naming.{long_name}
 use Rattle.queue_image.proofs.Keeping.{finding_keeps}
 use Rattle.queue_files.specs.Replaced.{OnlyTwoChange}
-use Rattle.history.specs.Data.{data_name}
-use Rattle.history.specs.Found.{HasMessages, least_record, longest_record}
+use Rattle.path_image.specs.Data.{data_name, temp_name}
+use Rattle.path_image.specs.Found.{HasMessages, least_record, longest_record}
 use Rattle.broker_history.specs.State.{Channel, State, Topic}
 use Rattle.broker_history.specs.Left.{durable_channels, durable_topics, left_in_channel}
 use Rattle.topic_core.specs.Laws.{OwnFilesStay}
 use Rattle.topic_core.specs.Rows.{FindsLeft}
 use Rattle.channel_core.specs.Seen.{queue_name}
 use Rattle.floor_saving.specs.Flushing.{FindsQueue, LeavesAll, LeavesBut, LeavesChannel, LeavesTopic, LeavesTopicBut}
-use Rattle.path_closing.specs.Closings.{temp_name}
 
 -- a file of a queue has another name than the file of names and its temporary, which are too short
 no_names : (name file : List ℕ) → IsOwnFile name file → (file ≢ data_name) × (file ≢ temp_name)

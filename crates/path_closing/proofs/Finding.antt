@@ -3,9 +3,9 @@ use Rattle.std.proofs.Common.{ℕ, List, [], ◌∷◌, map, refl, ap, sym, subs
 use Rattle.std.specs.List.{All}
 use Rattle.std.proofs.lemmas.List.Elements.{All-head, All-tail}
 use Rattle.nsq_outside.specs.Files.{Files}
-use Rattle.history.specs.Data.{names_text}
-use Rattle.history.specs.Found.{FindsChannel, FindsTopic, FoundChannel, FoundTopic, Pairwise}
-use Rattle.history.specs.Found.IsFound.{names as shows_names, spent as shows_spent}
+use Rattle.path_image.specs.Data.{names_text}
+use Rattle.path_image.specs.Found.{FindsChannel, FindsTopic, FoundChannel, FoundTopic, Pairwise}
+use Rattle.path_image.specs.Found.IsFound.{names as shows_names, spent as shows_spent}
 use Rattle.broker_history.specs.State.{Channel, State, Topic}
 use Rattle.broker_history.specs.Left.{IsLeftChannel, IsLeftTopic, durable_channels, durable_topics, kept_channel, kept_names, kept_topic}
 use Rattle.names_file.specs.Texts.{kept_of}

@@ -6,7 +6,7 @@ use Rattle.nsq_outside.specs.Files.{Files}
 use Rattle.nsq_outside.specs.declared.did.Did.{Did}
 use Rattle.nsq_outside.specs.declared.did.Did.TheVariants as did
 use Rattle.queue_files.specs.Replaced.{OnlyTwoChange, Replaces}
-use Rattle.history.specs.Data.{data_name}
+use Rattle.path_image.specs.Data.{data_name, temp_name}
 use Rattle.names_file.specs.Texts.{kept_of}
 use Rattle.backlog.specs.declared.answers.Flushed.{Flushed}
 use Rattle.backlog.specs.declared.answers.Flushed.TheVariants as flushed
@@ -17,7 +17,7 @@ use Rattle.floor_rooms.specs.Kept.{hall_kept}
 use Rattle.floor_rooms.specs.Standing.{HoldsFor}
 use Rattle.floor_saving.specs.Flushing.{LeavesOthers, LeavesWhere}
 use Rattle.broker_floor.specs.Ending.{FloorFlushFails}
-use Rattle.path_closing.specs.Closings.{HasNames, IsTextOf, KeepsNames, Leaves, NamesOrOneMore, NamesStay, OldOrNew, ShutFails, ShutsDown, WhereClean, WhereShutWants, WhereTried, shut_end, temp_name}
+use Rattle.path_closing.specs.Closings.{HasNames, IsTextOf, KeepsNames, Leaves, NamesOrOneMore, NamesStay, OldOrNew, ShutFails, ShutsDown, WhereClean, WhereShutWants, WhereTried, shut_end}
 use Rattle.path_closing.specs.declared.shutting.ShutEnd.TheVariants as shut
 use Rattle.path_closing.proofs.Apart.{all_behind, but_behind, names_apart, temp_apart}
 use Rattle.path_closing.proofs.Finding.{all_left}

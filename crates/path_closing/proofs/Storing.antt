@@ -4,10 +4,10 @@ use Rattle.nsq_outside.specs.Files.{Files}
 use Rattle.nsq_outside.specs.declared.did.Did.{Did}
 use Rattle.nsq_outside.specs.declared.did.Did.TheVariants.{Done, Failed}
 use Rattle.queue_files.specs.Replaced.{Replaces}
-use Rattle.history.specs.Data.{IsNames, Kept, KeptTopic, data_name, longest_data, names_text}
+use Rattle.path_image.specs.Data.{IsNames, Kept, KeptTopic, data_name, longest_data, names_text, temp_name}
 use Rattle.names_file.specs.Kept.{CanKeepAll}
 use Rattle.names_file.specs.Texts.{kept_of}
-use Rattle.path_closing.specs.Closings.{IsTextOf, KeepsNames, OldOrNew, temp_name}
+use Rattle.path_closing.specs.Closings.{IsTextOf, KeepsNames, OldOrNew}
 
 -- the text that was appended to nothing is the text of what was lent
 pub is_text : (text out before : List ℕ) (told epoch : ℕ) (lent kept : List KeptTopic) → text ≡ out → out ≡ before ++ names_text (kept_of told lent) → before ≡ [] → told ≡ epoch → lent ≡ kept → told < 2 ^ 24 → CanKeepAll lent

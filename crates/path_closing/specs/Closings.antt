@@ -1,12 +1,12 @@
 -- What saving the names and shutting a floor answer, and why, and what they leave in the folder.
-use Rattle.std.specs.Prelude.{◌≡◌, ◌≢◌, ◌⊎◌, ◌≤◌, ◌<◌, ◌+◌, ◌-◌, ◌^◌, ℕ, min, Bool, false, true, IsTrue, List, length, Some, None, codes}
+use Rattle.std.specs.Prelude.{◌≡◌, ◌≢◌, ◌⊎◌, ◌≤◌, ◌<◌, ◌+◌, ◌-◌, ◌^◌, ℕ, min, Bool, false, true, IsTrue, List, length, Some, None}
 use Rattle.nsq_outside.specs.Causes.{Rose}
 use Rattle.nsq_outside.specs.Files.{Files}
 use Rattle.nsq_outside.specs.declared.did.Did.{Did}
 use Rattle.nsq_outside.specs.declared.did.Did.TheVariants as did
 use Rattle.queue_image.specs.FileNames.{IsOwnFile, IsQueueName}
-use Rattle.history.specs.Data.{IsNames, Kept, data_name, last_epoch, names_text}
-use Rattle.history.specs.Found.{EpochSpent, Found, IsFound, Names}
+use Rattle.path_image.specs.Data.{IsNames, Kept, data_name, last_epoch, names_text, temp_name}
+use Rattle.path_image.specs.Found.{EpochSpent, Found, IsFound, Names}
 use Rattle.names_file.specs.Texts.{kept_of}
 use Rattle.backlog.specs.declared.answers.Flushed.{Flushed}
 use Rattle.backlog.specs.declared.answers.Flushed.TheVariants as flushed
@@ -21,10 +21,6 @@ use Rattle.path_closing.specs.declared.saving.Saved.{Saved}
 use Rattle.path_closing.specs.declared.saving.Saved.TheVariants as saved
 use Rattle.path_closing.specs.declared.shutting.ShutEnd.{ShutEnd}
 use Rattle.path_closing.specs.declared.shutting.ShutEnd.TheVariants as shut
-
--- what the file of names is called while it is written
-abbrev pub temp_name : List ℕ
-temp_name = codes "nsqd.dat.tmp"
 
 -- the text is that of these names, and keeps them
 pub record IsTextOf (text : List ℕ) (kept : Kept) : Type 0 where

@@ -1,28 +1,19 @@
 ghost use Rattle.std.specs.Prelude.{◌≡◌, ◌≤◌, false, IfOk, IsTrue};
 ghost use Rattle.nsq_outside.specs.Files.{SameFiles};
 ghost use Rattle.queue_files.specs.Replaced.{OnlyTwoChange};
-ghost use Rattle.history.specs.Data.{data_name};
+ghost use Rattle.path_image.specs.Data.{data_name, temp_name};
 ghost use Rattle.names_file.specs.Texts.{kept_of};
 ghost use Rattle.broker_history.specs.State.{State};
 ghost use Rattle.floor_rooms.specs.Kept.{hall_kept};
 ghost use Rattle.floor_rooms.specs.Standing.{HoldsFor};
-ghost use Rattle.path_closing.specs.Closings.{HeldBehind, IsTextOf, KeepsNames, OldOrNew, SaveFails, WhereSaved, WhereSaveWants, temp_name};
+ghost use Rattle.path_closing.specs.Closings.{HeldBehind, IsTextOf, KeepsNames, OldOrNew, SaveFails, WhereSaved, WhereSaveWants};
 
 use broker_floor::Floor;
 use broker_history::Entry;
-use names_file::write_names;
+use names_file::{LONGEST_NAMES, NAMES, NAMES_TEMP, write_names};
 use nsq_base::Memory;
 use nsq_outside::{Clock, Did, Folder, Journal};
 use std::alloc::Global;
-
-/// The file of the durable names.
-pub(crate) const NAMES: &str = "nsqd.dat";
-
-/// What the file of names is called while it is written.
-pub(crate) const NAMES_TEMP: &str = "nsqd.dat.tmp";
-
-/// The most bytes that the file of names has.
-const LONGEST_NAMES: usize = 1 << 24;
 
 /// How saving the names ended.
 #[derive(Clone, Copy, PartialEq, Eq)]

@@ -1,17 +1,18 @@
 ghost use Rattle.std.specs.Prelude.{◌≡◌, ◌≤◌, false, true, IsTrue};
 ghost use Rattle.nsq_outside.specs.Causes.{DidFails};
 ghost use Rattle.queue_files.specs.Replaced.{OnlyTwoChange, Replaces};
-ghost use Rattle.history.specs.Data.{data_name};
+ghost use Rattle.path_image.specs.Data.{data_name, temp_name};
 ghost use Rattle.names_file.specs.Texts.{kept_of};
 ghost use Rattle.broker_history.specs.State.{State};
 ghost use Rattle.floor_rooms.specs.Kept.{hall_kept};
 ghost use Rattle.floor_rooms.specs.Standing.{HoldsFor};
-ghost use Rattle.path_closing.specs.Closings.{KeepsNames, Leaves, MissesSome, NamesStay, OldOrNew, ShutChanges, ShutFails, ShutsDown, WhereClean, WhereShutWants, shut_end, temp_name};
+ghost use Rattle.path_closing.specs.Closings.{KeepsNames, Leaves, MissesSome, NamesStay, OldOrNew, ShutChanges, ShutFails, ShutsDown, WhereClean, WhereShutWants, shut_end};
 
-use crate::saving::{NAMES, NAMES_TEMP, text_of};
+use crate::saving::text_of;
 use backlog::Flushed;
 use broker_floor::Floor;
 use broker_history::Entry;
+use names_file::{NAMES, NAMES_TEMP};
 use nsq_outside::{Clock, Did, Folder, Journal, Kit};
 use std::alloc::Global;
 

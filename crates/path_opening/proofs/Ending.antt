@@ -15,11 +15,11 @@ use Rattle.queue_image.specs.Finds.{BadMeta, Records}
 use Rattle.queue_image.proofs.Keeping.{finding_keeps}
 use Rattle.queue_image.proofs.Naming.{long_name}
 use Rattle.queue_files.specs.Replaced.{OnlyTwoChange, Replaces}
-use Rattle.history.specs.Data.{CanKeepChannel, IsNames, Kept, KeptChannel, KeptTopic, SaysEpoch, data_name, last_epoch, names_text}
+use Rattle.path_image.specs.Data.{CanKeepChannel, IsNames, Kept, KeptChannel, KeptTopic, SaysEpoch, data_name, last_epoch, names_text, temp_name}
 use Rattle.serde_json.specs.Data as json
 use Rattle.serde_json.specs.Find.{get_member}
-use Rattle.history.specs.Found.{BadData, Finding, Found, IsFound, Names, queues_of}
-use Rattle.history.specs.Found.IsFound.{spoilt}
+use Rattle.path_image.specs.Found.{BadData, Finding, Found, IsFound, Names, queues_of}
+use Rattle.path_image.specs.Found.IsFound.{spoilt}
 use Rattle.names_file.specs.Kept.{CanKeepAll}
 use Rattle.names_file.specs.Texts.{kept_of}
 use Rattle.queue_sweep.specs.Swept.{IsListedQueue, IsSweptTo}
@@ -38,7 +38,7 @@ use Rattle.floor_opening.specs.Opened.{IsBad, ListsStay}
 use Rattle.floor_opening.proofs.Leaving.{lists_then}
 use Rattle.path_opening.specs.Adding.{AddsTopics, Fills, HasNames, HasBadOf, HasOthersOnly, IsAdded, IsElsewhere, IsFilled, IsGood, IsNotAdded, IsNotFilled, IsNotSaved, IsOldOrKeeps, IsReady, IsUnread, IsWhyNotAdded, IsWhyNotSaved, OnlyFilledFiles, SameList, why_unswept}
 use Rattle.path_opening.specs.Opening.KeepsIn.{absent, written}
-use Rattle.path_opening.specs.Opening.{FindsAgain, IsNamesFinding, IsOpenedHall, IsRefusal, IsWhy, KeepsIn, OnlyOpeningFiles, Raises, temp_name}
+use Rattle.path_opening.specs.Opening.{FindsAgain, IsNamesFinding, IsOpenedHall, IsRefusal, IsWhy, KeepsIn, OnlyOpeningFiles, Raises}
 use Rattle.path_opening.specs.declared.opening.Why.{Why}
 use Rattle.path_opening.specs.declared.opening.Why.TheVariants as why
 use Rattle.path_opening.proofs.Finding.{KeepsNext, all_of, bad_found, finds_again, names_found, rose_later, same_again, shown, spent_found, topics_again}

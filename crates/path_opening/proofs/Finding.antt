@@ -8,10 +8,10 @@ use Rattle.nsq_outside.specs.Causes.{Rose}
 use Rattle.nsq_outside.specs.Files.{Files, SameFiles}
 use Rattle.queue_image.specs.FileNames.{channel_queue}
 use Rattle.v2_frame.specs.declared.message.Message.{Message}
-use Rattle.history.specs.Data.{IsNames, Kept, KeptChannel, KeptTopic, data_name, last_epoch}
-use Rattle.history.specs.Found.{BadData, EpochSpent, FindsChannel, FindsTopic, Finding, Found, FoundChannel, FoundTopic, HasBadQueue, HasMessages, IsFound, Names, Pairwise, queues_of}
-use Rattle.history.specs.Found.IsFound.{fresh, spoilt, spent, bad_queue, names}
-use Rattle.history.proofs.FindingOnce.{names_once}
+use Rattle.path_image.specs.Data.{IsNames, Kept, KeptChannel, KeptTopic, data_name, last_epoch}
+use Rattle.path_image.specs.Found.{BadData, EpochSpent, FindsChannel, FindsTopic, Finding, Found, FoundChannel, FoundTopic, HasBadQueue, HasMessages, IsFound, Names, Pairwise, queues_of}
+use Rattle.path_image.specs.Found.IsFound.{fresh, spoilt, spent, bad_queue, names}
+use Rattle.path_image.proofs.FindingOnce.{names_once}
 use Rattle.floor_laws.proofs.Pairs.{pairs_become}
 use Rattle.floor_opening.specs.Opened.{IsBad}
 use Rattle.names_file.specs.Texts.{kept_of}

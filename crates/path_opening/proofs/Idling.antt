@@ -13,8 +13,8 @@ use Rattle.queue_image.specs.FileNames.IsOwnFile.{metadata}
 use Rattle.queue_image.specs.FileNames.IsQueueName.{of_channel, of_topic}
 use Rattle.queue_image.specs.Metas.{IsIdle}
 use Rattle.queue_image.proofs.Naming.{one_queue}
-use Rattle.history.specs.Data.{KeptChannel, KeptTopic}
-use Rattle.history.specs.Found.{FindsChannel, FindsTopic, FoundChannel, FoundTopic, Pairwise, queues_of}
+use Rattle.path_image.specs.Data.{KeptChannel, KeptTopic}
+use Rattle.path_image.specs.Found.{FindsChannel, FindsTopic, FoundChannel, FoundTopic, Pairwise, queues_of}
 use Rattle.names_file.specs.Kept.{CanKeepAll}
 use Rattle.queue_sweep.specs.Swept.{HasOnlyListed, IsListedQueue}
 use Rattle.queue_sweep.proofs.Listing.{made_of, owner, topics_ascend}

@@ -18,8 +18,8 @@ use Rattle.queue_image.proofs.Naming.{one_queue}
 use Rattle.queue_opening.specs.Refusals.{OpenFails}
 use Rattle.queue_opening.specs.declared.refusal.Open.{Open}
 use Rattle.queue_opening.specs.declared.refusal.Open.TheVariants as refusal
-use Rattle.history.specs.Data.{CanKeepTopic, KeptChannel, KeptTopic}
-use Rattle.history.specs.Found.{FindsChannel, FindsTopic, FoundChannel, FoundTopic, Pairwise, queues_of}
+use Rattle.path_image.specs.Data.{CanKeepTopic, KeptChannel, KeptTopic}
+use Rattle.path_image.specs.Found.{FindsChannel, FindsTopic, FoundChannel, FoundTopic, Pairwise, queues_of}
 use Rattle.broker_history.specs.Found.{started}
 use Rattle.broker_history.specs.State.{State, with_topic}
 use Rattle.broker_history.proofs.Lists.{find_put}

@@ -7,8 +7,8 @@ use Rattle.std.proofs.lemmas.List.{append-nil, map-append, take-append-drop}
 use Rattle.std.proofs.lemmas.List.Elements.{All-cons, All-head, All-map, All-nil, All-push, All-tail, All-weaker}
 use Rattle.nsq_base.specs.Names.{IsAscendingBy, byte_order, is_before, put_by}
 use Rattle.nsq_base.proofs.PutBy.{Less-from_before, byte_order-flip, filter_all, filter_none, other_from_order}
-use Rattle.history.specs.Found.{FoundChannel, FoundTopic, Pairwise}
-use Rattle.history.proofs.NameLists.{before_once}
+use Rattle.path_image.specs.Found.{FoundChannel, FoundTopic, Pairwise}
+use Rattle.path_image.proofs.NameLists.{before_once}
 use Rattle.broker_history.specs.Found.{started, started_channel}
 use Rattle.broker_history.specs.State.{Channel, State, Topic, with_topic}
 use Rattle.topic_core.specs.Rows.{found_topic, paused_in}

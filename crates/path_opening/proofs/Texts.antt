@@ -4,7 +4,7 @@ use Rattle.std.specs.Prelude.{IfErr, IfOk, IsTrue, option_map, unwrap_or}
 use Rattle.std.proofs.lemmas.List.{take_all, take_at}
 use Rattle.nsq_outside.specs.Files.{Files, ReadsAt}
 use Rattle.nsq_outside.specs.declared.folder.ReadAt.TheVariants.{Got}
-use Rattle.history.specs.Data.{IsBadNames, IsNames, Kept, data_name, longest_data}
+use Rattle.path_image.specs.Data.{IsBadNames, IsNames, Kept, data_name, longest_data}
 use Rattle.path_opening.specs.Adding.{IsUnread, IsWhyUnread}
 use Rattle.path_opening.specs.Opening.{KeepsIn}
 use Rattle.path_opening.specs.Opening.KeepsIn.{written}

@@ -8,8 +8,8 @@ use Rattle.queue_image.specs.FileNames.{IsFileOf}
 use Rattle.queue_opening.specs.Again.{FindsSameList}
 use Rattle.queue_opening.specs.declared.refusal.Open.{Open}
 use Rattle.queue_opening.specs.declared.refusal.Open.TheVariants as refusal
-use Rattle.history.specs.Data.{IsBadNames, IsNames, Kept, KeptChannel, KeptTopic, data_name, names_text}
-use Rattle.history.specs.Found.{FindsTopic, FoundTopic, Pairwise, queues_of}
+use Rattle.path_image.specs.Data.{IsBadNames, IsNames, Kept, KeptChannel, KeptTopic, data_name, names_text, temp_name}
+use Rattle.path_image.specs.Found.{FindsTopic, FoundTopic, Pairwise, queues_of}
 use Rattle.backlog.specs.Seen.{longest_body}
 use Rattle.names_file.specs.Texts.{kept_of}
 use Rattle.broker_history.specs.Found.{started}
@@ -23,7 +23,7 @@ use Rattle.queue_sweep.specs.Swept.{HasOnlyListed, IsSweptTo}
 use Rattle.queue_sweep.specs.declared.unswept.Unswept.{Unswept}
 use Rattle.queue_sweep.specs.declared.unswept.Unswept.TheVariants as unswept
 use Rattle.broker_floor.specs.Held.{Held}
-use Rattle.path_opening.specs.Opening.{KeepsIn, temp_name}
+use Rattle.path_opening.specs.Opening.{KeepsIn}
 use Rattle.path_opening.specs.declared.opening.Why.{Why}
 use Rattle.path_opening.specs.declared.opening.Why.TheVariants as why
 

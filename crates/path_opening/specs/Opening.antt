@@ -1,19 +1,15 @@
 -- What the opening of a folder makes of its files, and why it is refused.
-use Rattle.std.specs.Prelude.{◌≡◌, ◌≢◌, ◌⊎◌, ℕ, ◌+◌, Bool, false, IsTrue, List, [], Some, None, codes}
+use Rattle.std.specs.Prelude.{◌≡◌, ◌≢◌, ◌⊎◌, ℕ, ◌+◌, Bool, false, IsTrue, List, [], Some, None}
 use Rattle.nsq_base.specs.declared.options.Options.{Options}
 use Rattle.nsq_outside.specs.Causes.{Rose}
 use Rattle.nsq_outside.specs.Files.{Files, SameFiles}
 use Rattle.queue_image.specs.FileNames.{IsFileOf, IsQueueName}
-use Rattle.history.specs.Data.{IsNames, Kept, data_name, last_epoch, names_text}
-use Rattle.history.specs.Found.{BadData, EpochSpent, Finding, Found, IsFound, Names}
+use Rattle.path_image.specs.Data.{IsNames, Kept, data_name, last_epoch, names_text, temp_name}
+use Rattle.path_image.specs.Found.{BadData, EpochSpent, Finding, Found, IsFound, Names}
 use Rattle.names_file.specs.Texts.{kept_of}
 use Rattle.broker_floor.specs.Held.{Held}
 use Rattle.path_opening.specs.declared.opening.Why.{Why}
 use Rattle.path_opening.specs.declared.opening.Why.TheVariants as why
-
--- what the file of names is called while it is written
-abbrev pub temp_name : List ℕ
-temp_name = codes "nsqd.dat.tmp"
 
 -- what the file of names keeps: where there is none, epoch 0 and no topic
 pub data KeepsIn (files : Files) (kept : Kept) : Type 0 where

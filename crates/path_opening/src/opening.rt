@@ -1,6 +1,6 @@
 ghost use Rattle.std.specs.Prelude.{◌≡◌, ◌+◌, ◌≤◌, ℕ, IfErr, IfOk, IsTrue, [], false};
 ghost use Rattle.nsq_base.specs.Options.{IsInRange};
-ghost use Rattle.history.specs.Found.{Finding, Found, IsFound, Names};
+ghost use Rattle.path_image.specs.Found.{Finding, Found, IsFound, Names};
 ghost use Rattle.broker_history.specs.Found.{start};
 ghost use Rattle.broker_history.specs.Moments.{moment_of};
 ghost use Rattle.floor_rooms.specs.Standing.{HoldsFor};

@@ -1,6 +1,6 @@
 ghost use Rattle.std.specs.Prelude.{◌≡◌, ◌<◌, ◌≤◌, ℕ, IfErr, IfOk, IsTrue, List, [], Some, length, option_map};
 ghost use Rattle.nsq_outside.specs.Files.{SameFiles};
-ghost use Rattle.history.specs.Data.{IsNames, data_name, last_epoch};
+ghost use Rattle.path_image.specs.Data.{IsNames, data_name, last_epoch};
 ghost use Rattle.names_file.specs.Kept.{CanKeepAll};
 ghost use Rattle.names_file.specs.Texts.{kept_of};
 ghost use Rattle.names_reading.specs.Durable.{AreDurable};
@@ -8,17 +8,12 @@ ghost use Rattle.path_opening.specs.Adding.{IsReady, IsUnread, IsWhyUnread, why_
 ghost use Rattle.path_opening.specs.Opening.{IsRefusal, KeepsIn};
 
 use crate::opening::Why;
+use names_file::{LONGEST_NAMES, NAMES};
 use names_reading::{ListedNames, Unread, read_names};
 use nsq_base::Memory;
 use nsq_outside::{Folder, Length, ReadAt};
 use queue_sweep::{Unswept, set_aside_unlisted};
 use std::alloc::Global;
-
-/// The file of the durable names.
-pub(crate) const NAMES: &str = "nsqd.dat";
-
-/// The most bytes that the file of names has, 16 MiB.
-pub(crate) const LONGEST_NAMES: usize = 1 << 24;
 
 // The last epoch.
 const LAST_EPOCH: u32 = 16_777_215;

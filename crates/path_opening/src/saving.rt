@@ -1,24 +1,19 @@
 ghost use Rattle.std.specs.Prelude.{◌≡◌, ◌≤◌, IfErr, IsTrue, OnOk, [], false};
 ghost use Rattle.queue_files.specs.Replaced.{OnlyTwoChange};
-ghost use Rattle.history.specs.Data.{data_name};
+ghost use Rattle.path_image.specs.Data.{data_name, temp_name};
 ghost use Rattle.names_file.specs.Kept.{CanKeepAll};
 ghost use Rattle.names_reading.specs.Durable.{AreDurable};
 ghost use Rattle.broker_history.specs.State.{State};
 ghost use Rattle.floor_rooms.specs.Standing.{HoldsFor};
 ghost use Rattle.path_opening.specs.Adding.{HasNames, IsFilled, IsNotFilled, IsNotSaved};
-ghost use Rattle.path_opening.specs.Opening.{temp_name};
 
 use crate::adding::add_topics;
 use crate::opening::Why;
-use crate::reading::{LONGEST_NAMES, NAMES};
 use broker_floor::Floor;
 use broker_history::Entry;
-use names_file::{KeptTopic, write_names};
+use names_file::{KeptTopic, LONGEST_NAMES, NAMES, NAMES_TEMP, write_names};
 use nsq_outside::{Clock, Did, Folder, Journal};
 use std::alloc::Global;
-
-/// What the file of names is called while it is written.
-const NAMES_TEMP: &str = "nsqd.dat.tmp";
 
 /// Adds these topics with their channels to a floor that has none, and then writes the file of names with the floor's epoch and these topics, durably.
 pub(crate) fn fill<F: Folder, C: Clock, J: Journal<Entry>>(

@@ -12,9 +12,9 @@ use Rattle.nsq_base.specs.Places.{StandsAt, BelongsAt, IsPlaceOf}
 use Rattle.nsq_base.proofs.PutBy.{IsAscendingBy-put_by}
 use Rattle.queue_image.specs.FileNames.{channel_queue}
 use Rattle.queue_image.proofs.Naming.{one_channel, no_channel}
-use Rattle.history.specs.Data.{KeptTopic, KeptChannel, CanKeepTopic, IsKept, durable}
-use Rattle.history.specs.Found.{queues_of}
-use Rattle.history.proofs.NameLists.{before_once}
+use Rattle.path_image.specs.Data.{KeptTopic, KeptChannel, CanKeepTopic, IsKept, durable}
+use Rattle.path_image.specs.Found.{queues_of}
+use Rattle.path_image.proofs.NameLists.{before_once}
 use Rattle.queue_sweep.specs.Forms.{HasForm}
 use Rattle.names_file.specs.Kept.{CanKeepAll}
 use Rattle.queue_sweep.specs.Names.{queue_named, spelled, HasNames}

@@ -10,9 +10,9 @@ use Rattle.queue_image.specs.Finds as queue
 use Rattle.queue_image.specs.Finds.IsFound.{fresh as no_queue}
 use Rattle.queue_image.proofs.Naming.{one_queue, aside_apart, long_name}
 use Rattle.queue_image.proofs.Keeping.{finding_keeps}
-use Rattle.history.specs.Data.{KeptTopic, KeptChannel, Kept, data_name}
-use Rattle.history.specs.Found.{FoundTopic, FoundChannel, Pairwise, IsFoundQueue, HasMessages, FindsChannel, FindsTopic, HasBadQueue, Finding, IsFound, least_record, longest_record}
-use Rattle.history.specs.Found.IsFound.{fresh, spoilt, spent, bad_queue, names}
+use Rattle.path_image.specs.Data.{KeptTopic, KeptChannel, Kept, data_name}
+use Rattle.path_image.specs.Found.{FoundTopic, FoundChannel, Pairwise, IsFoundQueue, HasMessages, FindsChannel, FindsTopic, HasBadQueue, Finding, IsFound, least_record, longest_record}
+use Rattle.path_image.specs.Found.IsFound.{fresh, spoilt, spent, bad_queue, names}
 use Rattle.queue_sweep.specs.Swept.{IsListedQueue, IsUnlisted, IsSweptTo, HasOnlyListed}
 use Rattle.queue_sweep.specs.Laws.{AreKept, HasNoFiles}
 use Rattle.queue_sweep.proofs.Colons.{own_file}

@@ -11,7 +11,7 @@ use Rattle.nsq_outside.specs.Files.{Files, SameFiles, IsRenamed, IsListing, Appe
 use Rattle.std.proofs.Math.Path.{fun_ext}
 use Rattle.queue_image.specs.FileNames.{set_aside}
 use Rattle.queue_image.proofs.Naming.{aside_apart}
-use Rattle.history.specs.Data.{KeptTopic}
+use Rattle.path_image.specs.Data.{KeptTopic}
 use Rattle.queue_sweep.specs.Swept.{IsUnlisted, IsMovedAside, IsLeftAlone, IsSweptTo, HasOnlyListed}
 use Rattle.queue_sweep.specs.Steps.{SweepsOne, AreGone}
 use Rattle.queue_sweep.proofs.Colons.{own_file}

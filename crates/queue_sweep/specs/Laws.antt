@@ -3,8 +3,8 @@ use Rattle.std.specs.Prelude.{ℕ, ◌≡◌, ◌^◌, ◌<◌, List, [], length
 use Rattle.nsq_outside.specs.Files.{Files}
 use Rattle.v2_frame.specs.declared.message.Message.{Message}
 use Rattle.queue_image.specs.FileNames.{data_file, meta_file, IsQueueName, IsFileOf}
-use Rattle.history.specs.Data.{KeptTopic, Kept, IsNames, data_name}
-use Rattle.history.specs.Found.{HasMessages, Finding, IsFound}
+use Rattle.path_image.specs.Data.{KeptTopic, Kept, IsNames, data_name}
+use Rattle.path_image.specs.Found.{HasMessages, Finding, IsFound}
 use Rattle.queue_sweep.specs.Swept.{IsListedQueue, IsSweptTo, HasOnlyListed}
 
 -- every file of a listed queue stays: its data files, its metadata, the metadata being written, and those set aside

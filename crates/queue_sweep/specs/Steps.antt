@@ -4,7 +4,7 @@ use Rattle.std.specs.declared.alloc.Global.{Global}
 use Rattle.nsq_outside.specs.Causes.{CountsFault}
 use Rattle.nsq_outside.specs.Files.{Files, SameFiles, IsRenamed}
 use Rattle.queue_image.specs.FileNames.{set_aside}
-use Rattle.history.specs.Data.{KeptTopic}
+use Rattle.path_image.specs.Data.{KeptTopic}
 use Rattle.queue_sweep.specs.Swept.{IsUnlisted}
 use Rattle.queue_sweep.specs.declared.unswept.Unswept.{Unswept}
 use Rattle.queue_sweep.specs.declared.unswept.Unswept.TheVariants.{Fault, Memory}

@@ -2,8 +2,8 @@
 use Rattle.std.specs.Prelude.{ℕ, ◌≡◌, ◌≢◌, ◌⊎◌, List, None, IsSome, Contains}
 use Rattle.nsq_outside.specs.Files.{Files}
 use Rattle.queue_image.specs.FileNames.{IsQueueFile, set_aside}
-use Rattle.history.specs.Data.{KeptChannel, KeptTopic}
-use Rattle.history.specs.Found.{queues_of}
+use Rattle.path_image.specs.Data.{KeptChannel, KeptTopic}
+use Rattle.path_image.specs.Found.{queues_of}
 
 -- the queue of this name is that of one of these topics, or of one of its channels
 pub record IsListedQueue (topics : List KeptTopic) (name : List ℕ) : Type 0 where

@@ -1,6 +1,6 @@
 -- The topics that the rows list.
 use Rattle.std.specs.Prelude.{List, ℕ, [], ◌∷◌, false, codes}
-use Rattle.history.specs.Data.{KeptChannel, KeptTopic}
+use Rattle.path_image.specs.Data.{KeptChannel, KeptTopic}
 
 -- a channel, and a topic with these channels; neither is paused
 abbrev pub channel_of : List ℕ → KeptChannel

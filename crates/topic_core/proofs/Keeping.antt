@@ -9,7 +9,7 @@ use Rattle.queue_image.proofs.Naming.{one_queue}
 use Rattle.queue_image.proofs.Keeping.{finding_keeps}
 use Rattle.v2_frame.specs.declared.message.Message.{Message}
 use Rattle.v2_frame.specs.Written.{message_bytes}
-use Rattle.history.specs.Found.{HasMessages}
+use Rattle.path_image.specs.Found.{HasMessages}
 use Rattle.disk_queue.specs.Seen.{Seen as Queue}
 use Rattle.disk_queue.specs.Opened.{FilesOfChange}
 use Rattle.disk_queue.proofs.Others.{holding_keeps, standing_keeps}

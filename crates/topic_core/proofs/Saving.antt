@@ -15,7 +15,7 @@ use Rattle.disk_queue.specs.Seen.{Seen as Queue}
 use Rattle.disk_queue.specs.Holding.{OwnChange}
 use Rattle.disk_queue.proofs.Kept.{own_join}
 use Rattle.backlog.specs.Answers.{FlushFails}
-use Rattle.history.specs.Found.{Pairwise, IsRecordOf, HasMessages}
+use Rattle.path_image.specs.Found.{Pairwise, IsRecordOf, HasMessages}
 use Rattle.backlog.specs.Seen.{Seen as Backlog, PutSeen, PutWhere, FlushSeen, QueueIsSaved, SameQueue, IsOpenedAt, longest_body}
 use Rattle.backlog.specs.Lists.{IsStored, OnDisk, WasFound, QueueFinds, FlushFinds, DiskChanges, PutChanges, stored, disk_after, disk_flushed}
 use Rattle.backlog.specs.declared.backlog.Lent.TheVariants.{Nothing}

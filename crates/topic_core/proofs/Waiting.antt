@@ -3,7 +3,7 @@ use Rattle.std.proofs.Common.{◌≡◌, ◌≢◌, ◌+◌, Bool, true, List, [
 use Rattle.std.specs.List.{count_by}
 use Rattle.nsq_outside.specs.Files.{Files}
 use Rattle.v2_frame.specs.declared.message.Message.{Message}
-use Rattle.history.specs.Found.{Pairwise}
+use Rattle.path_image.specs.Found.{Pairwise}
 use Rattle.backlog.specs.Seen.{Seen as Backlog, with_lent}
 use Rattle.backlog.specs.Lists.{OnDisk}
 use Rattle.backlog.specs.declared.backlog.Lent.{Lent}

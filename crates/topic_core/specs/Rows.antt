@@ -3,7 +3,7 @@ use Rattle.std.specs.Prelude.{ℕ, ◌≡◌, ◌≢◌, Bool, false, MatchBool,
 use Rattle.nsq_base.specs.Name.{is_ephemeral}
 use Rattle.nsq_outside.specs.Files.{Files}
 use Rattle.v2_frame.specs.declared.message.Message.{Message}
-use Rattle.history.specs.Found.{HasMessages}
+use Rattle.path_image.specs.Found.{HasMessages}
 use Rattle.disk_queue.specs.declared.answers.Emptied.{Emptied}
 use Rattle.disk_queue.specs.declared.answers.Emptied.TheVariants as emptying
 use Rattle.backlog.specs.Seen.{Seen as Backlog}

@@ -1,5 +1,5 @@
-use Rattle.history.specs.Data.{data_name}
-use Rattle.history.specs.Found.{fresh}
+use Rattle.path_image.specs.Data.{data_name}
+use Rattle.path_image.specs.Found.{fresh}
 use Rattle.data_path.proofs.Leaving.{begun_without_queues}
 use Rattle.data_path.proofs.opening.open.Goals as goal
 

@@ -1,6 +1,6 @@
 use Rattle.std.proofs.Common.{subst, get_or, List, ℕ, ◌∙◌}
 use Rattle.std.proofs.lemmas.List.{take_all, get_or_default}
-use Rattle.history.specs.Found.{Pairwise}
+use Rattle.path_image.specs.Found.{Pairwise}
 use Rattle.floor_stats.specs.Stats.{IsToldOfNumber}
 use Rattle.floor_stats.proofs.Telling.{clients_told, each_told, member_there}
 use Rattle.floor_stats.proofs.told.clients_stats.Goals as goal

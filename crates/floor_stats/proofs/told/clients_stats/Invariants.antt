@@ -1,5 +1,5 @@
 use Rattle.std.proofs.Common.{take}
-use Rattle.history.specs.Found.{Pairwise}
+use Rattle.path_image.specs.Found.{Pairwise}
 use Rattle.floor_stats.specs.Stats.{IsToldOfNumber}
 use Rattle.floor_stats.proofs.told.clients_stats.Given as goal
 

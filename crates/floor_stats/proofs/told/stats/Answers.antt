@@ -1,7 +1,7 @@
 use Rattle.std.proofs.Common.{ap, subst, sym, List, ◌∙◌}
 use Rattle.std.specs.List.{filter}
 use Rattle.std.proofs.lemmas.List.{take_all}
-use Rattle.history.specs.Found.{Pairwise}
+use Rattle.path_image.specs.Found.{Pairwise}
 use Rattle.broker_history.specs.Said.{is_wanted}
 use Rattle.floor_rooms.specs.declared.room.Room.{Room}
 use Rattle.floor_rooms.specs.Rooms.{topic_name}

@@ -1,5 +1,5 @@
 use Rattle.std.proofs.Common.{◌≡◌, map, take}
-use Rattle.history.specs.Data.{durable}
+use Rattle.path_image.specs.Data.{durable}
 use Rattle.floor_rooms.specs.Rooms.{topic_name}
 use Rattle.floor_rooms.specs.Kept.{room_kept}
 use Rattle.floor_words.proofs.durable.kept.Given as goal

@@ -1,7 +1,7 @@
 use Rattle.std.proofs.Common.{ap, sym, not, map, List, ℕ, ◌∙◌}
 use Rattle.std.proofs.lemmas.List.{take_all}
 use Rattle.nsq_base.specs.Name.{is_ephemeral}
-use Rattle.history.specs.Data.{durable}
+use Rattle.path_image.specs.Data.{durable}
 use Rattle.floor_rooms.specs.declared.stall.Stall.{Stall}
 use Rattle.floor_rooms.specs.Rooms.{channel_name}
 use Rattle.floor_rooms.specs.Kept.{stall_kept}

@@ -1,5 +1,5 @@
 use Rattle.std.proofs.Common.{sym, ◌∙◌}
-use Rattle.history_plain.proofs.Lists.{find_hit, find_miss}
+use Rattle.path_plain.proofs.Lists.{find_hit, find_miss}
 use Rattle.history_plain.proofs.steps.find_topic.Goals as goal
 
 pub returns-then-is_named : goal.returns-then-is_named

@@ -1,7 +1,7 @@
 use Rattle.std.proofs.Common.{◌≡◌, ◌∙◌, false, List, ℕ, Bool, ap, sym, subst}
 use Rattle.std.specs.List.{All}
 use Rattle.nsq_base.specs.Name.{is_ephemeral}
-use Rattle.history.specs.Data.{KeptChannel, KeptTopic}
+use Rattle.path_image.specs.Data.{KeptChannel, KeptTopic}
 use Rattle.floor_opening.specs.Opened.{AreApart}
 use Rattle.path_opening.specs.Adding.{IsNotOne, pauses}
 use Rattle.path_opening.proofs.Joining.{adds_of, apart_pauses, durable_pauses, puts_of, refused_of}

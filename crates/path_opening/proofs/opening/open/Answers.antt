@@ -1,6 +1,6 @@
 use Rattle.std.proofs.Common.{◌≡◌, ◌∙◌, ◌+◌, ◌≤◌, ap, subst, sym}
 use Rattle.std.specs.Prelude.{IsTrue}
-use Rattle.history.specs.Data.{Kept}
+use Rattle.path_image.specs.Data.{Kept}
 use Rattle.broker_history.specs.Found.{start}
 use Rattle.floor_rooms.specs.Standing.{HoldsFor}
 use Rattle.broker_floor.specs.Held.{Held}

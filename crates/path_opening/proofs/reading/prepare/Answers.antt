@@ -1,5 +1,5 @@
 use Rattle.std.proofs.Common.{◌≡◌, ◌≤◌, ◌<◌, sym, subst, rules}
-use Rattle.history.specs.Data.{Kept}
+use Rattle.path_image.specs.Data.{Kept}
 use Rattle.queue_sweep.specs.Swept.{HasOnlyListed, IsSweptTo}
 use Rattle.path_opening.specs.Opening.{IsRefusal}
 use Rattle.path_opening.proofs.Ending.{refused_reading, refused_spent, refused_sweeping, swept_from}

@@ -1,6 +1,6 @@
 use Rattle.std.proofs.Common.{Some, ◌∙◌, ap, sym, ℕ, Vec}
 use Rattle.std.specs.declared.alloc.Global.{Global}
-use Rattle.history.specs.Data.{data_name}
+use Rattle.path_image.specs.Data.{data_name}
 use Rattle.path_opening.proofs.Texts.{kept_read, kept_unread, text_found}
 use Rattle.path_opening.proofs.reading.read_listed.Goals as goal
 

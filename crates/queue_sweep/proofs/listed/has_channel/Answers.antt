@@ -1,5 +1,5 @@
 use Rattle.std.proofs.Common.{◌≡◌, ◌↔◌, ◌∙◌, Bool, IsTrue, List, Contains, map, ap, sym, subst}
-use Rattle.history.specs.Data.{KeptChannel, KeptTopic}
+use Rattle.path_image.specs.Data.{KeptChannel, KeptTopic}
 use Rattle.nsq_base.specs.Places.{IsPlaceOf}
 use Rattle.queue_sweep.specs.Swept.{channel_name}
 use Rattle.queue_sweep.proofs.Listing.{place_tells}

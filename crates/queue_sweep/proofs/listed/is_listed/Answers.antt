@@ -1,7 +1,7 @@
 use Rattle.std.proofs.Common.{◌↔◌, true, false, IsTrue, List, [], get_or, ℕ, Option, Some, None, sym, subst, refl}
 use Rattle.std.proofs.lemmas.Bool.{false≢true}
 use Rattle.std.proofs.lemmas.List.{get_or_default}
-use Rattle.history.specs.Data.{KeptTopic}
+use Rattle.path_image.specs.Data.{KeptTopic}
 use Rattle.queue_sweep.specs.Names.{queue_named}
 use Rattle.queue_sweep.specs.Swept.{IsListedQueue}
 use Rattle.queue_sweep.proofs.Listing.{topics_ascend, channels_ascend, none_owns, one_owns}

@@ -1,7 +1,7 @@
 use Rattle.std.proofs.Common.{subst, arith}
 use Rattle.std.proofs.lemmas.Grind.{common_steps}
 use Rattle.std.proofs.lemmas.List.Elements.{All-push}
-use Rattle.history.specs.Data.{CanKeepTopic}
+use Rattle.path_image.specs.Data.{CanKeepTopic}
 use Rattle.broker_core.specs.Tables.{AreRooms}
 use Rattle.broker_core.proofs.Keepable.{rooms_kept}
 use Rattle.broker_core.proofs.rooms.Rooms.kept.Goals.{then-not-is_ephemeral+in_ok-push, else-not-is_ephemeral}

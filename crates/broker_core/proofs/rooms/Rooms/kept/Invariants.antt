@@ -1,5 +1,5 @@
 use Rattle.std.specs.Prelude.{◌≡◌, take, All}
-use Rattle.history.specs.Data.{CanKeepTopic}
+use Rattle.path_image.specs.Data.{CanKeepTopic}
 use Rattle.broker_core.specs.Flushes.{kept_topics}
 use Rattle.broker_core.proofs.rooms.Rooms.kept.Given as goal
 

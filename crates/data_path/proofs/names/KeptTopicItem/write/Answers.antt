@@ -1,5 +1,5 @@
 use Rattle.std.proofs.Common.{◌≡◌, ◌++◌, codes, refl, sym, subst, ◌∙◌}
-use Rattle.history.specs.Data.{KeptTopic}
+use Rattle.path_image.specs.Data.{KeptTopic}
 use Rattle.data_path.specs.Texts.{comma_if, topic_text}
 use Rattle.data_path.proofs.NameTexts.{topic_whole, not_err}
 use Rattle.data_path.proofs.names.KeptTopicItem.write.Goals.{then-later, else-later}

@@ -1,5 +1,0 @@
-use Rattle.history.proofs.FindingOnce.{names_once, one_found}
-use Rattle.history.proofs.laws.openings.Goals as goal
-
-pub returns : goal.returns
-returns c = record { names = names_once; finding = one_found }

@@ -1,7 +1,0 @@
-use Rattle.std.proofs.Common.{take}
-use Rattle.queue_plain.specs.Folders.{files_of}
-use Rattle.history.specs.Found.{Pairwise, FindsTopic}
-use Rattle.history_plain.proofs.findings.found_topics.Given as goal
-
-abbrev pub invariant-loop-topic : goal.invariant-loop-topic
-invariant-loop-topic l = Pairwise (FindsTopic (files_of l.files)) (take l.topic-index l.kept) l.topics.items

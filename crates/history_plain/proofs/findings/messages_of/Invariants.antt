@@ -1,6 +1,0 @@
-use Rattle.std.proofs.Common.{take}
-use Rattle.history.specs.Found.{Pairwise, IsRecordOf}
-use Rattle.history_plain.proofs.findings.messages_of.Given as goal
-
-abbrev pub invariant-loop-body : goal.invariant-loop-body
-invariant-loop-body l = Pairwise IsRecordOf (take l.body-index l.bodies) l.messages.items

@@ -1,0 +1,3 @@
+pub mod NameTexts
+pub mod NameLists
+pub mod FindingOnce

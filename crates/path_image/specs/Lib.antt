@@ -1,0 +1,4 @@
+pub mod Data
+pub mod Once
+pub mod Found
+pub mod Laws

@@ -1,0 +1,33 @@
+-- What the parts of a reader of the file of names answer.
+use Rattle.std.specs.Prelude.{◌≡◌, ℕ, ◌≢◌, List, AllPairs, Option, Some, None, MatchOption}
+use Rattle.serde_json.specs.Data as json
+use Rattle.path_image.specs.Data.{ItemsSay, SaysList, IsKept, durable}
+
+module _ {D X : Type 0} (Says : D → X → Type 0) where
+  -- the answer is what the data says; there is none exactly where it says nothing
+  abbrev pub Answers : D → Option X → Type 0
+  Answers d answer = MatchOption answer ((x : X) → Says d x → ⊥) (Says d)
+
+-- a member as it counts: null is as no member
+abbrev pub present : Option json.Data → Option json.Data
+present None = None
+present (Some json.null) = None
+present (Some (json.boolean b)) = Some (json.boolean b)
+present (Some (json.number n)) = Some (json.number n)
+present (Some (json.string s)) = Some (json.string s)
+present (Some (json.array ds)) = Some (json.array ds)
+present (Some (json.object ms)) = Some (json.object ms)
+
+module _ {X : Type 0} (Says : json.Data → X → Type 0) (name : X → List ℕ) where
+  -- the items of an array say what is listed, of which these are the durable ones, each name once
+  pub record ItemsKeep (items : json.Items) (durables : List X) : Type 0 where
+    pub listed : List X
+    pub says : ItemsSay Says items listed
+    pub once : AllPairs (λ a b. name a ≢ name b) (durable name listed)
+    pub all : durables ≡ durable name listed
+
+  -- a member is a list that keeps these; none where it is absent or null
+  pub record ListKeeps (member : Option json.Data) (kept : List X) : Type 0 where
+    pub listed : List X
+    pub says : SaysList Says member listed
+    pub keeps : IsKept name listed kept

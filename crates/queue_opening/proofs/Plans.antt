@@ -1,20 +1,21 @@
 -- What an opening plans.
-use Rattle.std.proofs.Common.{◌≡◌, ℕ, ◌+◌, ◌^◌, ◌<◌, ◌≤◌, ◌↔◌, min, Bool, true, false, IsTrue, List, [], ◌∷◌, ◌++◌, length, take, drop, map, get_or, Option, Some, None, unwrap_or, String, string_bytes, refl, sym, ◌∙◌, ap, subst, inl, inr, arith, length-append}
-use Rattle.std.proofs.lemmas.List.{take_more, take_all, take_at, map-append}
+use Rattle.std.proofs.Math.Seq.{take-append_seam}
+use Rattle.std.proofs.Common.{◌≡◌, ℕ, ◌+◌, ◌^◌, ◌<◌, ◌≤◌, ◌↔◌, min, Bool, true, false, IsTrue, List, [], ◌∷◌, codes, ◌++◌, length, take, drop, map, get_or, Option, Some, None, unwrap_or, String, string_bytes, refl, sym, ◌∙◌, ap, subst, inl, inr, arith, length-append}
+use Rattle.std.proofs.lemmas.List.{append_assoc, take_more, take_all, take_at, map-append}
 use Rattle.std.proofs.lemmas.Bool.{cases_lt}
 use Rattle.std.proofs.lemmas.List.Elements.{Contains-append_left, Contains-push, Contains-push_cases}
 use Rattle.std.specs.List.{Contains}
 use Rattle.std.specs.Option.{IsSomeAnd}
 use Rattle.std.specs.declared.alloc.Global.{Global}
-use Rattle.nsq_outside.specs.Files.{ReadsAt}
+use Rattle.nsq_outside.specs.Files.{AppendsListing, BeginsWith, Files, ReadsAt}
 use Rattle.nsq_outside.specs.declared.folder.ReadAt.TheVariants.{Got}
-use Rattle.queue_image.specs.FileNames.{data_file}
+use Rattle.queue_image.specs.FileNames.{data_file, file_beginning, file_digits}
 use Rattle.queue_image.specs.Metas.{Meta, IsMeta}
 use Rattle.queue_image.specs.Places.{IsOrdered, IsInRange, distance}
 use Rattle.queue_image.specs.Answered.{NumbersFile}
 use Rattle.queue_image.specs.declared.positions.Positions.{Positions}
 use Rattle.queue_image.proofs.Naming.{one_number}
-use Rattle.queue_opening.specs.Walked.{WalkFits}
+use Rattle.queue_opening.specs.Walked.{HasNumbers, WalkFits}
 use Rattle.queue_opening.specs.Planned.{IsSpoilt, IsUsable, HasNumbersOf, AddsNumber, IsSettled, IsPlan, settled}
 use Rattle.queue_opening.specs.declared.walking.Walk.{Walk}
 use Rattle.queue_opening.specs.declared.plan.Plan.{Plan}
@@ -98,6 +99,23 @@ numbers_more files i file name text old new inside here spelled has a k small it
 pub numbers_all : (files : List (String Global)) (i : ℕ) (name numbers : List ℕ) → length files ≤ i → HasNumbersOf (take i files) name numbers → HasNumbersOf files name numbers
 numbers_all files i name numbers past has k small its =
     has k small (subst (λ (fs : List (String Global)). Contains (map string_bytes fs) (data_file name k)) (sym (take_all i files past)) its)
+
+-- each data file's name begins as those of all files of the queue
+data_begins : (name : List ℕ) (k : ℕ) → BeginsWith (data_file name k) (file_beginning name)
+data_begins name k =
+    let front = file_beginning name in
+    let digits = file_digits k in
+    rw (append_assoc front digits (codes ".dat")) (take-append_seam front (digits ++ codes ".dat"))
+
+-- the numbers among the files that the folder listed for the queue are those of its data files
+pub numbers_listed : (files : Files) (name beginning numbers : List ℕ) (none all listed : List (String Global)) → beginning ≡ file_beginning name → none ≡ [] → listed ≡ all
+    → AppendsListing files beginning none all → HasNumbersOf listed name numbers → HasNumbers files name numbers
+numbers_listed files name beginning numbers none all listed begins empty same l has k small there =
+    let whole : l.added ≡ listed = sym (same ∙ l.appended ∙ ap (λ (xs : List (String Global)). xs ++ l.added) empty) in
+    let front : BeginsWith (data_file name k) beginning = subst (λ (b : List ℕ). BeginsWith (data_file name k) b) (sym begins) (data_begins name k) in
+    let listing = l.listing in
+    let among : Contains (map string_bytes l.added) (data_file name k) = (listing.each (data_file name k)).1 (there, front) in
+    has k small (subst (λ (xs : List (String Global)). Contains (map string_bytes xs) (data_file name k)) whole among)
 
 module _ (p : Positions) (walk : Walk) (u : IsUsable p) (f : WalkFits p walk) where
   order : p.read_file ≤ p.write_file

@@ -111,22 +111,22 @@ module _ (topics : List KeptTopic) where
   gone_all files names i past gone file its v = gone file (subst (λ (ns : List (String Global)). Contains (map string_bytes ns) file) (sym (take_all i names past)) its) v
 
   -- once those that were listed by the folder are gone, none is there
-  pub only_listed : (old new : Files) (names : List (String Global)) → IsListing old (map string_bytes names) → IsSweptTo topics old new → AreGone topics names new → HasOnlyListed topics new
+  pub only_listed : (old new : Files) (names : List (String Global)) → IsListing old [] (map string_bytes names) → IsSweptTo topics old new → AreGone topics names new → HasOnlyListed topics new
   only_listed old new names l s gone file u = go (old file) refl
     where
       go : (o : Option (List ℕ)) → old file ≡ o → new file ≡ None
       go None e = elim (s.each file u) [ inl m ↦ m.gone | inr h ↦ h.same ∙ e ]
-      go (Some bytes) e = gone file ((l.each file).1 (some_is (old file) bytes e)) u
+      go (Some bytes) e = gone file ((l.each file).1 (some_is (old file) bytes e, refl)) u
 
   -- no other call changed anything
   pub swept_between : (f0 f1 f2 f3 : Files) → SameFiles f0 f1 → IsSweptTo topics f1 f2 → SameFiles f2 f3 → IsSweptTo topics f0 f3
   swept_between f0 f1 f2 f3 before s behind = subst (λ (f : Files). IsSweptTo topics f f3) (fun_ext before) (after_same f1 f2 f3 s behind)
 
-  pub only_between : (f0 f1 f2 f3 : Files) (none names all : List (String Global)) → SameFiles f0 f1 → AppendsListing f0 none all → none ≡ [] → names ≡ all → IsSweptTo topics f1 f2 → AreGone topics names f2
+  pub only_between : (f0 f1 f2 f3 : Files) (none names all : List (String Global)) → SameFiles f0 f1 → AppendsListing f0 [] none all → none ≡ [] → names ≡ all → IsSweptTo topics f1 f2 → AreGone topics names f2
       → SameFiles f2 f3 → HasOnlyListed topics f3
   only_between f0 f1 f2 f3 none names all before l empty same s gone behind =
       let whole : l.added ≡ names = sym (same ∙ l.appended ∙ ap (λ (xs : List (String Global)). xs ++ l.added) empty) in
-      let listing : IsListing f0 (map string_bytes names) = subst (λ (xs : List (String Global)). IsListing f0 (map string_bytes xs)) whole l.listing in
+      let listing : IsListing f0 [] (map string_bytes names) = subst (λ (xs : List (String Global)). IsListing f0 [] (map string_bytes xs)) whole l.listing in
       λ file u. behind file ∙ only_listed f0 f2 names listing (subst (λ (f : Files). IsSweptTo topics f f2) (fun_ext before) s) gone file u
 
 -- what holds whatever the answer is

@@ -1,0 +1,4 @@
+pub mod Going
+pub mod Served
+pub mod Rounds
+pub mod Stops

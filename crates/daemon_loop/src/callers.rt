@@ -1,0 +1,101 @@
+ghost use Rattle.std.specs.Prelude.{◌≡◌, ◌≤◌, [], IsTrue, false};
+ghost use Rattle.nsq_outside.specs.Causes.{Rose};
+ghost use Rattle.nsq_outside.specs.Hosts.{OnlyAcceptFaults};
+ghost use Rattle.desk.specs.Calls.{AreAllowed};
+ghost use Rattle.floor_turns.specs.Scenes.{scene};
+ghost use Rattle.daemon_loop.specs.Going.{Went};
+ghost use Rattle.daemon_loop.specs.Rounds.{LoopsOver};
+ghost use Rattle.daemon_loop.specs.Served.{views, AllTell, ListenersFailedLast};
+ghost use Rattle.daemon_loop.specs.declared.callers.LoopEnd.TheVariants.{Failed};
+
+use crate::serving::serve_caller;
+use crate::ticking::{Ticked, tick};
+use broker_floor::Floor;
+use broker_history::Entry;
+use nsq_outside::{Accept, Clock, Folder, Host, Journal};
+use path_closing::save;
+use std::alloc::Global;
+use std::sync::Wait;
+use v2_frame::Limits;
+
+/// How the loop over the callers ended.
+#[derive(Clone, Copy, Debug, PartialEq, Eq)]
+pub enum LoopEnd {
+    /// Nobody will call any more, or as many called as there are numbers.
+    Halted,
+    /// The listeners failed, and their count of faults rose.
+    Failed,
+    /// The daemon had stopped.
+    Stopped,
+    /// Want of memory for a tick.
+    Memory,
+}
+
+/// Serves the callers, one after another, each under its number, from 1 on, and hands each one back.
+///
+/// Each round begins with a tick, by which what is due is moved and queues are saved that weren't for the sync timeout. Behind each accept the file of
+/// names is saved where names changed; where that fails it is tried again behind the next one.
+///
+/// The floor wasn't flushed, and its journal has no entry yet; the limits are such as options allow.
+pub fn serve_callers<R: Wait, H: Host<Entry>>(
+    rt: &R,
+    alloc: Global,
+    limits: Limits,
+    host: &mut H,
+    floor: &mut Floor<H::Folder, H::Clock, H::Journal>,
+) -> LoopEnd
+    requires limits { AreAllowed limits }
+    requires unflushed { floor.old.held.flushed ≡ false }
+    requires empty { IsTrue H.Journal.tells_notes → H.Journal.notes floor.old.journal ≡ [] }
+    ensures unflushed { floor.new.held.flushed ≡ false }
+    ensures over { LoopsOver (AllTell H.tells H.Conn.tells_pieces H.Conn.tells_written H.Journal.tells_notes) H.tells H.Journal.tells_notes H.Folder.tells_files H.Clock.tells_readings
+        (views H.Conn.pieces H.Conn.left H.Conn.ended H.Conn.written H.Conn.read_faults H.Conn.write_faults) limits result (H.state host.old).accept_faults (H.state host.new).accept_faults
+        (scene floor.old.held.hall (H.Journal.notes floor.old.journal) (H.Folder.files floor.old.folder) (H.Folder.folder_faults floor.old.folder) (H.Clock.coming floor.old.clock))
+        (scene floor.new.held.hall (H.Journal.notes floor.new.journal) (H.Folder.files floor.new.folder) (H.Folder.folder_faults floor.new.folder) (H.Clock.coming floor.new.clock))
+        (H.content host.old) (H.content host.new) }
+    ensures state { OnlyAcceptFaults (H.state host.old) (H.state host.new) }
+    ensures cause { result ≡ Failed → Rose (H.state host.old).accept_faults (H.state host.new).accept_faults }
+    ensures listeners { IsTrue H.tells → result ≡ Failed → ListenersFailedLast H.state H.content host.old host.new }
+{
+    let mut number: u64 = 0;
+    'callers: for _ in rt.forever() {
+        if number == u64::MAX {
+            return LoopEnd::Halted;
+        }
+        match tick(alloc, floor) {
+            Ticked::Quiet => {}
+            Ticked::Stopping => return LoopEnd::Stopped,
+            Ticked::Memory => return LoopEnd::Memory,
+        }
+        match host.accept(rt) {
+            Accept::Caller(kind, conn) => {
+                let mut conn = conn;
+                number += 1;
+                save_changed(alloc, floor);
+                serve_caller(rt, alloc, limits, kind, &mut conn, floor, number);
+                host.done(number, conn);
+            }
+            Accept::Nothing => save_changed(alloc, floor),
+            Accept::Halt => return LoopEnd::Halted,
+            Accept::Failed => return LoopEnd::Failed,
+        }
+    }
+    unreachable!()
+}
+
+/// Saves the file of names where names changed. A saving that fails is tried again later: the names are still said to be unsaved.
+fn save_changed<F: Folder, C: Clock, J: Journal<Entry>>(
+    alloc: Global,
+    floor: &mut Floor<F, C, J>,
+)
+    requires unflushed { floor.old.held.flushed ≡ false }
+    ensures unflushed { floor.new.held.flushed ≡ false }
+    ensures went { Went J.tells_notes F.tells_files C.tells_readings
+        (scene floor.old.held.hall (J.notes floor.old.journal) (F.files floor.old.folder) (F.folder_faults floor.old.folder) (C.coming floor.old.clock))
+        (scene floor.new.held.hall (J.notes floor.new.journal) (F.files floor.new.folder) (F.folder_faults floor.new.folder) (C.coming floor.new.clock)) }
+    ensures journal { floor.new.journal ≡ floor.old.journal }
+{
+    if floor.changed() {
+        let _saved = save(alloc, floor);
+    }
+}

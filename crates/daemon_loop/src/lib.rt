@@ -1,0 +1,13 @@
+//! What the daemon does between the opening of its data path and its shutting, over any host: it serves its callers, one after another, and then takes its
+//! Stop.
+//!
+//! `specs/Going.antt` says what the floor is led to meanwhile, `specs/Served.antt` what is true of the callers.
+#![tactic(auto)]
+
+mod callers;
+mod serving;
+mod stopping;
+mod ticking;
+
+pub use callers::{LoopEnd, serve_callers};
+pub use stopping::stop;

@@ -1,0 +1,66 @@
+ghost use Rattle.std.specs.Prelude.{◌≡◌, ◌<◌, ◌++◌, [], IsTrue};
+ghost use Rattle.nsq_outside.specs.Hosts.{IsFresh};
+ghost use Rattle.broker_history.specs.Entries.{own};
+ghost use Rattle.broker_history.specs.Talk.{bytes_of};
+ghost use Rattle.desk.specs.Calls.{AreAllowed};
+ghost use Rattle.v2_session.specs.Sessions.{HasCause};
+ghost use Rattle.daemon_loop.specs.Served.{views, IsServed, Talks};
+
+use broker_history::Ended;
+use desk::{FloorDesk, Turner};
+use nsq_outside::{Conn, Kind};
+use std::alloc::Global;
+use std::sync::Wait;
+use v2_frame::Limits;
+use v2_session::serve_v2;
+
+/// Serves a caller of the TCP protocol. Nothing is read from a caller of HTTP or written to it: HTTP isn't built yet.
+pub(crate) fn serve_caller<R: Wait, K: Conn, T: Turner>(
+    rt: &R,
+    alloc: Global,
+    limits: Limits,
+    kind: Kind,
+    conn: &mut K,
+    floor: &mut T,
+    number: u64,
+)
+    requires limits { AreAllowed limits }
+    requires number { 0 < number }
+    requires new { IsTrue T.tells → own number (T.notes floor.old) ≡ [] }
+    ensures served { IsTrue K.tells_pieces → IsTrue K.tells_written → IsTrue T.tells → IsFresh K.pieces K.ended K.written K.read_faults K.write_faults conn.old
+        → IsServed (views K.pieces K.left K.ended K.written K.read_faults K.write_faults) limits (T.notes floor.new) number kind (K.left conn.old) conn.new }
+    ensures leads { T.leads number floor.old floor.new }
+{
+    match kind {
+        Kind::Tcp => {
+            let _ended = serve_tcp(rt, alloc, limits, conn, floor, number);
+        }
+        Kind::Http => {}
+    }
+}
+
+/// Serves a caller of the TCP protocol at the floor, as `serve_v2`.
+fn serve_tcp<R: Wait, K: Conn, T: Turner>(
+    rt: &R,
+    alloc: Global,
+    limits: Limits,
+    conn: &mut K,
+    floor: &mut T,
+    number: u64,
+) -> Ended
+    requires limits { AreAllowed limits }
+    requires number { 0 < number }
+    requires new { IsTrue T.tells → own number (T.notes floor.old) ≡ [] }
+    ensures talks { IsTrue K.tells_pieces → IsTrue K.tells_written → IsTrue T.tells → K.pieces conn.old ≡ [] → K.written conn.old ≡ []
+        → Talks limits number (T.notes floor.new) (K.pieces conn.new) (K.written conn.new) (K.write_faults conn.old) (K.write_faults conn.new) result }
+    ensures cause { HasCause result (K.ended conn.new) (K.read_faults conn.old) (K.read_faults conn.new) (K.write_faults conn.old) (K.write_faults conn.new) }
+    ensures stream { IsTrue K.tells_pieces → bytes_of (K.pieces conn.new) ++ K.left conn.new ≡ bytes_of (K.pieces conn.old) ++ K.left conn.old }
+    ensures leads { T.leads number floor.old floor.new }
+{
+    let mut desk = FloorDesk {
+        floor,
+        number,
+        wanted: 0,
+    };
+    serve_v2(rt, alloc, number, conn, &mut desk, limits)
+}

@@ -8,7 +8,7 @@ use std::marker::Model;
 /// A call that was made on a folder in memory: its method and the name of its file.
 ///
 /// A rename has its old name there, and its new one in `to`; of any other call `to` is empty. A listing and a sync of names
-/// have no name.
+/// have no name; how the names of a listing are to begin isn't kept.
 #[derive(Drop)]
 pub struct Called {
     pub call: FolderCall,

@@ -174,26 +174,33 @@ pub fn cut(
     Ok(())
 }
 
-/// Appends the name of each file once. Without memory the names are as before.
+/// Appends the name of each file whose name begins with `beginning` once. Without memory the names are as before.
 pub fn append_names(
     alloc: Global,
     files: &BTreeMap<String, Vec<u8>>,
+    beginning: &str,
     names: &mut Vec<String>,
 ) -> Result<(), AllocError>
-    ensures ok { OnOk result (AppendsListing (files_of files.now) names.old.items names.new.items) }
+    ensures ok { OnOk result (AppendsListing (files_of files.now) beginning.now names.old.items names.new.items) }
     ensures err { OnErr result (names.new.items ≡ names.old.items) }
 {
-    let mut added = names_of(alloc, files)?;
+    let mut added = names_of(alloc, files, beginning)?;
     names.append(&mut added)
 }
 
-/// The name of each file.
-fn names_of(alloc: Global, files: &BTreeMap<String, Vec<u8>>) -> Result<Vec<String>, AllocError>
-    ensures { IfOk result (λ names. IsListing (files_of files.now) (map string_bytes names.items)) }
+/// The name of each file whose name begins with `beginning`.
+fn names_of(
+    alloc: Global,
+    files: &BTreeMap<String, Vec<u8>>,
+    beginning: &str,
+) -> Result<Vec<String>, AllocError>
+    ensures { IfOk result (λ names. IsListing (files_of files.now) beginning.now (map string_bytes names.items)) }
 {
     let mut names = Vec::new(alloc);
     for name in files.keys() {
-        names.push(name.clone()?)?;
+        if name.as_bytes().starts_with(beginning.as_bytes()) {
+            names.push(name.clone()?)?;
+        }
     }
     Ok(names)
 }

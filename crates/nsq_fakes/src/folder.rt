@@ -145,8 +145,8 @@ impl Folder for MemFolder {
 
     ghost counts_exactly = { true };
 
-    fn list(&mut self, alloc: Global, names: &mut Vec<String>) -> Listing
-        ensures names { Lists (files_in self.old) names.old.items names.new.items result }
+    fn list(&mut self, alloc: Global, beginning: &str, names: &mut Vec<String>) -> Listing
+        ensures names { Lists (files_in self.old) beginning.now names.old.items names.new.items result }
         ensures kept { Appends names.old.items names.new.items result }
         ensures same { SameFiles (files_in self.old) (files_in self.new) }
         ensures faults { faults_of self.old ≤ faults_of self.new }
@@ -164,7 +164,7 @@ impl Folder for MemFolder {
         if kept.is_err() {
             return Listing::Memory;
         }
-        match files::append_names(alloc, &self.files, names) {
+        match files::append_names(alloc, &self.files, beginning, names) {
             Ok(()) => Listing::Done,
             Err(_) => Listing::Memory,
         }

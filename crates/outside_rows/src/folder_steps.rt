@@ -12,6 +12,8 @@ const MOST_READ: usize = 8;
 pub enum Step {
     /// A listing that gives these names, in any order.
     List(&'static [&'static str]),
+    /// A listing by a beginning that gives these names, in any order.
+    ListBy(&'static str, &'static [&'static str]),
     /// A listing that fails.
     ListFails,
     Len(&'static str, Length),
@@ -29,10 +31,51 @@ pub enum Step {
     Remove(&'static str, Did),
 }
 
+/// Listings by a beginning, of files that are written, renamed and removed. The folder is empty before.
+pub const BY_BEGINNING: &[Step] = &[
+    Step::ListBy("a", &[]),
+    Step::WriteAt("a", 0, b"one", Did::Done),
+    Step::WriteAt("a.1", 0, b"two", Did::Done),
+    Step::WriteAt("a.2", 0, b"three", Did::Done),
+    Step::WriteAt("ab.1", 0, b"four", Did::Done),
+    Step::ListBy("a.", &["a.1", "a.2"]),
+    Step::ListBy("ab.", &["ab.1"]),
+    Step::ListBy("a", &["a", "a.1", "a.2", "ab.1"]),
+    Step::ListBy("ab.1", &["ab.1"]),
+    Step::ListBy("ab.10", &[]),
+    Step::ListBy("b", &[]),
+    Step::Rename("a.1", "b.1", Did::Done),
+    Step::ListBy("a.", &["a.2"]),
+    Step::ListBy("b", &["b.1"]),
+    Step::Rename("ab.1", "a.2", Did::Done),
+    Step::ListBy("ab.", &[]),
+    Step::ListBy("a.", &["a.2"]),
+    Step::Remove("a.2", Did::Done),
+    Step::ListBy("a.", &[]),
+    Step::Cut("a.2", 0, Did::Done),
+    Step::ListBy("a", &["a", "a.2"]),
+    Step::ListBy("", &["a", "a.2", "b.1"]),
+];
+
+/// Whether a folder answers all these calls so.
+pub fn all_answer<F: Folder>(
+    alloc: Global,
+    folder: &mut F,
+    steps: &[Step],
+) -> Result<bool, Memory> {
+    for step in steps {
+        if !answers(alloc, folder, *step)? {
+            return Ok(false);
+        }
+    }
+    Ok(true)
+}
+
 /// Whether a folder answers a call so.
 pub fn answers<F: Folder>(alloc: Global, folder: &mut F, step: Step) -> Result<bool, Memory> {
     Ok(match step {
-        Step::List(names) => lists(alloc, folder, names)?,
+        Step::List(names) => lists(alloc, folder, "", names)?,
+        Step::ListBy(beginning, names) => lists(alloc, folder, beginning, names)?,
         Step::ListFails => list_fails(alloc, folder),
         Step::Len(name, length) => folder.len(name) == length,
         Step::ReadAt(name, at, got, after) => reads(folder, name, at, got, after),
@@ -47,10 +90,15 @@ pub fn answers<F: Folder>(alloc: Global, folder: &mut F, step: Step) -> Result<b
     })
 }
 
-/// Whether a listing gives these names and no others.
-fn lists<F: Folder>(alloc: Global, folder: &mut F, want: &[&str]) -> Result<bool, Memory> {
+/// Whether a listing by a beginning gives these names and no others.
+fn lists<F: Folder>(
+    alloc: Global,
+    folder: &mut F,
+    beginning: &str,
+    want: &[&str],
+) -> Result<bool, Memory> {
     let mut names = Vec::new(alloc);
-    if folder.list(alloc, "", &mut names) != Listing::Done {
+    if folder.list(alloc, beginning, &mut names) != Listing::Done {
         return Ok(false);
     }
     let mut all = names.len() == want.len();

@@ -1,4 +1,4 @@
-use crate::folder_steps::{Step, answers};
+use crate::folder_steps::{BY_BEGINNING, Step, all_answer};
 use nsq_base::Memory;
 use nsq_fakes::{Called, Failing, FolderCall, MemFolder};
 use nsq_outside::{Did, Length, ReadAt};
@@ -23,7 +23,7 @@ struct Row {
 
 const TWO_FILES: Files = &[("a", b"one"), ("b", b"two")];
 
-const ROWS: [Row; 4] = [
+const ROWS: [Row; 5] = [
     Row {
         name: "reads and writes",
         files: TWO_FILES,
@@ -77,6 +77,38 @@ const ROWS: [Row; 4] = [
             (FolderCall::Remove, "b", ""),
             (FolderCall::SyncNames, "", ""),
             (FolderCall::Len, "b", ""),
+        ],
+    },
+    Row {
+        name: "listings by a beginning",
+        files: &[],
+        fails: &[],
+        steps: BY_BEGINNING,
+        there: &[("a", b"one"), ("a.2", b""), ("b.1", b"two")],
+        absent: &["a.1", "ab.1"],
+        called: &[
+            (FolderCall::List, "", ""),
+            (FolderCall::WriteAt, "a", ""),
+            (FolderCall::WriteAt, "a.1", ""),
+            (FolderCall::WriteAt, "a.2", ""),
+            (FolderCall::WriteAt, "ab.1", ""),
+            (FolderCall::List, "", ""),
+            (FolderCall::List, "", ""),
+            (FolderCall::List, "", ""),
+            (FolderCall::List, "", ""),
+            (FolderCall::List, "", ""),
+            (FolderCall::List, "", ""),
+            (FolderCall::Rename, "a.1", "b.1"),
+            (FolderCall::List, "", ""),
+            (FolderCall::List, "", ""),
+            (FolderCall::Rename, "ab.1", "a.2"),
+            (FolderCall::List, "", ""),
+            (FolderCall::List, "", ""),
+            (FolderCall::Remove, "a.2", ""),
+            (FolderCall::List, "", ""),
+            (FolderCall::Cut, "a.2", ""),
+            (FolderCall::List, "", ""),
+            (FolderCall::List, "", ""),
         ],
     },
     Row {
@@ -149,12 +181,8 @@ fn is_called(called: &[Called], want: &[(FolderCall, &str, &str)]) -> bool {
 
 fn holds(alloc: Global, row: &Row) -> Result<bool, Memory> {
     let mut folder = made(alloc, row.files, row.fails)?;
-    for step in row.steps {
-        if !answers(alloc, &mut folder, *step)? {
-            return Ok(false);
-        }
-    }
-    Ok(has(&folder, row.there, row.absent) && is_called(folder.called(), row.called))
+    let all = all_answer(alloc, &mut folder, row.steps)?;
+    Ok(all && has(&folder, row.there, row.absent) && is_called(folder.called(), row.called))
 }
 
 #[test]

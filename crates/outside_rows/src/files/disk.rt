@@ -1,4 +1,4 @@
-use crate::folder_steps::{Step, answers};
+use crate::folder_steps::{Step, all_answer};
 use nsq_outside::{Did, Length, ReadAt};
 use nsq_system::DirFolder;
 use std::alloc::{AllocError, Allocator, Global};
@@ -325,16 +325,6 @@ const ROWS: [Row; 11] = [
     },
 ];
 
-/// Whether all these steps go so.
-fn all_go(alloc: Global, folder: &mut DirFolder<Slow>, steps: &[Step]) -> Result<bool, Fail> {
-    for step in steps {
-        if !answers(alloc, folder, *step)? {
-            return Ok(false);
-        }
-    }
-    Ok(true)
-}
-
 fn holds(rt: &HostRuntime, row: &Row) -> Result<bool, Fail> {
     let _ = fs::remove_dir_all(rt, FOLDER);
     fs::create_dir(rt, FOLDER)?;
@@ -344,7 +334,7 @@ fn holds(rt: &HostRuntime, row: &Row) -> Result<bool, Fail> {
         broken: row.broken,
     };
     let mut folder = DirFolder::new(slow, rt.alloc(), FOLDER)?;
-    let all = all_go(rt.alloc(), &mut folder, row.steps)?;
+    let all = all_answer(rt.alloc(), &mut folder, row.steps)?;
     fs::remove_dir_all(rt, FOLDER)?;
     Ok(all)
 }

@@ -1,4 +1,4 @@
-use crate::folder_steps::{Step, answers};
+use crate::folder_steps::{BY_BEGINNING, Step, all_answer, answers};
 use nsq_outside::{Did, Length, ReadAt};
 use nsq_system::DirFolder;
 use std::alloc::Global;
@@ -11,6 +11,8 @@ use std::{fs, io};
 enum Do {
     /// A call on the folder.
     Call(Step),
+    /// Calls on the folder, one after another.
+    Calls(&'static [Step]),
     /// Makes a sub-folder.
     MakeSub,
     /// Removes the folder and all that is in it.
@@ -42,7 +44,7 @@ const OTHER: &str = "outside_rows_other";
 /// Where another process writes a file first.
 const NEW: &str = "outside_rows_other/new";
 
-const ROWS: [Row; 9] = [
+const ROWS: [Row; 10] = [
     Row {
         name: "files of a folder",
         steps: &[
@@ -69,11 +71,16 @@ const ROWS: [Row; 9] = [
             Do::MakeSub,
             Do::Call(Step::Cut("a", 0, Did::Done)),
             Do::Call(Step::List(&["a"])),
+            Do::Call(Step::ListBy("su", &[])),
             Do::Call(Step::SyncNames(Did::Done)),
             Do::Call(Step::Remove("a", Did::Done)),
             Do::Call(Step::Remove("a", Did::Done)),
             Do::Call(Step::Len("a", Length::Absent)),
         ],
+    },
+    Row {
+        name: "listings by a beginning",
+        steps: &[Do::Calls(BY_BEGINNING)],
     },
     Row {
         name: "errors of a folder",
@@ -148,8 +155,10 @@ const ROWS: [Row; 9] = [
         name: "another folder",
         steps: &[
             Do::Call(Step::WriteAt("a", 0, b"left", Did::Done)),
+            Do::Call(Step::ListBy("a", &["a"])),
             Do::GoToOther,
             Do::Call(Step::Len("a", Length::Absent)),
+            Do::Call(Step::ListBy("a", &[])),
             Do::Call(Step::WriteAt("a", 0, b"here", Did::Done)),
             Do::Call(Step::ReadAt("a", 0, ReadAt::Got(4), b"here")),
             Do::GoBack,
@@ -180,6 +189,7 @@ fn goes(
 ) -> Result<bool, Fail> {
     match step {
         Do::Call(call) => Ok(answers(alloc, folder, call)?),
+        Do::Calls(calls) => Ok(all_answer(alloc, folder, calls)?),
         Do::MakeSub => {
             fs::create_dir(rt, SUB)?;
             Ok(true)

@@ -1,0 +1,5 @@
+pub mod Causes
+pub mod Numbering
+pub mod Running
+pub mod Asking
+pub mod Sighting

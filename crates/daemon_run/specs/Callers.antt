@@ -1,0 +1,63 @@
+-- What a run says of its callers, and of its Stop.
+use Rattle.std.specs.Prelude.{◌≡◌, ◌⊎◌, ℕ, zero, suc, ◌+◌, ◌-◌, ◌^◌, ◌≤◌, nat_lt, true, List, [], ◌∷◌, ◌++◌, length, map, filter, IsPermutation}
+use Rattle.std.specs.List.{AllByRecursion}
+use Rattle.nsq_outside.specs.Causes.{Rose}
+use Rattle.nsq_outside.specs.Hosts.{HostContent}
+use Rattle.nsq_outside.specs.declared.host.Kind.{Kind}
+use Rattle.nsq_outside.specs.declared.journal.End.{End}
+use Rattle.v2_frame.specs.declared.fault.Limits.{Limits}
+use Rattle.broker_history.specs.declared.entry.Entry.{Entry}
+use Rattle.broker_history.specs.Entries.{History, is_stop}
+use Rattle.daemon_loop.specs.Rounds.{IsHalted}
+use Rattle.daemon_loop.specs.Served.{IsServed, UpTo, Views, ticks_of}
+use Rattle.daemon_run.specs.declared.ending.ServeEnd.{ServeEnd}
+use Rattle.daemon_run.specs.declared.ending.ServeEnd.TheVariants as end
+
+-- the numbers from 1 on, so many
+abbrev pub one_to : ℕ → List ℕ
+one_to zero = []
+one_to (suc n) = one_to n ++ suc n ∷ []
+
+-- the numbers under which callers were handed back; 0 is that of connections which the daemon dialled
+abbrev pub numbers_of : {K : Type 0} → List (ℕ × K) → List ℕ
+numbers_of back = filter (λ n. nat_lt 0 n) (map (λ x. x.0) back)
+
+-- a connection that was handed back is that of the caller at its number's place, and it was served
+pub record IsCallers {K : Type 0} (seen : Views K) (limits : Limits) (h : History) (callers : List (Kind × List ℕ)) (x : ℕ × K) : Type 0 where
+  pub before : List (Kind × List ℕ)
+  pub caller : Kind × List ℕ
+  pub after : List (Kind × List ℕ)
+  pub place : callers ≡ before ++ caller ∷ after
+  pub number : x.0 ≡ length before + 1
+  pub served : IsServed seen limits h x.0 caller.0 caller.1 x.1
+
+abbrev pub IsHandedBack : {K : Type 0} → Views K → Limits → History → List (Kind × List ℕ) → ℕ × K → Type 0
+IsHandedBack seen limits h callers x = (x.0 ≡ 0) ⊎ IsCallers seen limits h callers x
+
+-- callers were given, numbered from 1 on, and each one was served and handed back, once, with its number. The history has no entry of another number, and a tick for
+-- each of them at least
+pub record ServesAll {K : Type 0} (seen : Views K) (limits : Limits) (h : History) (old new : HostContent K) : Type 0 where
+  pub callers : List (Kind × List ℕ)
+  pub back : List (ℕ × K)
+  pub came : old.coming ≡ callers ++ new.coming
+  pub given : new.given ≡ old.given ++ map (λ (c : Kind × List ℕ). c.0) callers
+  pub returned : new.back ≡ old.back ++ back
+  pub once : IsPermutation (numbers_of back) (one_to (length callers))
+  pub served : AllByRecursion (IsHandedBack seen limits h callers) back
+  pub no_other : UpTo (length callers) h
+  pub ticks : length callers ≤ ticks_of h
+
+-- why the daemon stops: nobody will call any more, or as many called as there are numbers; the listeners failed; memory was wanting
+pub data DaemonStops {K : Type 0} (ended : ServeEnd) (number accept accept' : ℕ) (new : HostContent K) : Type 0 where
+  halted : IsHalted number new → DaemonStops ended number accept accept' new
+  failed : Rose accept accept' → DaemonStops ended number accept accept' new
+  wants : ended ≡ end.Memory → DaemonStops ended number accept accept' new
+
+-- a Stop of this number has its cause: the daemon's own, where it stops. No connection can ask for one: there is no such command, and HTTP isn't served
+abbrev pub HasStopCause : {K : Type 0} → ServeEnd → (number accept accept' : ℕ) → HostContent K → ℕ → Type 0
+HasStopCause ended number accept accept' new zero = DaemonStops ended number accept accept' new
+HasStopCause ended number accept accept' new (suc n) = ⊥
+
+-- each Stop of the history has its cause
+abbrev pub StopsAreCaused : {K : Type 0} → ServeEnd → (number accept accept' : ℕ) → HostContent K → History → Type 0
+StopsAreCaused ended number accept accept' new h = AllByRecursion (λ (e : Entry × End). is_stop e.0.act ≡ true → HasStopCause ended number accept accept' new e.0.conn) h

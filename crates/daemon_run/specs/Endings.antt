@@ -1,0 +1,70 @@
+-- How a run that serves ends, by its status and its cause.
+use Rattle.std.specs.Prelude.{◌≡◌, ◌⊎◌, ℕ, Bool, true, false, IsTrue}
+use Rattle.nsq_outside.specs.Causes.{Rose}
+use Rattle.nsq_outside.specs.Files.{Files}
+use Rattle.path_image.specs.Found.{BadData, EpochSpent, Finding, Found, IsFound, Names}
+use Rattle.path_opening.specs.Opening.{IsNamesFinding}
+use Rattle.path_opening.specs.declared.opening.Why.{Why}
+use Rattle.path_opening.specs.declared.opening.Why.TheVariants as why
+use Rattle.path_closing.specs.declared.shutting.ShutEnd.{ShutEnd}
+use Rattle.path_closing.specs.declared.shutting.ShutEnd.TheVariants as shut
+use Rattle.daemon_loop.specs.declared.callers.LoopEnd.{LoopEnd}
+use Rattle.daemon_loop.specs.declared.callers.LoopEnd.TheVariants as loop
+use Rattle.daemon_run.specs.declared.ending.ServeEnd.{ServeEnd}
+use Rattle.daemon_run.specs.declared.ending.ServeEnd.TheVariants as end
+use Rattle.daemon_run.specs.Sights.{Counts, NoFault}
+
+-- the status of a run that serves
+abbrev pub status_of : ServeEnd → ℕ
+status_of end.Clean = 0
+status_of end.BadData = 2
+status_of end.EpochSpent = 2
+status_of end.OpeningFault = 2
+status_of end.StopFault = 3
+status_of end.AcceptFailed = 4
+status_of end.Memory = 5
+
+-- how a run ends whose loop ended so, whose Stop was noted or not, and whose floor was shut so: of want of memory, a fault of the folder at the stop and a fault
+-- of the listeners the first counts
+abbrev pub ending_of : LoopEnd → (stopped : Bool) → ShutEnd → ServeEnd
+ending_of looped false shutting = end.Memory
+ending_of loop.Memory true shutting = end.Memory
+ending_of looped true shut.Memory = end.Memory
+ending_of looped true shut.Fault = end.StopFault
+ending_of loop.Failed true shut.Clean = end.AcceptFailed
+ending_of loop.Halted true shut.Clean = end.Clean
+ending_of loop.Stopped true shut.Clean = end.Clean
+
+-- how a run ends whose folder was not opened
+abbrev pub refusal_of : Why → ServeEnd
+refusal_of why.BadData = end.BadData
+refusal_of why.EpochSpent = end.EpochSpent
+refusal_of why.Fault = end.OpeningFault
+refusal_of why.Memory = end.Memory
+
+-- an opening of these files finds names, whatever it finds
+abbrev pub FindsNames : Files → Type 0
+FindsNames files = (f : Finding) → IsFound files f → IsNamesFinding f
+
+-- an ending's cause, from the files and the counts at entry to the counts at return: where the folder tells its files, a clean stop comes only where they show
+-- names, bad data and spent ids where they show just that; a fault comes only where the folder's count of faults or the listeners' rose. A fault of the stop may have
+-- been met by the Stop's turn: there a folder that doesn't tell its files may also have given a damaged record
+abbrev pub IsCaused : ServeEnd → (tells_files tells_notes : Bool) → Files → (old new : Counts) → Type 0
+IsCaused end.Clean tells_files tells_notes files old new = IsTrue tells_files → FindsNames files
+IsCaused end.BadData tells_files tells_notes files old new = IsTrue tells_files → IsFound files BadData
+IsCaused end.EpochSpent tells_files tells_notes files old new = IsTrue tells_files → IsFound files EpochSpent
+IsCaused end.OpeningFault tells_files tells_notes files old new = Rose old.folder new.folder
+IsCaused end.StopFault tells_files tells_notes files old new = IsTrue tells_files → IsTrue tells_notes → Rose old.folder new.folder
+IsCaused end.AcceptFailed tells_files tells_notes files old new = Rose old.accept new.accept
+IsCaused end.Memory tells_files tells_notes files old new = Unit {0}
+
+-- it ended so, or for want of memory
+abbrev pub IsOrWants : ServeEnd → ServeEnd → Type 0
+IsOrWants wanted ended = (ended ≡ wanted) ⊎ (ended ≡ end.Memory)
+
+-- where no count of the folder or the listeners rose, a run ends cleanly from names, and by its own refusal from bad data and from spent ids; want of memory alone may
+-- come in the place of each
+pub record IsComplete (ended : ServeEnd) (files : Files) (old new : Counts) : Type 0 where
+  pub names : (found : Found) → IsFound files (Names found) → NoFault old new → IsOrWants end.Clean ended
+  pub bad_data : IsFound files BadData → NoFault old new → IsOrWants end.BadData ended
+  pub spent : IsFound files EpochSpent → NoFault old new → IsOrWants end.EpochSpent ended

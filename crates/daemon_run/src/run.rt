@@ -1,0 +1,141 @@
+ghost use Rattle.std.specs.Prelude.{◌≡◌, [], false, IsSome, IsTrue};
+ghost use Rattle.nsq_base.specs.Options.{IsInRange};
+ghost use Rattle.nsq_base.specs.Text.{IsText};
+ghost use Rattle.nsq_outside.specs.Causes.{DidFails};
+ghost use Rattle.nsq_outside.specs.Hosts.{OnlyAcceptFaults, Starts};
+ghost use Rattle.floor_turns.specs.Scenes.{scene};
+ghost use Rattle.daemon_loop.specs.Served.{AllTell, ListenersFailedLast, OnlyCallersChange, views};
+ghost use Rattle.daemon_run.specs.Asked.{HasAsked};
+ghost use Rattle.daemon_run.specs.Endings.{IsCaused, IsComplete, status_of};
+ghost use Rattle.daemon_run.specs.Parts.{KeepsFaults, RunsOn};
+ghost use Rattle.daemon_run.specs.Runs.{HasWorked, Runs, limits_of};
+ghost use Rattle.daemon_run.specs.Sights.{AllTold, Both, counts_of, sight};
+ghost use Rattle.daemon_run.specs.declared.ending.ServeEnd.TheVariants.{AcceptFailed};
+
+use crate::ending::{ServeEnd, ending_after, refusal};
+use crate::watched::Watched;
+use broker_floor::Floor;
+use broker_history::Entry;
+use daemon_loop::{serve_callers, stop};
+use nsq_base::{Body, Options};
+use nsq_outside::{Did, Host, Kit};
+use path_closing::shut;
+use path_opening::{Refused, open};
+use std::alloc::Global;
+use std::str;
+use std::sync::Wait;
+use v2_frame::Limits;
+
+/// Serves with these options, each in its range: it starts the host at their addresses and data path, opens that, serves the callers, one after another, until
+/// nobody calls any more, stops, and shuts the data path. The host's kit is at home, and is again at the end.
+///
+/// The end `AcceptFailed` comes only where the count of the listeners' faults rose in the start or behind the last caller: a fault behind which
+/// further callers came is no cause of it.
+pub fn serve<R: Wait, H: Host<Entry>>(
+    rt: &R,
+    alloc: Global,
+    options: &Options,
+    host: &mut H,
+) -> ServeEnd
+    requires home { IsSome (H.state host.old).kit }
+    requires options { IsInRange options.now }
+    ensures home { IsSome (H.state host.new).kit }
+    ensures asked { IsTrue H.tells → HasAsked options.now (status_of result) (H.content host.old) (H.content host.new) }
+    ensures faults { KeepsFaults (H.state host.old) (H.state host.new) }
+    ensures cause { Both (⟦<H as Watched>⟧.sight host.old) (⟦<H as Watched>⟧.sight host.new) (λ old new. IsCaused result H.Folder.tells_files H.Journal.tells_notes old.files old.counts new.counts) }
+    ensures complete { IsTrue H.Folder.tells_files → IsTrue H.Journal.tells_notes → Both (⟦<H as Watched>⟧.sight host.old) (⟦<H as Watched>⟧.sight host.new) (λ old new. IsComplete result old.files old.counts new.counts) }
+    ensures run { ⟦<H as Watched>⟧.told → Both (⟦<H as Watched>⟧.sight host.old) (⟦<H as Watched>⟧.sight host.new) (Runs ⟦<H as Watched>⟧.seen options.now result) }
+    ensures listeners { IsTrue H.tells → result ≡ AcceptFailed → ListenersFailedLast H.state H.content host.old host.new }
+{
+    match start(rt, options, host) {
+        Did::Failed => ServeEnd::AcceptFailed,
+        Did::Done => {
+            let kit = host.lend();
+            let (ending, kit) = work(rt, alloc, options, host, kit);
+            host.restore(kit);
+            ending
+        }
+    }
+}
+
+/// Starts the host with the addresses and the data path of the options.
+fn start<R: Wait, H: Host<Entry>>(rt: &R, options: &Options, host: &mut H) -> Did
+    requires options { IsInRange options.now }
+    ensures state { OnlyAcceptFaults (H.state host.old) (H.state host.new) }
+    ensures cause { DidFails (H.state host.old).accept_faults (H.state host.new).accept_faults result }
+    ensures content { IsTrue H.tells → Starts (H.content host.old) (H.content host.new) options.now.tcp_address options.now.http_address options.now.data_path result }
+{
+    let tcp = text_of(&options.tcp_address);
+    let http = text_of(&options.http_address);
+    let path = text_of(&options.data_path);
+    host.start(rt, tcp, http, path)
+}
+
+/// A text of the options.
+fn text_of(text: &Body) -> &str
+    requires { IsText text.now }
+    ensures { result.now ≡ text.now }
+{
+    match str::from_utf8(text.bytes()) {
+        Ok(text) => text,
+        Err(_) => unreachable!(),
+    }
+}
+
+/// Opens the data path, serves the callers and stops. It gives the kit back.
+fn work<R: Wait, H: Host<Entry>>(
+    rt: &R,
+    alloc: Global,
+    options: &Options,
+    host: &mut H,
+    kit: Kit<H::Folder, H::Clock, H::Journal>,
+) -> (ServeEnd, Kit<H::Folder, H::Clock, H::Journal>)
+    requires options { IsInRange options.now }
+    requires aside { H.Journal.is_aside kit.journal ≡ false }
+    requires empty { IsTrue H.Journal.tells_notes → H.Journal.notes kit.journal ≡ [] }
+    ensures worked { AllTold H.tells H.Conn.tells_pieces H.Conn.tells_written H.Journal.tells_notes H.Folder.tells_files H.Clock.tells_readings
+        → HasWorked (views H.Conn.pieces H.Conn.left H.Conn.ended H.Conn.written H.Conn.read_faults H.Conn.write_faults) options.now result.0
+        (sight H.Journal.notes H.Folder.files H.Clock.coming H.Folder.folder_faults kit (H.state host.old) (H.content host.old)) (sight H.Journal.notes H.Folder.files H.Clock.coming H.Folder.folder_faults result.1 (H.state host.new) (H.content host.new)) }
+    ensures rest { IsTrue H.tells → OnlyCallersChange (H.content host.old) (H.content host.new) }
+    ensures state { OnlyAcceptFaults (H.state host.old) (H.state host.new) }
+    ensures cause { IsCaused result.0 H.Folder.tells_files H.Journal.tells_notes (H.Folder.files kit.folder) (counts_of H.Folder.folder_faults kit.folder (H.state host.old)) (counts_of H.Folder.folder_faults result.1.folder (H.state host.new)) }
+    ensures listeners { IsTrue H.tells → result.0 ≡ AcceptFailed → ListenersFailedLast H.state H.content host.old host.new }
+{
+    match open(alloc, kit, options) {
+        Ok(floor) => run(rt, alloc, options, host, floor),
+        Err(refused) => {
+            let Refused { why, kit } = refused;
+            (refusal(why), kit)
+        }
+    }
+}
+
+/// Serves the callers at an opened floor, stops it and shuts it.
+fn run<R: Wait, H: Host<Entry>>(
+    rt: &R,
+    alloc: Global,
+    options: &Options,
+    host: &mut H,
+    floor: Floor<H::Folder, H::Clock, H::Journal>,
+) -> (ServeEnd, Kit<H::Folder, H::Clock, H::Journal>)
+    requires options { IsInRange options.now }
+    requires unflushed { floor.held.flushed ≡ false }
+    requires empty { IsTrue H.Journal.tells_notes → H.Journal.notes floor.journal ≡ [] }
+    ensures runs { RunsOn (AllTell H.tells H.Conn.tells_pieces H.Conn.tells_written H.Journal.tells_notes) H.tells H.Journal.tells_notes H.Folder.tells_files H.Clock.tells_readings
+        (views H.Conn.pieces H.Conn.left H.Conn.ended H.Conn.written H.Conn.read_faults H.Conn.write_faults) (limits_of options.now) result.0 (H.state host.old).accept_faults (H.state host.new).accept_faults
+        (scene floor.held.hall (H.Journal.notes floor.journal) (H.Folder.files floor.folder) (H.Folder.folder_faults floor.folder) (H.Clock.coming floor.clock))
+        (H.Folder.files result.1.folder) (H.Journal.notes result.1.journal) (H.Clock.coming result.1.clock) (H.Folder.folder_faults result.1.folder) (H.content host.old) (H.content host.new) }
+    ensures rest { IsTrue H.tells → OnlyCallersChange (H.content host.old) (H.content host.new) }
+    ensures state { OnlyAcceptFaults (H.state host.old) (H.state host.new) }
+    ensures listeners { IsTrue H.tells → result.0 ≡ AcceptFailed → ListenersFailedLast H.state H.content host.old host.new }
+{
+    let mut floor = floor;
+    let limits = Limits {
+        msg: options.max_msg_size,
+        body: options.max_body_size,
+    };
+    let looped = serve_callers(rt, alloc, limits, host, &mut floor);
+    let stopped = stop(alloc, &mut floor);
+    let (shutting, kit) = shut(alloc, floor);
+    (ending_after(looped, stopped, shutting), kit)
+}

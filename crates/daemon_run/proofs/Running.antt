@@ -1,0 +1,232 @@
+-- What a run as a whole did, from what its parts did.
+use Rattle.std.proofs.Common.{◌≡◌, ◌≢◌, ◌≤◌, ◌<◌, inl, inr, ℕ, zero, ◌+◌, ◌++◌, ◌∷◌, [], List, Bool, true, false, length, refl, sym, ◌∙◌, ap, subst, arith}
+use Rattle.std.specs.Prelude.{◌⊎◌, IsTrue, IsPermutation}
+use Rattle.std.specs.List.{AllByRecursion}
+use Rattle.std.proofs.lemmas.Bool.{false≢true}
+use Rattle.std.proofs.lemmas.List.Sorted.{IsPermutation-refl}
+use Rattle.nsq_base.specs.declared.options.Options.{Options}
+use Rattle.nsq_outside.specs.Causes.{Rose}
+use Rattle.nsq_outside.specs.Files.{Files}
+use Rattle.nsq_outside.specs.Hosts.{HostContent}
+use Rattle.nsq_outside.specs.declared.journal.End.{End}
+use Rattle.queue_image.specs.FileNames.IsFileOf.{own as own_file}
+use Rattle.path_image.specs.Found.{Found, IsFound, Names}
+use Rattle.broker_history.specs.declared.entry.Act.{Act}
+use Rattle.broker_history.specs.declared.entry.Entry.{Entry}
+use Rattle.broker_history.specs.Entries.{History, faults_apart, faults_of, has_stop, is_stop, stops_of}
+use Rattle.broker_history.specs.Found.{start}
+use Rattle.broker_history.specs.Legal.{Legal}
+use Rattle.broker_history.specs.Moments.{IsTimed, moment_of}
+use Rattle.broker_history.specs.State.{State}
+use Rattle.broker_history.proofs.Stops.{stops_once}
+use Rattle.broker_history.proofs.Timing.{turns_read}
+use Rattle.turn_laws.specs.Laws.{IsOf, RoseBy}
+use Rattle.turn_laws.proofs.Faulting.{apart_few}
+use Rattle.turn_laws.proofs.Laying.{all_both, all_so, turns_of}
+use Rattle.floor_rooms.specs.Standing.{HoldsFor}
+use Rattle.floor_turns.specs.Leads.{LedTo}
+use Rattle.floor_turns.specs.Scenes.{Scene, Stands}
+use Rattle.path_opening.specs.Opening.{IsNamesFinding, OnlyOpeningFiles}
+use Rattle.path_closing.specs.Closings.{Leaves, ShutChanges}
+use Rattle.daemon_loop.specs.Going.{OnlyRunFiles, Went}
+use Rattle.daemon_loop.specs.Rounds.{WhyOver}
+use Rattle.daemon_loop.specs.Served.{HasServed, Views, ticks_of}
+use Rattle.daemon_loop.specs.declared.callers.LoopEnd.{LoopEnd}
+use Rattle.daemon_loop.specs.declared.callers.LoopEnd.TheVariants as loop
+use Rattle.daemon_loop.proofs.Going.{went_by, went_then}
+use Rattle.daemon_loop.proofs.Others.{common_act, stops-append, ticks-append, up_to_more}
+use Rattle.daemon_loop.proofs.Serving.{daemon_served}
+use Rattle.daemon_run.specs.Callers.{DaemonStops, HasStopCause, ServesAll, StopsAreCaused, failed, halted, one_to, wants}
+use Rattle.daemon_run.specs.Endings.{FindsNames, IsCaused}
+use Rattle.daemon_run.specs.Parts.{RunsOn}
+use Rattle.daemon_run.specs.Runs.{HasRun, TellsHistory, limits_of}
+use Rattle.daemon_run.specs.Sights.{Counts, Sight}
+use Rattle.daemon_run.specs.declared.ending.ServeEnd.{ServeEnd}
+use Rattle.daemon_run.specs.declared.ending.ServeEnd.TheVariants as end
+use Rattle.daemon_run.proofs.Causes.{at_clean, at_fault, parts, rose_wider}
+use Rattle.daemon_run.proofs.Numbering.{handed, numbered}
+
+-- rises of counts
+by_wider : (n a a0 a1 a2 : ℕ) → a ≤ a0 → a1 ≤ a2 → RoseBy n a0 a1 → RoseBy n a a2
+by_wider n a a0 a1 a2 l m r = omega (arith, l, m, r)
+
+by_one_more : (m n a b c : ℕ) → m ≤ n → RoseBy n a b → Rose b c → RoseBy (m + 1) a c
+by_one_more m n a b c l r s = omega (arith, l, r, s)
+
+rose_from : (n a b : ℕ) → RoseBy (n + 1) a b → Rose a b
+rose_from n a b r = omega (arith, r)
+
+-- no Stop stands in a history without one
+none_stops : (P : Entry × End → Type 0) (h : History) → stops_of h ≡ 0 → AllByRecursion (λ e. is_stop e.0.act ≡ true → P e) h
+none_stops P [] n = tt
+none_stops P (e ∷ h) n = go (is_stop e.0.act) refl
+  where
+    both : stops_of (e ∷ h) ≡ stops_of (e ∷ []) + stops_of h
+    both = stops-append (e ∷ []) h
+
+    go : (b : Bool) → is_stop e.0.act ≡ b → (is_stop e.0.act ≡ true → P e) × AllByRecursion (λ e. is_stop e.0.act ≡ true → P e) h
+    go true yes = let one : stops_of (e ∷ []) ≡ 1 = rw yes refl in absurd (omega (arith, both, one, n))
+    go false no = (λ is. absurd (false≢true (sym no ∙ is)), none_stops P h (omega (arith, both, n)))
+
+module _ {K : Type 0} (ended : ServeEnd) (number accept accept' : ℕ) (content : HostContent K) where
+  -- the daemon's own Stops have its cause
+  daemon_stops : (e : Entry × End) → DaemonStops ended number accept accept' content → IsOf 0 e → is_stop e.0.act ≡ true → HasStopCause ended number accept accept' content e.0.conn
+  daemon_stops e d (inl common) is = absurd (false≢true (sym (common_act e.0.act common) ∙ is))
+  daemon_stops e d (inr names) is = subst (λ n. HasStopCause ended number accept accept' content n) (sym names) d
+
+  stop_cause : (l : LoopEnd) → WhyOver l number accept accept' content → (l ≡ loop.Memory → ended ≡ end.Memory) → DaemonStops ended number accept accept' content
+  stop_cause loop.Halted why wanting = halted why
+  stop_cause loop.Failed why wanting = failed why
+  stop_cause loop.Stopped why wanting = absurd why
+  stop_cause loop.Memory why wanting = wants (wanting refl)
+
+  stops_caused : (h h' added : History) → h' ≡ h ++ added → stops_of h ≡ 0 → AllByRecursion (IsOf 0) added → DaemonStops ended number accept accept' content → StopsAreCaused ended number accept accept' content h'
+  stops_caused h h' added whole none of d =
+      let P : Entry × End → Type 0 = λ e. is_stop e.0.act ≡ true → HasStopCause ended number accept accept' content e.0.conn in
+      subst (λ x. AllByRecursion P x) (sym whole) (all_both P h added (none_stops (λ e. HasStopCause ended number accept accept' content e.0.conn) h none) (all_so (IsOf 0) P added (λ e. daemon_stops e d) of))
+
+-- a floor that stands for some state
+pub record Stood (opened : Scene) : Type 0 where
+  pub state : State
+  pub stands : Stands opened state
+
+-- a floor that was opened in a data path: its scene, and what was found there
+pub record Opened {K : Type 0} (options : Options) (old : Sight K) (opened : Scene) : Type 0 where
+  pub found : Found
+  pub is_found : IsFound old.files (Names found)
+  pub stands : Stands opened (start found options (moment_of old.coming 1))
+  pub moment : opened.hall.moment ≡ moment_of old.coming 1
+  pub ahead : (k : ℕ) → opened.coming k ≡ old.coming (k + 1)
+  pub unstuck : opened.hall.stuck ≡ false
+  pub empty : opened.notes ≡ []
+  pub faults : old.counts.folder ≤ opened.faults
+  pub files : OnlyOpeningFiles old.files opened.files
+
+module _ {K : Type 0} (Told : Type 0) (told : Told) (tells_host tells_notes tells_files tells_readings : Bool) (notes_told : IsTrue tells_notes) (files_told : IsTrue tells_files) (readings_told : IsTrue tells_readings) (seen : Views K) (options : Options) (ended : ServeEnd)
+    (old new : Sight K) (opened : Scene) (o : Opened options old opened)
+    (r : RunsOn Told tells_host tells_notes tells_files tells_readings seen (limits_of options) ended old.counts.accept new.counts.accept opened new.files new.notes new.coming new.counts.folder old.content new.content) where
+  abbrev daemons : History
+  daemons = let turns = r.leads.turns notes_told in turns.added
+
+  turns_whole : r.last.notes ≡ r.middle.notes ++ daemons
+  turns_whole = let turns = r.leads.turns notes_told in turns.whole
+
+  turns_daemons : AllByRecursion (IsOf 0) daemons
+  turns_daemons = let turns = r.leads.turns notes_told in turns_of turns.turns
+
+  now_whole : new.notes ≡ r.middle.notes ++ daemons
+  now_whole = r.same_notes ∙ turns_whole
+
+  went : Went tells_notes tells_files tells_readings opened r.last
+  went = went_then tells_notes tells_files tells_readings opened r.middle r.last r.rounds.went (went_by tells_notes tells_files tells_readings 0 r.middle r.last r.leads)
+
+  abbrev begun : State
+  begun = start o.found options (moment_of old.coming 1)
+
+  led : LedTo opened r.last begun
+  led = went.legal notes_told files_told begun o.stands
+
+  notes_are : new.notes ≡ led.added
+  notes_are = r.same_notes ∙ led.whole ∙ ap (λ h. h ++ led.added) o.empty
+
+  legal : Legal begun new.notes led.to
+  legal = subst (λ h. Legal begun h led.to) (sym notes_are) led.legal
+
+  history : TellsHistory options old new led.to
+  history =
+      let times = went.times notes_told readings_told old.coming 1 (record { ahead = λ k. o.ahead k ∙ ap old.coming (omega arith); moment = o.moment }) in
+      let whole : new.notes ≡ times.added = r.same_notes ∙ times.whole ∙ ap (λ h. h ++ times.added) o.empty in
+      let timed : IsTimed old.coming 1 new.notes times.later = subst (λ h. IsTimed old.coming 1 h times.later) (sym whole) times.timed in
+      record {
+        found = o.found;
+        is_found = o.is_found;
+        legal = legal;
+        readings = times.later;
+        timed = timed;
+        moments = turns_read old.coming 1 times.later new.notes timed;
+        ahead = λ k. ap (λ (f : ℕ → ℕ). f k) r.same_coming ∙ times.now.ahead k;
+      }
+
+  few_apart : faults_apart new.notes ≤ faults_of new.notes
+  few_apart = apart_few new.notes
+
+  counted : RoseBy (faults_of new.notes) opened.faults r.last.faults
+  counted = subst (λ h. RoseBy (faults_of h) opened.faults r.last.faults) (sym notes_are) led.counted
+
+  pub stop_rose : Rose r.last.faults new.counts.folder ⊎ (r.last.hall.stuck ≡ true) → RoseBy (faults_apart new.notes + 1) old.counts.folder new.counts.folder
+  stop_rose (inl rose) =
+      by_wider (faults_apart new.notes + 1) old.counts.folder opened.faults new.counts.folder new.counts.folder o.faults (omega arith)
+      (by_one_more (faults_apart new.notes) (faults_of new.notes) opened.faults r.last.faults new.counts.folder few_apart counted rose)
+  stop_rose (inr stuck) =
+      by_wider (faults_apart new.notes + 1) old.counts.folder opened.faults r.last.faults new.counts.folder o.faults r.later
+      (subst (λ h. RoseBy (faults_apart h + 1) opened.faults r.last.faults) (sym notes_are) (led.apart o.unstuck stuck))
+
+  at_stop : ended ≡ end.StopFault → RoseBy (faults_apart new.notes + 1) old.counts.folder new.counts.folder
+  at_stop is = let p = parts r.looped r.stopped r.shutting ended r.ended_is in stop_rose (at_fault r.last.hall.stuck r.last.faults new.counts.folder r.shutting (p.shut_fault is) r.shut_fails)
+
+  only_files : OnlyOpeningFiles old.files new.files
+  only_files = λ file not_names not_temp none.
+      r.changes files_told file not_names not_temp (λ name named its. none name named (own_file its))
+      ∙ went.files files_told file not_names not_temp (λ name named its. none name named (own_file its)) ∙ o.files file not_names not_temp none
+
+  served : HasServed seen (limits_of options) r.number new.notes old.content new.content
+  served = daemon_served seen (limits_of options) r.number r.middle.notes new.notes daemons old.content new.content (r.rounds.served told) now_whole turns_daemons
+
+  count : length served.callers ≡ r.number
+  count = served.count
+
+  callers : ServesAll seen (limits_of options) new.notes old.content new.content
+  callers =
+      let grown : ticks_of new.notes ≡ ticks_of r.middle.notes + ticks_of daemons = ap ticks_of now_whole ∙ ticks-append r.middle.notes daemons in
+      let before = r.rounds.ticks notes_told in
+      record {
+        callers = served.callers;
+        back = served.back;
+        came = served.came;
+        given = served.given;
+        returned = served.returned;
+        once = subst (λ ns. IsPermutation ns (one_to (length served.callers))) (sym (numbered seen (limits_of options) new.notes served.callers served.back served.served)) (IsPermutation-refl (one_to (length served.callers)));
+        served = handed seen (limits_of options) new.notes served.callers served.back served.served;
+        no_other = up_to_more r.number (length served.callers) 0 r.middle.notes new.notes daemons now_whole (omega (arith, count)) (omega arith) (r.rounds.up_to notes_told) turns_daemons;
+        ticks = omega (arith, count, grown, before);
+      }
+
+  pub has_run : HasRun seen options ended old new
+  has_run =
+      let p = parts r.looped r.stopped r.shutting ended r.ended_is in
+      record {
+        to = led.to;
+        history = history;
+        callers = callers;
+        in_turn = numbered seen (limits_of options) new.notes served.callers served.back served.served;
+        faults = record { all = by_wider (faults_of new.notes) old.counts.folder opened.faults r.last.faults new.counts.folder o.faults r.later counted; at_stop = at_stop };
+        stops = record {
+          once = stops_once begun led.to new.notes legal;
+          there = λ other. subst (λ h. has_stop h ≡ true) (sym r.same_notes) (r.noted (p.stop_noted other) notes_told);
+          caused = subst (λ n. StopsAreCaused ended n old.counts.accept new.counts.accept new.content new.notes) (sym count)
+              (stops_caused ended r.number old.counts.accept new.counts.accept new.content r.middle.notes new.notes daemons now_whole (r.rounds.no_stop told) turns_daemons
+              (stop_cause ended r.number old.counts.accept new.counts.accept new.content r.looped (r.why told) p.loop_wants));
+        };
+        left = λ shut. at_clean r.shutting (Leaves led.to new.files) (p.shut_clean shut) (r.left files_told led.to led.stands.holds);
+        others = only_files;
+      }
+
+-- the cause of an ending of a run that served
+pub run_caused : {K : Type 0} (Told : Type 0) (tells_host tells_notes tells_files tells_readings : Bool) (seen : Views K) (options : Options) (ended : ServeEnd) (old new : Sight K) (opened : Scene) (accept accept' : ℕ)
+    → (IsTrue tells_files → FindsNames old.files) → (IsTrue tells_files → IsTrue tells_notes → Stood opened) → old.counts.folder ≤ opened.faults → opened.hall.stuck ≡ false
+    → RunsOn Told tells_host tells_notes tells_files tells_readings seen (limits_of options) ended old.counts.accept new.counts.accept opened new.files new.notes new.coming new.counts.folder old.content new.content
+    → IsCaused ended tells_files tells_notes old.files old.counts new.counts
+run_caused Told th tn tf tr seen options ended old new opened accept accept' found stood low unstuck r =
+    let p = parts r.looped r.stopped r.shutting ended r.ended_is in
+    p.served (λ e. ended ≡ e → IsCaused e tf tn old.files old.counts new.counts) (λ is. found) (λ is told tells. rose told tells (at_fault r.last.hall.stuck r.last.faults new.counts.folder r.shutting (p.shut_fault is) r.shut_fails))
+    (λ is. r.failed (p.loop_failed is)) (λ is. tt) refl
+  where
+    went : Went tn tf tr opened r.last
+    went = went_then tn tf tr opened r.middle r.last r.rounds.went (went_by tn tf tr 0 r.middle r.last r.leads)
+
+    rose : IsTrue tf → IsTrue tn → Rose r.last.faults new.counts.folder ⊎ (r.last.hall.stuck ≡ true) → Rose old.counts.folder new.counts.folder
+    rose told tells (inl up) = let later = went.faults in rose_wider old.counts.folder r.last.faults new.counts.folder new.counts.folder (omega (arith, low, later)) (omega arith) up
+    rose told tells (inr stuck) =
+        let from = stood told tells in
+        let led = went.legal tells told from.state from.stands in
+        rose_wider old.counts.folder opened.faults r.last.faults new.counts.folder low r.later (rose_from (faults_apart led.added) opened.faults r.last.faults (led.apart unstuck stuck))

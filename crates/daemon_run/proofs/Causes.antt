@@ -200,3 +200,6 @@ module _ (e : ServeEnd) (files : Files) (k k' : Counts) (cause : IsCaused e true
 
   pub completes : IsComplete e files k k'
   completes = record { names = λ found. cleanly e found refl cause; bad_data = badly e refl cause; spent = spent_so e refl cause }
+
+pub completes_told : (e : ServeEnd) (tells_files tells_notes : Bool) (files : Files) (k k' : Counts) → IsTrue tells_files → IsTrue tells_notes → IsCaused e tells_files tells_notes files k k' → IsComplete e files k k'
+completes_told e tells_files tells_notes files k k' told tells cause = completes e files k k' (subst (λ t. IsCaused e true t files k k') tells (subst (λ t. IsCaused e t tells_notes files k k') told cause))

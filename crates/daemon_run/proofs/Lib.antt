@@ -3,3 +3,4 @@ pub mod Numbering
 pub mod Running
 pub mod Asking
 pub mod Sighting
+pub mod Opening

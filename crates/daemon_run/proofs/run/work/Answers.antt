@@ -1,0 +1,50 @@
+use Rattle.std.proofs.Common.{◌≡◌, inl, inr, ◌∙◌, ap, arith, subst, sym, refl}
+use Rattle.std.specs.Prelude.{◌⊎◌}
+use Rattle.broker_history.specs.Entries.{History}
+use Rattle.daemon_loop.specs.Served.{AllTell}
+use Rattle.daemon_run.specs.Endings.{IsCaused, status_of}
+use Rattle.daemon_run.specs.Sights.{counts_of, sight}
+use Rattle.daemon_run.specs.declared.ending.ServeEnd.TheVariants as end
+use Rattle.daemon_run.proofs.Asking.{same_callers}
+use Rattle.daemon_run.proofs.Causes.{refused_caused, refused_ends, refused_unfailed}
+use Rattle.daemon_run.proofs.Opening.{opened, stood}
+use Rattle.daemon_run.proofs.Running.{has_run, run_caused}
+use Rattle.daemon_run.proofs.run.work.Goals as goal
+
+pub returns-in-Ok-clause-worked : goal.returns-in-Ok-clause-worked
+returns-in-Ok-clause-worked g c = λ told.
+    let hall = c.in-Ok.ensures.hall in
+    let old = sight g.H.Journal.Journal.notes g.H.Folder.Folder.files g.H.Clock.Clock.coming g.H.Folder.Folder.folder_faults c.args.kit (g.H.Host.state c.args.host.now) (g.H.Host.content c.args.host.now) in
+    let new = sight g.H.Journal.Journal.notes g.H.Folder.Folder.files g.H.Clock.Clock.coming g.H.Folder.Folder.folder_faults c.run.result.1 (g.H.Host.state c.run.new.host) (g.H.Host.content c.run.new.host) in
+    inr (has_run _ (record { host = told.host; pieces = told.pieces; written = told.written; notes = told.notes }) _ _ _ _ told.notes told.files told.readings _ c.args.options.now c.run.result.0 old new _
+    (opened c.args.options.now old _ (c.in-Ok.ensures.finds told.files) (c.in-Ok.ensures.stands told.files) hall.stuck (c.in-Ok.ensures.moment told.readings) (c.in-Ok.ensures.coming told.readings)
+    (ap g.H.Journal.Journal.notes c.in-Ok.ensures.journal ∙ c.requires.empty told.notes) c.in-Ok.ensures.faults (c.in-Ok.ensures.files told.files)) c.run.ensures.runs)
+
+pub returns-in-Ok-clause-cause : goal.returns-in-Ok-clause-cause
+returns-in-Ok-clause-cause g c =
+    let old = sight g.H.Journal.Journal.notes g.H.Folder.Folder.files g.H.Clock.Clock.coming g.H.Folder.Folder.folder_faults c.args.kit (g.H.Host.state c.args.host.now) (g.H.Host.content c.args.host.now) in
+    let new = sight g.H.Journal.Journal.notes g.H.Folder.Folder.files g.H.Clock.Clock.coming g.H.Folder.Folder.folder_faults c.run.result.1 (g.H.Host.state c.run.new.host) (g.H.Host.content c.run.new.host) in
+    let hall = c.in-Ok.ensures.hall in
+    run_caused _ _ _ _ _ _ c.args.options.now c.run.result.0 old new _ (g.H.Host.state c.args.host.now).accept_faults (g.H.Host.state c.run.new.host).accept_faults c.in-Ok.ensures.found
+    (λ told tells. stood c.args.options.now old _ (c.in-Ok.ensures.finds told) (c.in-Ok.ensures.stands told) (ap g.H.Journal.Journal.notes c.in-Ok.ensures.journal ∙ c.requires.empty tells))
+    c.in-Ok.ensures.faults hall.stuck c.run.ensures.runs
+
+pub returns-in-Err-clause-worked : goal.returns-in-Err-clause-worked
+returns-in-Err-clause-worked g c = λ told. inl (record {
+  empty = ap g.H.Journal.Journal.notes c.in-Err.ensures.back ∙ c.requires.empty told.notes;
+  callers = same_callers (g.H.Host.content c.args.host.now) (g.H.Host.content c.args.host.now) refl;
+  ends = subst (λ x. (status_of x ≡ 2) ⊎ (x ≡ end.Memory)) (sym c.refusal.ensures) (refused_ends c.in-Err.refused.why);
+  again = c.in-Err.ensures.again told.files;
+  others = c.in-Err.ensures.refused_files told.files;
+})
+
+pub returns-in-Err-clause-cause : goal.returns-in-Err-clause-cause
+returns-in-Err-clause-cause g c =
+    let before = counts_of g.H.Folder.Folder.folder_faults c.args.kit.folder (g.H.Host.state c.args.host.now) in
+    let after = counts_of g.H.Folder.Folder.folder_faults c.in-Err.refused.kit.folder (g.H.Host.state c.args.host.now) in
+    let files = g.H.Folder.Folder.files c.args.kit.folder in
+    subst (λ x. IsCaused x g.H.Folder.Folder.tells_files g.H.Journal.Journal.tells_notes files before after) (sym c.refusal.ensures)
+    (refused_caused c.in-Err.refused.why g.H.Folder.Folder.tells_files g.H.Journal.Journal.tells_notes files (g.H.Folder.Folder.files c.in-Err.refused.kit.folder) before after c.in-Err.ensures.why)
+
+pub returns-in-Err-clause-listeners : goal.returns-in-Err-clause-listeners
+returns-in-Err-clause-listeners g c = λ told is. refused_unfailed c.in-Err.refused.why _ (sym c.refusal.ensures ∙ is)

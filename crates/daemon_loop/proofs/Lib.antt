@@ -1,5 +1,5 @@
 pub mod Going
 pub mod Others
-pub mod Serving
-pub mod Stopping
+pub mod Handing
+pub mod Halting
 pub mod Rounding

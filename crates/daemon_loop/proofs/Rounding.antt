@@ -27,8 +27,8 @@ use Rattle.daemon_loop.specs.Served.{HasServed, IsServed, OnlyCallersChange, UpT
 use Rattle.daemon_loop.specs.declared.ticking.Ticked.{Ticked}
 use Rattle.daemon_loop.proofs.Going.{went_by, went_nowhere, went_then}
 use Rattle.daemon_loop.proofs.Others.{none_of, nothing_yet, one_tick, own_same, stops-append, stops_own, ticks-append, up_to_more}
-use Rattle.daemon_loop.proofs.Serving.{at_first, caller_changes, daemon_served, next_served, still_served}
-use Rattle.daemon_loop.proofs.Stopping.{served_no_stop}
+use Rattle.daemon_loop.proofs.Handing.{at_first, caller_changes, daemon_served, next_served, still_served}
+use Rattle.daemon_loop.proofs.Halting.{served_no_stop}
 
 -- a tick that was answered Quiet was noted
 ticked_acts : (at : ℕ) (acts : History) → AreActsFor at 0 call.Tick turned.Quiet acts → ticks_of acts ≡ 1

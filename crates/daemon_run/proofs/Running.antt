@@ -35,7 +35,7 @@ use Rattle.daemon_loop.specs.declared.callers.LoopEnd.{LoopEnd}
 use Rattle.daemon_loop.specs.declared.callers.LoopEnd.TheVariants as loop
 use Rattle.daemon_loop.proofs.Going.{went_by, went_then}
 use Rattle.daemon_loop.proofs.Others.{common_act, stops-append, ticks-append, up_to_more}
-use Rattle.daemon_loop.proofs.Serving.{daemon_served}
+use Rattle.daemon_loop.proofs.Handing.{daemon_served}
 use Rattle.daemon_run.specs.Callers.{DaemonStops, HasStopCause, ServesAll, StopsAreCaused, failed, halted, one_to, wants}
 use Rattle.daemon_run.specs.Endings.{FindsNames, IsCaused}
 use Rattle.daemon_run.specs.Parts.{RunsOn}

@@ -1,7 +1,7 @@
 use Rattle.std.proofs.Common.{arith, refl, sym, subst, ap, ◌+◌, ◌∙◌, inl, inr}
 use Rattle.nsq_outside.specs.Hosts.{HostContent, OnlyAcceptFaults}
 use Rattle.daemon_loop.proofs.Others.{nothing_yet}
-use Rattle.daemon_loop.proofs.Serving.{accepted_then}
+use Rattle.daemon_loop.proofs.Handing.{accepted_then}
 use Rattle.daemon_loop.proofs.Rounding.{rounds_first, rounds_tick, rounds_save, rounds_nobody, rounds_caller, no_stop_stands}
 use Rattle.daemon_loop.proofs.callers.serve_callers.Goals as goal
 

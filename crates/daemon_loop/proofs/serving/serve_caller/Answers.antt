@@ -1,7 +1,7 @@
 use Rattle.std.proofs.Common.{◌++◌, ◌∙◌, ap, subst}
 use Rattle.broker_history.specs.Talk.{bytes_of}
 use Rattle.daemon_loop.specs.Served.{Talks}
-use Rattle.daemon_loop.proofs.Serving.{cause_allows, tcp_served}
+use Rattle.daemon_loop.proofs.Handing.{cause_allows, tcp_served}
 use Rattle.daemon_loop.proofs.serving.serve_caller.Goals as goal
 
 pub returns-in-Tcp-clause-served : goal.returns-in-Tcp-clause-served

@@ -1,4 +1,4 @@
-use Rattle.daemon_loop.proofs.Stopping.{adds_stop, stop_seen}
+use Rattle.daemon_loop.proofs.Halting.{adds_stop, stop_seen}
 use Rattle.daemon_loop.proofs.stopping.stop_once.Goals as goal
 
 pub returns-clause-adds : goal.returns-clause-adds

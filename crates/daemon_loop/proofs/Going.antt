@@ -50,7 +50,7 @@ module _ (tells_notes tells_files tells_readings : Bool) where
   went_nowhere a = record {
     faults = omega arith;
     files = λ told file not_names not_temp none. refl;
-    legal = λ told tells s stands. record { added = []; whole = sym (append-nil a.notes); to = s; legal = none; stands = stands; counted = omega arith; apart = λ no yet. absurd (false≢true (sym no ∙ yet)) };
+    legal = λ told tells s stands. record { added = []; whole = sym (append-nil a.notes); to = s; legal = none; stands = stands; counted = omega arith; apart = λ fails_so yet. absurd (false≢true (sym fails_so ∙ yet)) };
     times = λ told tells coming readings at. record { added = []; whole = sym (append-nil a.notes); later = readings; timed = starts; now = at };
   }
 
@@ -93,7 +93,7 @@ went_saving tells_notes tells_files tells_readings a b notes coming faults momen
     legal = none;
     stands = record { holds = holds tells s stands.holds; began = λ n. stands.began n ∙ ap (λ (x : History). has_began (own n x)) (sym notes) };
     counted = omega (arith, faults);
-    apart = λ no yet. absurd (false≢true (sym no ∙ sym stuck ∙ yet));
+    apart = λ fails_so yet. absurd (false≢true (sym fails_so ∙ sym stuck ∙ yet));
   };
   times = λ told tells readings made at. record {
     added = [];

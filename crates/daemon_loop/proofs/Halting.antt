@@ -45,7 +45,7 @@ going_no_stop (spent g most) = going_no_stop g
 going_no_stop (nothing g) = going_no_stop g
 going_no_stop (read piece g some short) = going_no_stop g
 going_no_stop (greet g magic) = going_no_stop g
-going_no_stop (did {h = h} e g begins is open) = no_more h e (going_no_stop g) (ap is_stop is.1)
+going_no_stop (did {h = h} e g begins is goes) = no_more h e (going_no_stop g) (ap is_stop is.1)
 going_no_stop (done g more) = going_no_stop g
 
 closes_doing : (limits : Limits) (place : ℕ) (greeted : Bool) (pending : List ℕ) (act : Act) (answer : Option Frame) → ClosesDoing limits place greeted pending act answer → is_stop act ≡ false
@@ -108,8 +108,8 @@ pub adds_stop : (own own' : History) (t : Turned) (b : Bool) → b ≡ says_stop
 adds_stop own own' t b e a = go t b e a
   where
     joined : (t : Turned) → says_stopping t ≡ false → Joins 0 own own' call.Stop t → ⊥
-    joined turned.Stopping no j = absurd (false≢true (sym no))
-    joined t no j = absurd j.answers
+    joined turned.Stopping fails_so j = absurd (false≢true (sym fails_so))
+    joined t fails_so j = absurd j.answers
 
     go : (t : Turned) (b : Bool) → b ≡ says_stopping t → Adds 0 own own' call.Stop t → AddsStop own own' b
     go turned.Stopping b e (inl a) = subst (λ x. AddsStop own own' x) (sym e) (inl a.0)

@@ -141,5 +141,5 @@ no_stop_stands h stands none = absurd (omega (arith, has_stops h stands, none))
     has_stops (e ∷ h) is = go (is_stop e.0.act) refl
       where
         go : (b : Bool) → is_stop e.0.act ≡ b → 0 < stops_of (e ∷ h)
-        go true yes = let both = stops-append (e ∷ []) h in let one : stops_of (e ∷ []) ≡ 1 = rw yes refl in omega (arith, both, one)
-        go false no = let both = stops-append (e ∷ []) h in let more = has_stops h (rw no is) in omega (arith, both, more)
+        go true holds_so = let both = stops-append (e ∷ []) h in let one : stops_of (e ∷ []) ≡ 1 = rw holds_so refl in omega (arith, both, one)
+        go false fails_so = let both = stops-append (e ∷ []) h in let more = has_stops h (rw fails_so is) in omega (arith, both, more)

@@ -6,7 +6,7 @@ use Rattle.nsq_outside.specs.Causes.{Rose}
 use Rattle.nsq_outside.specs.Files.{Files}
 use Rattle.path_image.specs.Found.{BadData, EpochSpent, Finding, Found, IsFound, Names}
 use Rattle.path_image.proofs.FindingOnce.{one_found}
-use Rattle.path_opening.specs.Opening.{IsNamesFinding, IsWhy}
+use Rattle.path_opening.specs.Opening.{HaveBytes, IsNamesFinding, IsWhy}
 use Rattle.path_opening.specs.declared.opening.Why.{Why}
 use Rattle.path_opening.specs.declared.opening.Why.TheVariants as why
 use Rattle.path_closing.specs.Closings.{ShutFails, WhereClean}
@@ -34,7 +34,7 @@ caused_wider tf tn end.Clean files k0 k k' k2 p q c = c
 caused_wider tf tn end.BadData files k0 k k' k2 p q c = c
 caused_wider tf tn end.EpochSpent files k0 k k' k2 p q c = c
 caused_wider tf tn end.OpeningFault files k0 k k' k2 p q c = rose_wider k0.folder k.folder k'.folder k2.folder p.folder q.folder c
-caused_wider tf tn end.StopFault files k0 k k' k2 p q c = λ told tells. rose_wider k0.folder k.folder k'.folder k2.folder p.folder q.folder (c told tells)
+caused_wider tf tn end.StopFault files k0 k k' k2 p q c = λ told tells bytes. rose_wider k0.folder k.folder k'.folder k2.folder p.folder q.folder (c told tells bytes)
 caused_wider tf tn end.AcceptFailed files k0 k k' k2 p q c = rose_wider k0.accept k.accept k'.accept k2.accept p.accept q.accept c
 caused_wider tf tn end.Memory files k0 k k' k2 p q c = tt
 
@@ -107,8 +107,8 @@ module _ (looped : LoopEnd) (stopped : Bool) (shutting : ShutEnd) (ended : Serve
   }
 
   faults : ended ≡ end.StopFault → stopped ≡ true → shutting ≡ shut.Fault → looped ≢ loop.Memory → Parts
-  faults e yes f d = record {
-    stop_noted = λ _. yes;
+  faults e holds_so f d = record {
+    stop_noted = λ _. holds_so;
     shut_clean = from_shut end.StopFault _ e (λ x. absurd (omega (arith, x))) (λ x. absurd (omega (arith, x)));
     shut_fault = λ _. f;
     loop_failed = off end.StopFault end.AcceptFailed _ e (λ x. absurd (omega (arith, x)));
@@ -117,8 +117,8 @@ module _ (looped : LoopEnd) (stopped : Bool) (shutting : ShutEnd) (ended : Serve
   }
 
   fails : ended ≡ end.AcceptFailed → stopped ≡ true → shutting ≡ shut.Clean → looped ≡ loop.Failed → Parts
-  fails e yes f l = record {
-    stop_noted = λ _. yes;
+  fails e holds_so f l = record {
+    stop_noted = λ _. holds_so;
     shut_clean = λ _. f;
     shut_fault = off end.AcceptFailed end.StopFault _ e (λ x. absurd (omega (arith, x)));
     loop_failed = λ _. l;
@@ -127,8 +127,8 @@ module _ (looped : LoopEnd) (stopped : Bool) (shutting : ShutEnd) (ended : Serve
   }
 
   cleans : ended ≡ end.Clean → stopped ≡ true → shutting ≡ shut.Clean → looped ≢ loop.Memory → Parts
-  cleans e yes f d = record {
-    stop_noted = λ _. yes;
+  cleans e holds_so f d = record {
+    stop_noted = λ _. holds_so;
     shut_clean = λ _. f;
     shut_fault = off end.Clean end.StopFault _ e (λ x. absurd (omega (arith, x)));
     loop_failed = off end.Clean end.AcceptFailed _ e (λ x. absurd (omega (arith, x)));
@@ -160,14 +160,14 @@ pub at_fault : (stuck : Bool) (before now : ℕ) (shutting : ShutEnd) → shutti
 at_fault stuck before now shutting e f = subst (λ s. ShutFails stuck before now s) e f
 
 -- where no count rose, an ending is that of what was found
-module _ (e : ServeEnd) (files : Files) (k k' : Counts) (cause : IsCaused e true true files k k') where
+module _ (e : ServeEnd) (files : Files) (k k' : Counts) (bytes : HaveBytes files) (cause : IsCaused e true true files k k') where
   cleanly : (c : ServeEnd) (found : Found) → e ≡ c → IsCaused c true true files k k' → IsFound files (Names found) → NoFault k k' → IsOrWants end.Clean e
   cleanly end.Clean found is c f calm = inl is
   cleanly end.Memory found is c f calm = inr is
   cleanly end.BadData found is c f calm = absurd (subst (λ (x : Finding). IsNamesFinding x) (one_found files (Names found) BadData f (c refl)) tt)
   cleanly end.EpochSpent found is c f calm = absurd (subst (λ (x : Finding). IsNamesFinding x) (one_found files (Names found) EpochSpent f (c refl)) tt)
   cleanly end.OpeningFault found is c f calm = absurd (calm.folder c)
-  cleanly end.StopFault found is c f calm = absurd (calm.folder (c refl refl))
+  cleanly end.StopFault found is c f calm = absurd (calm.folder (c refl refl bytes))
   cleanly end.AcceptFailed found is c f calm = absurd (calm.accept c)
 
   badly : (c : ServeEnd) → e ≡ c → IsCaused c true true files k k' → IsFound files BadData → NoFault k k' → IsOrWants end.BadData e
@@ -181,7 +181,7 @@ module _ (e : ServeEnd) (files : Files) (k k' : Counts) (cause : IsCaused e true
       IsBad EpochSpent = ⊥
       IsBad (Names found) = ⊥
   badly end.OpeningFault is c f calm = absurd (calm.folder c)
-  badly end.StopFault is c f calm = absurd (calm.folder (c refl refl))
+  badly end.StopFault is c f calm = absurd (calm.folder (c refl refl bytes))
   badly end.AcceptFailed is c f calm = absurd (calm.accept c)
 
   spent_so : (c : ServeEnd) → e ≡ c → IsCaused c true true files k k' → IsFound files EpochSpent → NoFault k k' → IsOrWants end.EpochSpent e
@@ -195,11 +195,11 @@ module _ (e : ServeEnd) (files : Files) (k k' : Counts) (cause : IsCaused e true
       IsSpent EpochSpent = Unit {0}
       IsSpent (Names found) = ⊥
   spent_so end.OpeningFault is c f calm = absurd (calm.folder c)
-  spent_so end.StopFault is c f calm = absurd (calm.folder (c refl refl))
+  spent_so end.StopFault is c f calm = absurd (calm.folder (c refl refl bytes))
   spent_so end.AcceptFailed is c f calm = absurd (calm.accept c)
 
   pub completes : IsComplete e files k k'
   completes = record { names = λ found. cleanly e found refl cause; bad_data = badly e refl cause; spent = spent_so e refl cause }
 
-pub completes_told : (e : ServeEnd) (tells_files tells_notes : Bool) (files : Files) (k k' : Counts) → IsTrue tells_files → IsTrue tells_notes → IsCaused e tells_files tells_notes files k k' → IsComplete e files k k'
-completes_told e tells_files tells_notes files k k' told tells cause = completes e files k k' (subst (λ t. IsCaused e true t files k k') tells (subst (λ t. IsCaused e t tells_notes files k k') told cause))
+pub completes_told : (e : ServeEnd) (tells_files tells_notes : Bool) (files : Files) (k k' : Counts) → IsTrue tells_files → IsTrue tells_notes → HaveBytes files → IsCaused e tells_files tells_notes files k k' → IsComplete e files k k'
+completes_told e tells_files tells_notes files k k' told tells bytes cause = completes e files k k' bytes (subst (λ t. IsCaused e true t files k k') tells (subst (λ t. IsCaused e t tells_notes files k k') told cause))

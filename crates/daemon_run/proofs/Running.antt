@@ -26,7 +26,7 @@ use Rattle.turn_laws.proofs.Laying.{all_both, all_so, turns_of}
 use Rattle.floor_rooms.specs.Standing.{HoldsFor}
 use Rattle.floor_turns.specs.Leads.{LedTo}
 use Rattle.floor_turns.specs.Scenes.{Scene, Stands}
-use Rattle.path_opening.specs.Opening.{IsNamesFinding, OnlyOpeningFiles}
+use Rattle.path_opening.specs.Opening.{HaveBytes, OnlyOpeningFiles}
 use Rattle.path_closing.specs.Closings.{Leaves, ShutChanges}
 use Rattle.daemon_loop.specs.Going.{OnlyRunFiles, Went}
 use Rattle.daemon_loop.specs.Rounds.{WhyOver}
@@ -65,8 +65,8 @@ none_stops P (e ∷ h) n = go (is_stop e.0.act) refl
     both = stops-append (e ∷ []) h
 
     go : (b : Bool) → is_stop e.0.act ≡ b → (is_stop e.0.act ≡ true → P e) × AllByRecursion (λ e. is_stop e.0.act ≡ true → P e) h
-    go true yes = let one : stops_of (e ∷ []) ≡ 1 = rw yes refl in absurd (omega (arith, both, one, n))
-    go false no = (λ is. absurd (false≢true (sym no ∙ is)), none_stops P h (omega (arith, both, n)))
+    go true holds_so = let one : stops_of (e ∷ []) ≡ 1 = rw holds_so refl in absurd (omega (arith, both, one, n))
+    go false fails_so = (λ is. absurd (false≢true (sym fails_so ∙ is)), none_stops P h (omega (arith, both, n)))
 
 module _ {K : Type 0} (ended : ServeEnd) (number accept accept' : ℕ) (content : HostContent K) where
   -- the daemon's own Stops have its cause
@@ -213,20 +213,20 @@ module _ {K : Type 0} (Told : Type 0) (told : Told) (tells_host tells_notes tell
 
 -- the cause of an ending of a run that served
 pub run_caused : {K : Type 0} (Told : Type 0) (tells_host tells_notes tells_files tells_readings : Bool) (seen : Views K) (options : Options) (ended : ServeEnd) (old new : Sight K) (opened : Scene) (accept accept' : ℕ)
-    → (IsTrue tells_files → FindsNames old.files) → (IsTrue tells_files → IsTrue tells_notes → Stood opened) → old.counts.folder ≤ opened.faults → opened.hall.stuck ≡ false
+    → (IsTrue tells_files → FindsNames old.files) → (IsTrue tells_files → IsTrue tells_notes → HaveBytes old.files → Stood opened) → old.counts.folder ≤ opened.faults → opened.hall.stuck ≡ false
     → RunsOn Told tells_host tells_notes tells_files tells_readings seen (limits_of options) ended old.counts.accept new.counts.accept opened new.files new.notes new.coming new.counts.folder old.content new.content
     → IsCaused ended tells_files tells_notes old.files old.counts new.counts
 run_caused Told th tn tf tr seen options ended old new opened accept accept' found stood low unstuck r =
     let p = parts r.looped r.stopped r.shutting ended r.ended_is in
-    p.served (λ e. ended ≡ e → IsCaused e tf tn old.files old.counts new.counts) (λ is. found) (λ is told tells. rose told tells (at_fault r.last.hall.stuck r.last.faults new.counts.folder r.shutting (p.shut_fault is) r.shut_fails))
+    p.served (λ e. ended ≡ e → IsCaused e tf tn old.files old.counts new.counts) (λ is. found) (λ is told tells bytes. rose told tells bytes (at_fault r.last.hall.stuck r.last.faults new.counts.folder r.shutting (p.shut_fault is) r.shut_fails))
     (λ is. r.failed (p.loop_failed is)) (λ is. tt) refl
   where
     went : Went tn tf tr opened r.last
     went = went_then tn tf tr opened r.middle r.last r.rounds.went (went_by tn tf tr 0 r.middle r.last r.leads)
 
-    rose : IsTrue tf → IsTrue tn → Rose r.last.faults new.counts.folder ⊎ (r.last.hall.stuck ≡ true) → Rose old.counts.folder new.counts.folder
-    rose told tells (inl up) = let later = went.faults in rose_wider old.counts.folder r.last.faults new.counts.folder new.counts.folder (omega (arith, low, later)) (omega arith) up
-    rose told tells (inr stuck) =
-        let from = stood told tells in
+    rose : IsTrue tf → IsTrue tn → HaveBytes old.files → Rose r.last.faults new.counts.folder ⊎ (r.last.hall.stuck ≡ true) → Rose old.counts.folder new.counts.folder
+    rose told tells bytes (inl up) = let later = went.faults in rose_wider old.counts.folder r.last.faults new.counts.folder new.counts.folder (omega (arith, low, later)) (omega arith) up
+    rose told tells bytes (inr stuck) =
+        let from = stood told tells bytes in
         let led = went.legal tells told from.state from.stands in
         rose_wider old.counts.folder opened.faults r.last.faults new.counts.folder low r.later (rose_from (faults_apart led.added) opened.faults r.last.faults (led.apart unstuck stuck))

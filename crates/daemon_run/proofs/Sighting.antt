@@ -20,12 +20,13 @@ use Rattle.broker_history.specs.State.{State}
 use Rattle.turn_laws.specs.Laws.{RoseBy}
 use Rattle.turn_laws.proofs.Laying.{all_so}
 use Rattle.path_closing.specs.Closings.{Leaves}
-use Rattle.path_opening.specs.Opening.{FindsAgain}
+use Rattle.path_opening.specs.Opening.{FindsAgain, HaveBytes}
 use Rattle.daemon_loop.specs.Rounds.{IsHalted}
 use Rattle.daemon_loop.specs.Served.{UpTo, Views, ticks_of}
 use Rattle.daemon_run.specs.Asked.{StartsOnce}
 use Rattle.daemon_run.specs.Callers.{DaemonStops, HasStopCause, IsHandedBack, ServesAll, StopsAreCaused, failed, halted, wants}
 use Rattle.daemon_run.specs.Endings.{IsCaused}
+use Rattle.daemon_run.specs.Parts.{KeepsFaults}
 use Rattle.daemon_run.specs.Runs.{CountsFaults, HasRun, HasWorked, NoCaller, Runs, Stops, TellsHistory, limits_of}
 use Rattle.daemon_run.specs.Sights.{Both, Counts, Sight, counts_of, sight, sight_of}
 use Rattle.daemon_run.specs.declared.ending.ServeEnd.{ServeEnd}
@@ -200,8 +201,25 @@ module _ {F C J K : Type 0} (notes : J → History) (files : F → Files) (comin
         (caused_wider tells_files tells_notes e (files lent.folder) (counts_of faults x.folder s0) (counts_of faults lent.folder s2) (counts_of faults back.folder s3) (counts_of faults back.folder s4) (fewer_before x folder) fewer_after cause))
 
     -- what the work did, the whole did
-    pub lent_runs : (seen : Views K) (options : Options) (ended : ServeEnd) → NoCaller c0 c1 → c2 ≡ c1 → c4 ≡ c3 → HasWorked seen options ended (Seen lent s2 c2) (Seen back s3 c3) → StartsOnce options c0 c4
+    pub lent_runs : (seen : Views K) (options : Options) (ended : ServeEnd) → NoCaller c0 c1 → c2 ≡ c1 → c4 ≡ c3 → (HaveBytes (files lent.folder) → HasWorked seen options ended (Seen lent s2 c2) (Seen back s3 c3)) → StartsOnce options c0 c4
         → Both (SeenOf s0 c0) (SeenOf s4 c4) (Runs seen options ended)
-    lent_runs seen options ended none lend restore worked begun = lent_then (Runs seen options ended) (λ x folder clock. inr (begun, worked_between seen options ended (Seen x s0 c0) (Seen lent s2 c2) (Seen back s3 c3) (Seen back s4 c4)
+    lent_runs seen options ended none lend restore worked begun = lent_then (Runs seen options ended) (λ x folder clock bytes. inr (begun, worked_between seen options ended (Seen x s0 c0) (Seen lent s2 c2) (Seen back s3 c3) (Seen back s4 c4)
         (record { files = ap files folder; coming = ap coming clock; counts = fewer_before x folder; callers = no_caller_then c0 c1 c2 none (same_callers c1 c2 lend) })
-        (record { files = refl; coming = refl; notes = refl; counts = fewer_after; callers = same_callers c3 c4 restore }) worked))
+        (record { files = refl; coming = refl; notes = refl; counts = fewer_after; callers = same_callers c3 c4 restore }) (worked (subst (λ f. HaveBytes f) (sym (ap files folder)) bytes))))
+
+module _ {F C J : Type 0} where
+  -- which counts a host's calls leave
+  pub kept_faults : (s s' : HostState F C J) → OnlyAcceptFaults s s' → KeepsFaults s s'
+  kept_faults s s' o = record { accept = o.0; beside = ap (λ (x : HostState F C J). x.beside) o.1; print = ap (λ (x : HostState F C J). x.print_faults) o.1; tell = ap (λ (x : HostState F C J). x.tell_faults) o.1 }
+
+  faults_then : (a b c : HostState F C J) → KeepsFaults a b → KeepsFaults b c → KeepsFaults a c
+  faults_then a b c p q = let low = p.accept in let high = q.accept in record { accept = omega (arith, low, high); beside = q.beside ∙ p.beside; print = q.print ∙ p.print; tell = q.tell ∙ p.tell }
+
+  moved_faults : (a b : HostState F C J) (kit : Option (Kit F C J)) → b ≡ record a { kit = kit } → KeepsFaults a b
+  moved_faults a b kit e =
+      let accept : b.accept_faults ≡ a.accept_faults = ap (λ (x : HostState F C J). x.accept_faults) e in
+      record { accept = omega (arith, accept); beside = ap (λ (x : HostState F C J). x.beside) e; print = ap (λ (x : HostState F C J). x.print_faults) e; tell = ap (λ (x : HostState F C J). x.tell_faults) e }
+
+  pub lent_faults : (s0 s1 s2 s3 s4 : HostState F C J) (back : Kit F C J) → OnlyAcceptFaults s0 s1 → s2 ≡ record s1 { kit = None } → OnlyAcceptFaults s2 s3 → s4 ≡ record s3 { kit = Some back } → KeepsFaults s0 s4
+  lent_faults s0 s1 s2 s3 s4 back started lend worked restore =
+      faults_then s0 s3 s4 (faults_then s0 s2 s3 (faults_then s0 s1 s2 (kept_faults s0 s1 started) (moved_faults s1 s2 None lend)) (kept_faults s2 s3 worked)) (moved_faults s3 s4 (Some back) restore)

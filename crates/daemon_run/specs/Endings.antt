@@ -3,7 +3,7 @@ use Rattle.std.specs.Prelude.{◌≡◌, ◌⊎◌, ℕ, Bool, true, false, IsTr
 use Rattle.nsq_outside.specs.Causes.{Rose}
 use Rattle.nsq_outside.specs.Files.{Files}
 use Rattle.path_image.specs.Found.{BadData, EpochSpent, Finding, Found, IsFound, Names}
-use Rattle.path_opening.specs.Opening.{IsNamesFinding}
+use Rattle.path_opening.specs.Opening.{HaveBytes, IsNamesFinding}
 use Rattle.path_opening.specs.declared.opening.Why.{Why}
 use Rattle.path_opening.specs.declared.opening.Why.TheVariants as why
 use Rattle.path_closing.specs.declared.shutting.ShutEnd.{ShutEnd}
@@ -54,7 +54,7 @@ IsCaused end.Clean tells_files tells_notes files old new = IsTrue tells_files �
 IsCaused end.BadData tells_files tells_notes files old new = IsTrue tells_files → IsFound files BadData
 IsCaused end.EpochSpent tells_files tells_notes files old new = IsTrue tells_files → IsFound files EpochSpent
 IsCaused end.OpeningFault tells_files tells_notes files old new = Rose old.folder new.folder
-IsCaused end.StopFault tells_files tells_notes files old new = IsTrue tells_files → IsTrue tells_notes → Rose old.folder new.folder
+IsCaused end.StopFault tells_files tells_notes files old new = IsTrue tells_files → IsTrue tells_notes → HaveBytes files → Rose old.folder new.folder
 IsCaused end.AcceptFailed tells_files tells_notes files old new = Rose old.accept new.accept
 IsCaused end.Memory tells_files tells_notes files old new = Unit {0}
 

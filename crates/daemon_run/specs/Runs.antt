@@ -12,7 +12,7 @@ use Rattle.broker_history.specs.Legal.{Legal}
 use Rattle.broker_history.specs.Moments.{HasReadings, IsTimed, moment_of}
 use Rattle.broker_history.specs.State.{State}
 use Rattle.turn_laws.specs.Laws.{RoseBy}
-use Rattle.path_opening.specs.Opening.{FindsAgain, OnlyOpeningFiles}
+use Rattle.path_opening.specs.Opening.{FindsAgain, HaveBytes, OnlyOpeningFiles}
 use Rattle.path_closing.specs.Closings.{Leaves}
 use Rattle.daemon_loop.specs.Served.{Views}
 use Rattle.daemon_run.specs.Asked.{StartsOnce}
@@ -92,6 +92,7 @@ pub record StayedHome {K : Type 0} (ended : ServeEnd) (old new : Sight K) : Type
 abbrev pub HasWorked : {K : Type 0} → Views K → Options → ServeEnd → (old new : Sight K) → Type 0
 HasWorked seen options ended old new = IsRefused ended old new ⊎ HasRun seen options ended old new
 
--- what a run that serves does: it doesn't get to its kit; or the host is started with the addresses and the data path of the options, and the kit is used
+-- what a run that serves does: it doesn't get to its kit; or the host is started with the addresses and the data path of the options, and the kit is used. The
+-- entries of files are bytes, as those of all files are
 abbrev pub Runs : {K : Type 0} → Views K → Options → ServeEnd → (old new : Sight K) → Type 0
-Runs seen options ended old new = StayedHome ended old new ⊎ (StartsOnce options old.content new.content × HasWorked seen options ended old new)
+Runs seen options ended old new = HaveBytes old.files → StayedHome ended old new ⊎ (StartsOnce options old.content new.content × HasWorked seen options ended old new)

@@ -4,6 +4,7 @@ ghost use Rattle.nsq_base.specs.Text.{IsText};
 ghost use Rattle.nsq_outside.specs.Causes.{DidFails};
 ghost use Rattle.nsq_outside.specs.Hosts.{OnlyAcceptFaults, Starts};
 ghost use Rattle.floor_turns.specs.Scenes.{scene};
+ghost use Rattle.path_opening.specs.Opening.{HaveBytes};
 ghost use Rattle.daemon_loop.specs.Served.{AllTell, ListenersFailedLast, OnlyCallersChange, views};
 ghost use Rattle.daemon_run.specs.Asked.{HasAsked};
 ghost use Rattle.daemon_run.specs.Endings.{IsCaused, IsComplete, status_of};
@@ -43,7 +44,7 @@ pub fn serve<R: Wait, H: Host<Entry>>(
     ensures asked { IsTrue H.tells → HasAsked options.now (status_of result) (H.content host.old) (H.content host.new) }
     ensures faults { KeepsFaults (H.state host.old) (H.state host.new) }
     ensures cause { Both (⟦<H as Watched>⟧.sight host.old) (⟦<H as Watched>⟧.sight host.new) (λ old new. IsCaused result H.Folder.tells_files H.Journal.tells_notes old.files old.counts new.counts) }
-    ensures complete { IsTrue H.Folder.tells_files → IsTrue H.Journal.tells_notes → Both (⟦<H as Watched>⟧.sight host.old) (⟦<H as Watched>⟧.sight host.new) (λ old new. IsComplete result old.files old.counts new.counts) }
+    ensures complete { IsTrue H.Folder.tells_files → IsTrue H.Journal.tells_notes → Both (⟦<H as Watched>⟧.sight host.old) (⟦<H as Watched>⟧.sight host.new) (λ old new. HaveBytes old.files → IsComplete result old.files old.counts new.counts) }
     ensures run { ⟦<H as Watched>⟧.told → Both (⟦<H as Watched>⟧.sight host.old) (⟦<H as Watched>⟧.sight host.new) (Runs ⟦<H as Watched>⟧.seen options.now result) }
     ensures listeners { IsTrue H.tells → result ≡ AcceptFailed → ListenersFailedLast H.state H.content host.old host.new }
 {
@@ -93,7 +94,7 @@ fn work<R: Wait, H: Host<Entry>>(
     requires options { IsInRange options.now }
     requires aside { H.Journal.is_aside kit.journal ≡ false }
     requires empty { IsTrue H.Journal.tells_notes → H.Journal.notes kit.journal ≡ [] }
-    ensures worked { AllTold H.tells H.Conn.tells_pieces H.Conn.tells_written H.Journal.tells_notes H.Folder.tells_files H.Clock.tells_readings
+    ensures worked { AllTold H.tells H.Conn.tells_pieces H.Conn.tells_written H.Journal.tells_notes H.Folder.tells_files H.Clock.tells_readings → HaveBytes (H.Folder.files kit.folder)
         → HasWorked (views H.Conn.pieces H.Conn.left H.Conn.ended H.Conn.written H.Conn.read_faults H.Conn.write_faults) options.now result.0
         (sight H.Journal.notes H.Folder.files H.Clock.coming H.Folder.folder_faults kit (H.state host.old) (H.content host.old)) (sight H.Journal.notes H.Folder.files H.Clock.coming H.Folder.folder_faults result.1 (H.state host.new) (H.content host.new)) }
     ensures rest { IsTrue H.tells → OnlyCallersChange (H.content host.old) (H.content host.new) }

@@ -1,0 +1,10 @@
+//! What the program `nsqd` does, over any host: it reads its words, serves, or prints what they ask for, tells the line of its ending, and returns its status.
+//!
+//! `nsqd_run`'s contract is the program's promise; `daemon_run`'s `specs/Runs.antt` has the parts of a run that serves.
+#![tactic(auto)]
+
+mod ending;
+mod run;
+
+pub use ending::{Ending, line, status};
+pub use run::nsqd_run;

@@ -1,0 +1,115 @@
+ghost use Rattle.std.specs.Prelude.{◌≡◌, ◌⊎◌, IsSome, IsTrue, map, string_bytes};
+ghost use Rattle.nsq_base.specs.Options.{IsInRange};
+ghost use Rattle.nsq_base.specs.declared.options.Options.{Options as SaidOptions};
+ghost use Rattle.nsq_outside.specs.Hosts.{OnlyTellFaults};
+ghost use Rattle.daemon_loop.specs.Served.{ListenersFailedLast};
+ghost use Rattle.daemon_run.specs.Sights.{Both};
+ghost use Rattle.daemon_main.specs.Endings.{TellsLine, line_of, status_of};
+ghost use Rattle.daemon_main.specs.Programs.{IsAsked, IsPlainRun, StaysHome};
+ghost use Rattle.nsqd_words.specs.Requests.{IsUnknown, SaysOptions};
+
+use crate::ending::{Ending, line, status};
+use broker_history::Entry;
+use daemon_run::{Watched, serve};
+use drill::drill;
+use nsq_outside::{Did, Host};
+use nsqd_words::{Request, read_words};
+use std::alloc::Global;
+use std::sync::Wait;
+
+/// Does all that the program does: it reads the words, the program's name first, and serves with the options that they say until nobody calls any more, or
+/// prints what they ask for. It tells the line that goes with its ending, and returns its status:
+///
+/// | status | comes | line |
+/// |---|---|---|
+/// | 0 | a clean stop; what was asked for was printed | none |
+/// | 1 | exactly where the words aren't right | `nsqd: bad options` |
+/// | 2 | the data path's files aren't in their grammar; no further epoch is left; the folder failed while it was opened | `nsqd: data path: bad data`, `ids spent`, `disk fault` |
+/// | 3 | the folder failed at the stop | `nsqd: stop: disk fault` |
+/// | 4 | the listeners failed, at the start or behind the last caller | `nsqd: accept failed` |
+/// | 5 | want of memory | `nsqd: out of memory` |
+/// | 6 | standard output failed | `nsqd: output fault` |
+pub fn nsqd_run<R: Wait, H: Host<Entry>>(
+    rt: &R,
+    alloc: Global,
+    words: &[String],
+    host: &mut H,
+) -> u8
+    requires { IsSome (H.state host.old).kit }
+    ensures home { IsSome (H.state host.new).kit }
+    ensures unknown { result ≡ 1 → IsUnknown (map string_bytes words.now) }
+    ensures bad { IsUnknown (map string_bytes words.now) → (result ≡ 1) ⊎ (result ≡ 5) }
+    ensures serves { (o : SaidOptions) → SaysOptions (map string_bytes words.now) o → IsInRange o
+        → Both (⟦<H as Watched>⟧.sight host.old) (⟦<H as Watched>⟧.sight host.new) (IsPlainRun ⟦<H as Watched>⟧.told H.tells H.Folder.tells_files H.Journal.tells_notes ⟦<H as Watched>⟧.seen o result) }
+    ensures prints { IsTrue H.tells → IsAsked (map string_bytes words.now) result (H.content host.old).printed (H.content host.new).printed (H.state host.old).print_faults (H.state host.new).print_faults }
+    ensures stays { IsTrue H.tells → ((o : SaidOptions) → SaysOptions (map string_bytes words.now) o → IsInRange o → ⊥) → StaysHome (H.state host.old) (H.state host.new) (H.content host.old) (H.content host.new) }
+    ensures listeners { IsTrue H.tells → result ≡ 4 → ListenersFailedLast H.state H.content host.old host.new }
+{
+    let ending = obey(rt, alloc, words, host);
+    close(rt, host, ending)
+}
+
+/// Does what the words ask for.
+fn obey<R: Wait, H: Host<Entry>>(
+    rt: &R,
+    alloc: Global,
+    words: &[String],
+    host: &mut H,
+) -> Ending
+    requires { IsSome (H.state host.old).kit }
+    ensures home { IsSome (H.state host.new).kit }
+{
+    match read_words(alloc, words) {
+        Ok(Request::Serve(options)) => Ending::Served(serve(rt, alloc, &options, host)),
+        Ok(Request::Drill(seed, count)) => print_drill(rt, alloc, seed, count, host),
+        Ok(Request::Help(text)) | Ok(Request::Version(text)) => print(rt, host, text.as_bytes()),
+        Ok(Request::Unknown) => Ending::BadOptions,
+        Err(_) => Ending::Memory,
+    }
+}
+
+/// Prints a text.
+fn print<R: Wait, H: Host<Entry>>(rt: &R, host: &mut H, text: &[u8]) -> Ending {
+    match host.print(rt, text) {
+        Did::Done => Ending::Printed,
+        Did::Failed => Ending::OutputFault,
+    }
+}
+
+/// Runs a drill and prints what it counted.
+fn print_drill<R: Wait, H: Host<Entry>>(
+    rt: &R,
+    alloc: Global,
+    seed: u64,
+    count: u64,
+    host: &mut H,
+) -> Ending {
+    let Ok(drilled) = drill(rt, alloc, seed, count) else {
+        return Ending::Memory;
+    };
+    match format!(in alloc; "published {}\nsent {}\nfinished {}\nleft {}\n", drilled.published, drilled.sent, drilled.finished, drilled.left) {
+        Ok(text) => print(rt, host, text.as_bytes()),
+        Err(_) => Ending::Memory,
+    }
+}
+
+/// Tells the line of an ending, where one is, and returns its status.
+fn close<R: Wait, H: Host<Entry>>(rt: &R, host: &mut H, ending: Ending) -> u8
+    ensures status { result ≡ status_of ending }
+    ensures state { OnlyTellFaults (H.state host.old) (H.state host.new) }
+    ensures content { IsTrue H.tells → TellsLine (line_of ending) (H.content host.old) (H.content host.new) (H.state host.old).tell_faults (H.state host.new).tell_faults }
+{
+    tell_line(rt, host, ending);
+    status(ending)
+}
+
+/// Tells the line of an ending, where one is.
+fn tell_line<R: Wait, H: Host<Entry>>(rt: &R, host: &mut H, ending: Ending)
+    ensures state { OnlyTellFaults (H.state host.old) (H.state host.new) }
+    ensures content { IsTrue H.tells → TellsLine (line_of ending) (H.content host.old) (H.content host.new) (H.state host.old).tell_faults (H.state host.new).tell_faults }
+{
+    match line(ending) {
+        Some(text) => host.tell(rt, text),
+        None => {}
+    }
+}

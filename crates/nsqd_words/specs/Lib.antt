@@ -1,0 +1,5 @@
+pub mod Command
+pub mod Durations
+pub mod Numbers
+pub mod Requests
+pub mod Saying

@@ -3,9 +3,11 @@
 //! `specs/Requests.antt` says what words ask for: of words that aren't a drill, over `clap`'s own functions of the words.
 #![tactic(auto)]
 
+mod command;
 mod durations;
 mod laws;
 mod numbers;
+mod options;
 mod reading;
 mod request;
 

@@ -135,7 +135,7 @@ with_time_options app = fold with_option app
 abbrev pub AsksByKind : ErrorKind → Request → Type 0
 AsksByKind why (request.Help text) = why ≡ kind.DisplayHelp
 AsksByKind why (request.Version text) = (why ≡ kind.DisplayVersion) × (string_bytes text ≡ codes "nsqd 1.0.0" ++ 10 ∷ [])
-AsksByKind why request.Unknown = (why ≢ kind.DisplayHelp) × (why ≢ kind.DisplayVersion)
+AsksByKind why request.Unknown = (why ≢ kind.OutOfMemory) × (why ≢ kind.DisplayHelp) × (why ≢ kind.DisplayVersion)
 AsksByKind why _ = ⊥
 
 -- what clap's words ask for, over the kinds of its refusal and what it found

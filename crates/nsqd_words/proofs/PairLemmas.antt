@@ -21,9 +21,9 @@ IsDigit byte = is_ascii_digit byte ≡ true
 cut_digits : (ds es r s : List ℕ) → AllByRecursion IsDigit ds → AllByRecursion IsDigit es → BeginsNoDigit r → BeginsNoDigit s → ds ++ r ≡ es ++ s → (ds ≡ es) × (r ≡ s)
 cut_digits [] [] r s p q no_r no_s e = (refl, e)
 cut_digits [] (y ∷ es) r s p q no_r no_s e =
-    let no : BeginsNoDigit (y ∷ (es ++ s)) = subst BeginsNoDigit e no_r in absurd (false≢true (sym no ∙ q.0))
+    let front : BeginsNoDigit (y ∷ (es ++ s)) = subst BeginsNoDigit e no_r in absurd (false≢true (sym front ∙ q.0))
 cut_digits (x ∷ ds) [] r s p q no_r no_s e =
-    let no : BeginsNoDigit (x ∷ (ds ++ r)) = subst BeginsNoDigit (sym e) no_s in absurd (false≢true (sym no ∙ p.0))
+    let front : BeginsNoDigit (x ∷ (ds ++ r)) = subst BeginsNoDigit (sym e) no_s in absurd (false≢true (sym front ∙ p.0))
 cut_digits (x ∷ ds) (y ∷ es) r s p q no_r no_s e =
     let front : x ≡ y = cc in
     let rest : ds ++ r ≡ es ++ s = cc in
@@ -36,6 +36,10 @@ unit_no_digit Minute r = refl
 unit_no_digit Second r = refl
 unit_no_digit Millisecond r = refl
 
+-- lists that are the same begin alike
+heads : (a b : ℕ) (r s : List ℕ) → a ∷ r ≡ b ∷ s → a ≡ b
+heads a b r s e = cc
+
 -- a text begins with one unit, where no `s` stands behind a unit `m`
 unit_one : (u v : TimeUnit) (r s : List ℕ) → unit_name u ++ r ≡ unit_name v ++ s → IsCut u r → IsCut v s → (u ≡ v) × (r ≡ s)
 unit_one Hour Hour r s e p q = (refl, cc)
@@ -44,16 +48,16 @@ unit_one Second Second r s e p q = (refl, cc)
 unit_one Millisecond Millisecond r s e p q = (refl, cc)
 unit_one Minute Millisecond r s e p q = let rest : r ≡ 115 ∷ s = cc in absurd (p refl (ap (λ (t : List ℕ). slice_get t 0) rest))
 unit_one Millisecond Minute r s e p q = let rest : s ≡ 115 ∷ r = cc in absurd (q refl (ap (λ (t : List ℕ). slice_get t 0) rest))
-unit_one Hour Minute r s e p q = let no : 104 ≡ 109 = cc in absurd (omega arith)
-unit_one Hour Second r s e p q = let no : 104 ≡ 115 = cc in absurd (omega arith)
-unit_one Hour Millisecond r s e p q = let no : 104 ≡ 109 = cc in absurd (omega arith)
-unit_one Minute Hour r s e p q = let no : 109 ≡ 104 = cc in absurd (omega arith)
-unit_one Minute Second r s e p q = let no : 109 ≡ 115 = cc in absurd (omega arith)
-unit_one Second Hour r s e p q = let no : 115 ≡ 104 = cc in absurd (omega arith)
-unit_one Second Minute r s e p q = let no : 115 ≡ 109 = cc in absurd (omega arith)
-unit_one Second Millisecond r s e p q = let no : 115 ≡ 109 = cc in absurd (omega arith)
-unit_one Millisecond Hour r s e p q = let no : 109 ≡ 104 = cc in absurd (omega arith)
-unit_one Millisecond Second r s e p q = let no : 109 ≡ 115 = cc in absurd (omega arith)
+unit_one Hour Minute r s e p q = absurd (omega (arith, heads 104 109 _ _ e))
+unit_one Hour Second r s e p q = absurd (omega (arith, heads 104 115 _ _ e))
+unit_one Hour Millisecond r s e p q = absurd (omega (arith, heads 104 109 _ _ e))
+unit_one Minute Hour r s e p q = absurd (omega (arith, heads 109 104 _ _ e))
+unit_one Minute Second r s e p q = absurd (omega (arith, heads 109 115 _ _ e))
+unit_one Second Hour r s e p q = absurd (omega (arith, heads 115 104 _ _ e))
+unit_one Second Minute r s e p q = absurd (omega (arith, heads 115 109 _ _ e))
+unit_one Second Millisecond r s e p q = absurd (omega (arith, heads 115 109 _ _ e))
+unit_one Millisecond Hour r s e p q = absurd (omega (arith, heads 109 104 _ _ e))
+unit_one Millisecond Second r s e p q = absurd (omega (arith, heads 109 115 _ _ e))
 
 -- digits don't begin with `s`
 digits_no_s : (ds rest : List ℕ) → AreDigits 12 ds → slice_get (ds ++ rest) 0 ≢ Some 115
@@ -61,7 +65,7 @@ digits_no_s [] rest d e = absurd (omega (arith, d.at_least))
 digits_no_s (x ∷ xs) rest d e =
     let s : x ≡ 115 = cc in
     let digit : is_ascii_digit x ≡ true = d.all_digits 0 0 (omega arith) in
-    let no : is_ascii_digit 115 ≡ true = rw s at digit in false≢true no
+    let wrong : is_ascii_digit 115 ≡ true = rw s at digit in false≢true wrong
 
 -- so a unit is cut where pairs follow
 pub spelled_cut : (u : TimeUnit) (ps : List Pair) → AllByRecursion IsPair ps → IsCut u (spelled ps)
@@ -75,19 +79,19 @@ first_is text k p ps lead h e =
 
 -- no text of pairs has front digits that are none of a pair
 no_count : (text : List ℕ) (k : ℕ) → LeadDigits text k → (AreDigits 12 (take k text) → ⊥) → (ps : List Pair) → AllByRecursion IsPair ps → text ≡ spelled ps → 0 < length text → ⊥
-no_count text k lead no [] h e some = absurd (omega (arith, ap length e))
-no_count text k lead no (p ∷ ps) h e some = no (subst (λ (t : List ℕ). AreDigits 12 t) (sym (first_is text k p ps lead h.0 e).0) h.0)
+no_count text k lead never [] h e some = absurd (omega (arith, ap length e))
+no_count text k lead never (p ∷ ps) h e some = never (subst (λ (t : List ℕ). AreDigits 12 t) (sym (first_is text k p ps lead h.0 e).0) h.0)
 
 pub no_pairs_by_count : (text : List ℕ) (k : ℕ) → LeadDigits text k → 0 < length text → (AreDigits 12 (take k text) → ⊥) → (n : ℕ) → ArePairs text n → ⊥
-no_pairs_by_count text k lead some no n a = no_count text k lead no a.pairs a.are_pairs a.text_is some
+no_pairs_by_count text k lead some never n a = no_count text k lead never a.pairs a.are_pairs a.text_is some
 
 -- nor is it without a unit behind them
 no_unit : (text : List ℕ) (k : ℕ) → LeadDigits text k → BeginsUnit (drop k text) None → (ps : List Pair) → AllByRecursion IsPair ps → text ≡ spelled ps → 0 < length text → ⊥
-no_unit text k lead no [] h e some = absurd (omega (arith, ap length e))
-no_unit text k lead no (p ∷ ps) h e some = no p.unit (spelled ps) (first_is text k p ps lead h.0 e).1
+no_unit text k lead never [] h e some = absurd (omega (arith, ap length e))
+no_unit text k lead never (p ∷ ps) h e some = never p.unit (spelled ps) (first_is text k p ps lead h.0 e).1
 
 pub no_pairs_by_unit : (text : List ℕ) (k : ℕ) → LeadDigits text k → 0 < length text → BeginsUnit (drop k text) None → (n : ℕ) → ArePairs text n → ⊥
-no_pairs_by_unit text k lead some no n a = no_unit text k lead no a.pairs a.are_pairs a.text_is some
+no_pairs_by_unit text k lead some never n a = no_unit text k lead never a.pairs a.are_pairs a.text_is some
 
 -- a front of digits and a unit, and behind it the rest
 pub record Begins (text : List ℕ) (k : ℕ) (u : TimeUnit) (rest : List ℕ) : Type 0 where
@@ -186,8 +190,8 @@ too_long text k u rest b limit long n small a =
 
 -- where pairs go on in no way, there is no duration
 pub stuck : (text rest : List ℕ) (total limit : ℕ) → GoesOn text rest total → ((n : ℕ) → n < limit → ArePairs rest n → ⊥) → (n : ℕ) → n < limit → IsDuration text n → ⊥
-stuck text rest total limit g no n small d =
-    let only = g.only n (pairs_of_duration text n d) in no only.0 (omega (arith, only.2)) only.1
+stuck text rest total limit g never n small d =
+    let only = g.only n (pairs_of_duration text n d) in never only.0 (omega (arith, only.2)) only.1
 
 -- where a pair more is too long, there is none below the limit
 pub overflow : (text rest : List ℕ) (total limit : ℕ) (first : Measured) → GoesOn text rest total → IsFirst rest first → limit ≤ total + first.nanoseconds → (n : ℕ) → n < limit → IsDuration text n → ⊥

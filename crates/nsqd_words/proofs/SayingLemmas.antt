@@ -1,9 +1,12 @@
 -- What the words say, from what clap finds in them.
-use Rattle.std.proofs.Common.{◌≡◌, ◌≢◌, ℕ, ◌<◌, List, [], ◌∷◌, Option, None, Some, Result, Ok, Err, refl, sym, ap, subst, ◌∙◌, inl, inr, true, map}
-use Rattle.std.specs.Prelude.{◌⊎◌, MatchOption, SomeIff, slice_get, codes}
+use Rattle.std.proofs.Common.{◌≡◌, ◌≢◌, ℕ, ◌<◌, List, [], ◌∷◌, Option, None, Some, Result, Ok, Err, refl, sym, ap, subst, ◌∙◌, inl, inr, Bool, true, map, zero, suc, length, get_or, arith, ◌≤◌}
+use Rattle.std.specs.Prelude.{◌⊎◌, ◌↔◌, IsTrue, MatchOption, SomeIff, option_map, slice_get}
+use Rattle.std.specs.Str.{bytes_eq}
+use Rattle.std.proofs.lemmas.Option.{none-some, same_Some, slice_get-map, slice_get_past}
+use Rattle.std.proofs.lemmas.Slice.Eq.{bytes_eq-Decides}
 use Rattle.std.specs.Str.Parse.{digits_value}
 use Rattle.clap.specs.Faults.{fault_of, is_simple_and_free}
-use Rattle.clap.specs.Kinds.{FailsBy, IsAmong, Kinds}
+use Rattle.clap.specs.Kinds.{HasKind, IsAmong, Kinds}
 use Rattle.clap.specs.Matches.{first_value, found_of}
 use Rattle.clap.specs.Simple.{App, HasMatchesOf, is_simple, matches_of}
 use Rattle.clap.specs.Walk.{Row, Text, rows_of}
@@ -19,7 +22,7 @@ use Rattle.nsq_base.specs.declared.options.Options.{Options}
 use Rattle.nsqd_words.specs.Command.{HasOneAtMost, Words, found_in, nsqd_app, refusal_of, value_in}
 use Rattle.nsqd_words.specs.Durations.{IsDuration}
 use Rattle.nsqd_words.specs.Numbers.{AreDigits, FindsBelow, IsNumber}
-use Rattle.nsqd_words.specs.Parts.{AsksByKind, AsksClap, FindsOptions, with_sizes, with_texts, with_times}
+use Rattle.nsqd_words.specs.Parts.{AsksByFound, AsksByKind, AsksClap, FindsOptions, with_sizes, with_texts, with_times}
 use Rattle.nsqd_words.specs.Requests.{Asks, AsksDrill, IsForClap, IsUnknown, bad_drill, bad_value, refused}
 use Rattle.nsqd_words.specs.Saying.{IsSameText, IsValue, SaysSizes, SaysTexts, SaysTimes, SaysValues}
 use Rattle.nsqd_words.specs.declared.options.Sizes.{Sizes}
@@ -36,9 +39,9 @@ module _ {X : Type 0} (Reads : Text → X → Type 0) (default : X) (f : Found) 
   pub value_given : (text : Text) (x : X) → Some text ≡ first_value f id → Reads text x → IsValue Reads default (value_in (rows_of f) id) x
   value_given text x e h = subst (λ (o : Option Text). IsValue Reads default o x) (e ∙ first_value-rows f id) h
 
-  pub value_absent : None ≡ first_value f id → IsValue Reads default (value_in (rows_of f) id) default
-  value_absent e = let d : IsValue Reads default None default = refl in
-      subst (λ (o : Option Text). IsValue Reads default o default) (e ∙ first_value-rows f id) d
+  pub value_absent : (x : X) → None ≡ first_value f id → x ≡ default → IsValue Reads default (value_in (rows_of f) id) x
+  value_absent x e h = let d : IsValue Reads default None x = h in
+      subst (λ (o : Option Text). IsValue Reads default o x) (e ∙ first_value-rows f id) d
 
 pub finds_value : (Reads : Text → ℕ → Type 0) (default : ℕ) (f : Found) (id text : Text) (limit : ℕ) (found : Option ℕ) → Some text ≡ first_value f id → FindsBelow limit (Reads text) found → FindsBelow limit (IsValue Reads default (value_in (rows_of f) id)) found
 finds_value Reads default f id text limit found e h =
@@ -63,7 +66,9 @@ value_one Reads one default (Some text) x y p q = one text x y p q
 same_options : (o p : Options) → o.tcp_address ≡ p.tcp_address → o.http_address ≡ p.http_address → o.broadcast_address ≡ p.broadcast_address → o.lookupd_tcp_address ≡ p.lookupd_tcp_address → o.data_path ≡ p.data_path
     → o.mem_queue_size ≡ p.mem_queue_size → o.max_bytes_per_file ≡ p.max_bytes_per_file → o.sync_every ≡ p.sync_every → o.sync_timeout ≡ p.sync_timeout → o.msg_timeout ≡ p.msg_timeout → o.max_msg_timeout ≡ p.max_msg_timeout
     → o.max_msg_size ≡ p.max_msg_size → o.max_body_size ≡ p.max_body_size → o.max_req_timeout ≡ p.max_req_timeout → o.max_rdy_count ≡ p.max_rdy_count → o.max_heartbeat_interval ≡ p.max_heartbeat_interval → o.http_stop ≡ p.http_stop → o ≡ p
-same_options o p a b c d e f g h i j k l m n q r s = cc
+same_options o p a b c d e f g h i j k l m n q r s =
+    let spelled_out : Options = record { tcp_address = o.tcp_address; http_address = o.http_address; broadcast_address = o.broadcast_address; lookupd_tcp_address = o.lookupd_tcp_address; data_path = o.data_path; mem_queue_size = o.mem_queue_size; max_bytes_per_file = o.max_bytes_per_file; sync_every = o.sync_every; sync_timeout = o.sync_timeout; msg_timeout = o.msg_timeout; max_msg_timeout = o.max_msg_timeout; max_msg_size = o.max_msg_size; max_body_size = o.max_body_size; max_req_timeout = o.max_req_timeout; max_rdy_count = o.max_rdy_count; max_heartbeat_interval = o.max_heartbeat_interval; http_stop = o.http_stop } in
+    let same : spelled_out ≡ p = rw (a, b, c, d, e, f, g, h, i, j, k, l, m, n, q, r, s) refl in same
 
 -- words say one record of options at most
 pub values_one : (rows : List Row) (o p : Options) → SaysValues rows o → SaysValues rows p → o ≡ p
@@ -118,8 +123,11 @@ nsqd_is_free = refl
 pub rows_are : (app : App) (words : Words) (m : ArgMatches) → app ≡ nsqd_app → HasMatchesOf app words m → rows_of (found_of m) ≡ found_in words
 rows_are app words m e h = (h (ap is_simple e ∙ nsqd_is_simple)).0 ∙ ap (λ (a : App). matches_of a words) e
 
-pub kinds_are : {T : Type 0} (app : App) (words : Words) (r : Result T Error) → app ≡ nsqd_app → (is_simple_and_free app ≡ true → FailsBy (fault_of app words) r) → FailsBy (refusal_of words) r
-kinds_are app words r e h = subst (λ (a : App). FailsBy (fault_of a words) r) e (h (ap is_simple_and_free e ∙ nsqd_is_free))
+pub free : (app : App) (words : Words) → app ≡ nsqd_app → (is_simple_and_free app ≡ true → fault_of app words ≡ []) → refusal_of words ≡ []
+free app words e h = ap (λ (a : App). fault_of a words) (sym e) ∙ h (ap is_simple_and_free e ∙ nsqd_is_free)
+
+pub kinds_of : (app : App) (words : Words) (e : Error) → app ≡ nsqd_app → (is_simple_and_free app ≡ true → HasKind (fault_of app words) e) → HasKind (refusal_of words) e
+kinds_of app words error e h = subst (λ (a : App). HasKind (fault_of a words) error) e (h (ap is_simple_and_free e ∙ nsqd_is_free))
 
 -- the kind of an error is the one kind of the refusal
 only_kind : (kinds : Kinds) (why : ErrorKind) → HasOneAtMost kinds → IsAmong why kinds → kinds ≡ why ∷ []
@@ -139,6 +147,14 @@ asked_by_kind kinds rows why (request.Version text) one (inr h) a = (only_kind k
 asked_by_kind kinds rows why request.Unknown one (inl e) a = absurd (a.0 e)
 asked_by_kind kinds rows why request.Unknown one (inr h) a = inr (why, only_kind kinds why one h, a.1, a.2)
 
+-- what is asked for by clap's matches
+pub asked_by_found : (kinds : Kinds) (rows found : List Row) (r : Request) → kinds ≡ [] → found ≡ rows → AsksByFound found r → AsksClap kinds rows r
+asked_by_found kinds rows found (request.Serve o) e f a = (e, subst (λ (xs : List Row). SaysValues xs o) f a.0, a.1)
+asked_by_found kinds rows found (request.Drill seed count) e f a = absurd a
+asked_by_found kinds rows found (request.Help text) e f a = absurd a
+asked_by_found kinds rows found (request.Version text) e f a = absurd a
+asked_by_found kinds rows found request.Unknown e f a = inl (e, λ o s i. a o (subst (λ (xs : List Row). SaysValues xs o) (sym f) s) i)
+
 -- what clap's words ask for
 pub asked_of_clap : (words : Words) (r : Request) → IsForClap words → AsksClap (refusal_of words) (found_in words) r → Asks words r
 asked_of_clap words (request.Serve o) for_clap h = (record { for_clap = for_clap; taken = h.0; values = h.1 }, h.2)
@@ -153,3 +169,21 @@ pub drills_known : (words : Words) (seed count : ℕ) → AsksDrill words seed c
 drills_known words seed count a (bad_drill b) = b.bad seed count a
 drills_known words seed count a (refused b) = b.for_clap (ap (λ (w : Words). slice_get w 1) a.words_are)
 drills_known words seed count a (bad_value b) = b.for_clap (ap (λ (w : Words). slice_get w 1) a.words_are)
+
+-- ---- a drill's first word
+
+word_at : {X : Type 0} (xs : List X) (k : ℕ) (x : X) → k < length xs → x ≡ get_or xs k x → slice_get xs k ≡ Some x
+word_at {X} [] k x l e = absurd (omega arith)
+word_at {X} (y ∷ ys) zero x l e = ap (λ (z : X). Some z) (sym e)
+word_at {X} (y ∷ ys) (suc k) x l e = word_at ys k x (omega arith) e
+
+-- whether a word is this text
+pub is_word : {X : Type 0} (text : X → Text) (xs : List X) (k : ℕ) (x : X) (d : Text) (b : Bool) → k < length xs → x ≡ get_or xs k x → b ≡ bytes_eq (text x) d → IsTrue b ↔ (slice_get (map text xs) k ≡ Some d)
+is_word text xs k x d b l e f =
+    let there : slice_get (map text xs) k ≡ Some (text x) = slice_get-map text xs k ∙ ap (option_map text) (word_at xs k x l e) in
+    let same = bytes_eq-Decides (text x) d in
+    (λ t. there ∙ ap (λ (y : Text). Some y) (same.0 (sym f ∙ t)), λ h. f ∙ same.1 (same_Some (text x) d (sym there ∙ h)))
+
+-- no word is, where there are too few
+pub no_word : {X : Type 0} (text : X → Text) (xs : List X) (k : ℕ) (d : Text) → length xs ≤ k → slice_get (map text xs) k ≡ Some d → ⊥
+no_word text xs k d l e = none-some d (sym (slice_get-map text xs k ∙ ap (option_map text) (slice_get_past xs k l)) ∙ e)

@@ -129,7 +129,13 @@ abbrev pub with_time_options : App → App
 with_time_options app = fold with_option app
     (codes "sync-timeout" ∷ codes "msg-timeout" ∷ codes "max-msg-timeout" ∷ codes "max-req-timeout" ∷ codes "max-heartbeat-interval" ∷ [])
 
--- ---- clap's refusals
+-- ---- clap's answers
+
+-- what is asked for by what clap found
+abbrev pub AsksByFound : List Row → Request → Type 0
+AsksByFound rows (request.Serve o) = SaysValues rows o × IsInRange o
+AsksByFound rows request.Unknown = (o : Options) → SaysValues rows o → IsInRange o → ⊥
+AsksByFound rows _ = ⊥
 
 -- what is asked for where clap's error has this kind, other than want of memory
 abbrev pub AsksByKind : ErrorKind → Request → Type 0

@@ -1,15 +1,15 @@
 ghost use Rattle.std.specs.Prelude.{◌↔◌, IfOk, IsTrue, map, string_bytes};
-ghost use Rattle.clap.specs.Words.{kind_of};
+ghost use Rattle.clap.specs.Words.{found_of, kind_of, rows_of};
 ghost use Rattle.nsqd_words.specs.Command.{found_in, refusal_of};
-ghost use Rattle.nsqd_words.specs.Parts.{AsksByKind, AsksClap};
+ghost use Rattle.nsqd_words.specs.Parts.{AsksByFound, AsksByKind, AsksClap};
 ghost use Rattle.nsqd_words.specs.Requests.{Asks, BeginsDrill};
 
 use crate::Request;
 use crate::command::nsqd_command;
 use crate::numbers::read_number_up_to;
 use crate::options::read_options;
-use clap::Error;
 use clap::error::ErrorKind;
+use clap::{ArgMatches, Error};
 use nsq_base::Memory;
 use std::alloc::Global;
 
@@ -59,11 +59,19 @@ fn read_for_clap(alloc: Global, words: &[String]) -> Result<Request, Memory>
 {
     let command = nsqd_command(alloc)?;
     match command.try_get_matches_from(words) {
-        Ok(matches) => match read_options(alloc, &matches)? {
-            Some(options) => Ok(Request::Serve(options)),
-            None => Ok(Request::Unknown),
-        },
+        Ok(matches) => by_matches(alloc, &matches),
         Err(error) => by_kind(alloc, &error),
+    }
+}
+
+// What is asked for where clap has matches.
+fn by_matches(alloc: Global, matches: &ArgMatches<'_>) -> Result<Request, Memory>
+    ensures { IfOk result (AsksByFound (rows_of (found_of matches.now))) }
+{
+    let options = read_options(alloc, matches)?;
+    match options {
+        Some(options) => Ok(Request::Serve(options)),
+        None => Ok(Request::Unknown),
     }
 }
 

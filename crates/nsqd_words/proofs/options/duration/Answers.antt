@@ -1,3 +1,4 @@
+use Rattle.std.proofs.Common.{refl}
 use Rattle.std.specs.Prelude.{◌^◌}
 use Rattle.clap.specs.Matches.{found_of}
 use Rattle.nsqd_words.specs.Durations.{IsDuration}
@@ -10,4 +11,4 @@ returns-in-Some c =
     (rw c.as_bytes.ensures.value at c.read_duration.ensures)
 
 pub returns-in-None : goal.returns-in-None
-returns-in-None c = value_absent IsDuration c.args.default (found_of c.args.matches.now) c.args.name.now c.in-None.ensures
+returns-in-None c = value_absent IsDuration c.args.default (found_of c.args.matches.now) c.args.name.now c.args.default c.in-None.ensures refl

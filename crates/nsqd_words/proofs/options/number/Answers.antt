@@ -1,4 +1,4 @@
-use Rattle.std.proofs.Common.{subst}
+use Rattle.std.proofs.Common.{refl}
 use Rattle.std.specs.Prelude.{◌^◌, SomeIff}
 use Rattle.std.specs.Str.Parse.{digits_value}
 use Rattle.clap.specs.Matches.{found_of}
@@ -12,4 +12,4 @@ returns-in-Some c =
     (finds_number c.in-Some.text.now (2 ^ 64) c.read_number.result (rw c.as_bytes.ensures.value at c.read_number.ensures))
 
 pub returns-in-None : goal.returns-in-None
-returns-in-None c = value_absent IsNumber c.args.default (found_of c.args.matches.now) c.args.name.now c.in-None.ensures
+returns-in-None c = value_absent IsNumber c.args.default (found_of c.args.matches.now) c.args.name.now c.args.default c.in-None.ensures refl

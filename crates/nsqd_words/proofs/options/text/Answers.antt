@@ -10,4 +10,5 @@ returns-in-Some c =
     IfOk-weaker c.copy.result _ _ (λ body h. value_given IsSameText c.args.default.now (found_of c.args.matches.now) c.args.name.now c.in-Some.text.now body c.in-Some.ensures (h ∙ c.as_bytes.ensures.value)) c.copy.ensures
 
 pub returns-in-None : goal.returns-in-None
-returns-in-None c = ?
+returns-in-None c =
+    IfOk-weaker c.copy-in-None.result _ _ (λ body h. value_absent IsSameText c.args.default.now (found_of c.args.matches.now) c.args.name.now body c.in-None.ensures (h ∙ c.as_bytes-in-None.ensures.value)) c.copy-in-None.ensures

@@ -1,0 +1,5 @@
+pub mod Commands
+pub mod NumberLemmas
+pub mod PairLemmas
+pub mod Refusals
+pub mod SayingLemmas

@@ -1,0 +1,53 @@
+-- The command that `clap` reads the words for.
+use Rattle.std.specs.Prelude.{ℕ, ◌≡◌, true, List, [], ◌∷◌, Option, Some, None, codes, fold}
+use Rattle.clap.specs.Walk.{Rule, Row, Text, first_of}
+use Rattle.clap.specs.Simple.{App, matches_of, new_app, new_rule, on_top, with_rule}
+use Rattle.clap.specs.Kinds.{Kinds}
+use Rattle.clap.specs.Faults.{fault_of}
+use Rattle.clap.specs.declared.builder.action.ArgAction.TheVariants.{Set}
+
+-- the words of a command line, of which the first is the program's name
+abbrev pub Words : Type 0
+Words = List (List ℕ)
+
+-- the names of the options, each written with `--` in front
+abbrev pub option_names : List Text
+option_names =
+    codes "tcp-address" ∷ codes "http-address" ∷ codes "broadcast-address" ∷ codes "data-path"
+    ∷ codes "mem-queue-size" ∷ codes "max-bytes-per-file" ∷ codes "sync-every" ∷ codes "max-msg-size"
+    ∷ codes "max-body-size" ∷ codes "max-rdy-count" ∷ codes "sync-timeout" ∷ codes "msg-timeout"
+    ∷ codes "max-msg-timeout" ∷ codes "max-req-timeout" ∷ codes "max-heartbeat-interval" ∷ []
+
+-- an option that takes one value, and may be given once
+abbrev pub option_rule : Text → Rule
+option_rule name = record (new_rule name) { long = Some name; action = Some Set }
+
+-- a command with one option more
+abbrev pub with_option : App → Text → App
+with_option app name = with_rule app (option_rule name)
+
+-- the command `nsqd` before it has an option: it has a version
+abbrev pub bare_app : App
+bare_app = on_top (λ s. record s { has_version = true }) (new_app (codes "nsqd"))
+
+-- the command `nsqd`: its options, and by clap's own rules `--help` and `--version`
+unfoldable pub nsqd_app : App
+nsqd_app = fold with_option bare_app option_names
+
+-- for which kind clap refuses the words: none where it takes them
+abbrev pub refusal_of : Words → Kinds
+refusal_of words = fault_of nsqd_app words
+
+-- what clap finds in the words, where it takes them
+abbrev pub found_in : Words → List Row
+found_in words = matches_of nsqd_app words
+
+-- the value that was found for an option
+abbrev pub value_in : List Row → Text → Option Text
+value_in rows name = first_of name rows
+
+-- where a kind is given, it is the only one
+abbrev pub HasOneAtMost : Kinds → Type 0
+HasOneAtMost [] = Unit {0}
+HasOneAtMost (kind ∷ []) = Unit {0}
+HasOneAtMost (kind ∷ other ∷ more) = ⊥

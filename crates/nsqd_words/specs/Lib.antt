@@ -1,0 +1,6 @@
+pub mod Command
+pub mod Durations
+pub mod Numbers
+pub mod Parts
+pub mod Requests
+pub mod Saying

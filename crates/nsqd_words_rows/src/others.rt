@@ -1,0 +1,75 @@
+//! All other words.
+
+use crate::held::wrong_row;
+use nsq_base::Memory;
+
+// Words that ask for something.
+const RIGHT: &str = "\
+    nsqd => serve\n\
+    nsqd -- => serve\n\
+    nsqd --help => help\n\
+    nsqd -h => help\n\
+    nsqd --version => version\n\
+    nsqd -V => version\n\
+    nsqd --version --sync-every=x => version\n\
+    nsqd --sync-every=x --version => version\n\
+    nsqd --sync-every=x --help => help\n\
+    nsqd --version --unknown => version\n\
+    nsqd --help --version => help\n\
+    nsqd --version --help => version";
+
+// An option is given once.
+const REPEATED: &str = "\
+    nsqd --mem-queue-size=5 --mem-queue-size=5 => unknown\n\
+    nsqd --mem-queue-size=5 --mem-queue-size 6 => unknown\n\
+    nsqd --mem-queue-size 5 --sync-every=3 --mem-queue-size=5 => unknown\n\
+    nsqd --tcp-address :4150 --tcp-address :4150 => unknown\n\
+    nsqd --msg-timeout=1m --msg-timeout=1m => unknown\n\
+    nsqd --data-path=a --data-path=a => unknown";
+
+// Words that nothing is known of.
+const WRONG: &str = "\
+    nsqd --http-stop => unknown\n\
+    nsqd --http-stop=true => unknown\n\
+    nsqd --lookupd-tcp-address=127.0.0.1:4160 => unknown\n\
+    nsqd --lookupd-tcp-address 127.0.0.1:4160 => unknown\n\
+    nsqd --unknown => unknown\n\
+    nsqd --unknown=3 => unknown\n\
+    nsqd --unknown --version => unknown\n\
+    nsqd --mem-queue-siz=5 => unknown\n\
+    nsqd --Mem-Queue-Size=5 => unknown\n\
+    nsqd -mem-queue-size=5 => unknown\n\
+    nsqd -x => unknown\n\
+    nsqd - => unknown\n\
+    nsqd stray => unknown\n\
+    nsqd  => unknown\n\
+    nsqd mem-queue-size=5 => unknown\n\
+    nsqd -- stray => unknown\n\
+    nsqd help => unknown\n\
+    nsqd --sync-every => unknown\n\
+    nsqd --sync-every --version => unknown\n\
+    nsqd --sync-every --mem-queue-size=5 => unknown\n\
+    nsqd --sync-every 5 6 => unknown\n\
+    nsqd --version=3 => unknown\n\
+    nsqd --help=x => unknown";
+
+#[test]
+fn right(rt: HostRuntime) -> Result<(), Memory> {
+    let wrong = wrong_row(rt.alloc(), RIGHT)?;
+    assert!(rt; wrong.is_none(), "{}", wrong.unwrap_or(""));
+    Ok(())
+}
+
+#[test]
+fn repeated(rt: HostRuntime) -> Result<(), Memory> {
+    let wrong = wrong_row(rt.alloc(), REPEATED)?;
+    assert!(rt; wrong.is_none(), "{}", wrong.unwrap_or(""));
+    Ok(())
+}
+
+#[test]
+fn wrong(rt: HostRuntime) -> Result<(), Memory> {
+    let wrong = wrong_row(rt.alloc(), WRONG)?;
+    assert!(rt; wrong.is_none(), "{}", wrong.unwrap_or(""));
+    Ok(())
+}

@@ -1,6 +1,6 @@
 -- What clauses see of the host that is the real machine. `F` and `D` are the types of the files and folders that its runtime opens.
 use Rattle.std.specs.Prelude.{ℕ, ◌≡◌, Bool, [], true, false, IsSome}
-use Rattle.history.specs.declared.entry.Entry.{Entry}
+use Rattle.broker_history.specs.declared.entry.Entry.{Entry}
 use Rattle.nsq_outside.specs.Hosts.{DialerContent, HostContent, HostState}
 use Rattle.nsq_system.specs.TcpDialers.{dial_faults_of as dial_faults_in}
 use Rattle.nsq_outside.specs.declared.faults.Faults.{Faults}

@@ -1,6 +1,6 @@
 ghost use Rattle.std.specs.Prelude.{◌≡◌, IfOk};
 
-use history::Entry;
+use broker_history::Entry;
 use nsq_base::Memory;
 use nsq_outside::{Accept, Dialer, Dialled, Did, Faults, Host, Kit};
 use nsq_system::{DirFolder, Forgetful, Listeners, SysClock, TcpConn, TcpDialer};

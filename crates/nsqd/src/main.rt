@@ -4,7 +4,7 @@
 mod host;
 
 use host::SysHost;
-use nsqd_core::{Ending, close, nsqd_run, status};
+use daemon_main::{Ending, close, nsqd_run, status};
 use std::env;
 use std::process::ExitCode;
 

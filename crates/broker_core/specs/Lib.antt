@@ -1,9 +1,0 @@
-pub mod Calls
-pub mod Answers
-pub mod Moments
-pub mod Floors
-pub mod Composed
-pub mod Tables
-pub mod Turns
-pub mod Following
-pub mod Flushes

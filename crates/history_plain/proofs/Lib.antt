@@ -1,2 +1,0 @@
-pub mod LegalFronts
-pub mod PlainTalk

@@ -1,8 +1,0 @@
-use Rattle.std.proofs.Common.{◌≡◌, take, None}
-use Rattle.std.specs.List.{find}
-use Rattle.std.specs.Str.{bytes_eq}
-use Rattle.history.specs.State.{Topic}
-use Rattle.history_plain.proofs.steps.find_topic.Given as goal
-
-abbrev pub invariant-loop-topic : goal.invariant-loop-topic
-invariant-loop-topic l = find (λ (t : Topic). bytes_eq l.name t.name) (take l.topic-index l.topics) ≡ None

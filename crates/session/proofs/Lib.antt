@@ -1,5 +1,0 @@
-pub mod Writing
-pub mod Owning
-pub mod Holding
-pub mod Talking
-pub mod Turning

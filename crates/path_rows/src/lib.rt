@@ -1,11 +1,7 @@
-//! Rows of the crates `history`, `path_image` and their plain programs: histories, texts of names, what openings find, and conversations.
+//! Rows of the crates `path_image` and `path_plain`: texts of the file of names, and what openings of a folder find.
 #![tactic(auto)]
 
 #[cfg(test)]
-mod conversations;
-#[cfg(test)]
 mod findings;
-#[cfg(test)]
-mod histories;
 #[cfg(test)]
 mod names;

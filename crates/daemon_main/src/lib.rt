@@ -7,4 +7,4 @@ mod ending;
 mod run;
 
 pub use ending::{Ending, line, status};
-pub use run::nsqd_run;
+pub use run::{close, nsqd_run};

@@ -94,7 +94,7 @@ fn print_drill<R: Wait, H: Host<Entry>>(
 }
 
 /// Tells the line of an ending, where one is, and returns its status.
-fn close<R: Wait, H: Host<Entry>>(rt: &R, host: &mut H, ending: Ending) -> u8
+pub fn close<R: Wait, H: Host<Entry>>(rt: &R, host: &mut H, ending: Ending) -> u8
     ensures status { result ≡ status_of ending }
     ensures state { OnlyTellFaults (H.state host.old) (H.state host.new) }
     ensures content { IsTrue H.tells → TellsLine (line_of ending) (H.content host.old) (H.content host.new) (H.state host.old).tell_faults (H.state host.new).tell_faults }

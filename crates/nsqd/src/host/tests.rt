@@ -3,9 +3,10 @@ ghost use Rattle.std.specs.Prelude.{IfOk};
 ghost use Rattle.nsq_base.specs.Options.{IsInRange};
 
 use super::*;
+use daemon_main::{Ending, close, line};
+use daemon_run::serve;
 use nsq_base::{Body, Options};
 use nsq_outside::{Clock as _, Folder, Kind, Read, Sink, Source, Write};
-use nsqd_core::{close, line, serve};
 use std::io::{Read as _, Write as _};
 use std::net::TcpListener;
 use std::test::Fail;
@@ -185,7 +186,7 @@ fn serve_at<R: Wait>(
     let alloc = own.alloc();
     let options = options_at(alloc, address, path)?;
     let mut host = SysHost::new(own, alloc)?;
-    let ending = serve(rt, alloc, &options, &mut host);
+    let ending = Ending::Served(serve(rt, alloc, &options, &mut host));
     Ok((close(rt, &mut host, ending), line(ending)))
 }
 

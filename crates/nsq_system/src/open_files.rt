@@ -116,6 +116,7 @@ where
         ensures same { result ≡ outcome }
         ensures closed { OnErr result (IsClosed self.new.opened.entries name.now) }
         ensures folder { self.new.folder ≡ self.old.folder }
+        ensures known { self.new.known ≡ self.old.known }
     {
         if outcome.is_err() {
             self.forget(name);
@@ -168,6 +169,7 @@ where
         ensures limit { IfOk result (λ n. n ≤ 2 ^ 62) }
         ensures closed { OnErr result (IsClosed self.new.opened.entries name.now) }
         ensures folder { self.new.folder ≡ self.old.folder }
+        ensures known { self.new.known ≡ self.old.known }
     {
         let length = self.length(name);
         self.settled(name, length)
@@ -177,6 +179,7 @@ where
     fn length(&mut self, name: &str) -> io::Result<u64>
         ensures limit { IfOk result (λ n. n ≤ 2 ^ 62) }
         ensures folder { self.new.folder ≡ self.old.folder }
+        ensures known { self.new.known ≡ self.old.known }
     {
         self.open(name, false)?;
         let length = opened_file(&mut self.opened, name)?.metadata()?.len();
@@ -192,6 +195,7 @@ where
         ensures limit { IfOk result (λ n. (n ≡ 0) ⊎ (at + n ≤ 2 ^ 62)) }
         ensures closed { OnErr result (IsClosed self.new.opened.entries name.now) }
         ensures folder { self.new.folder ≡ self.old.folder }
+        ensures known { self.new.known ≡ self.old.known }
     {
         let count = self.read(name, at, into);
         self.settled(name, count)
@@ -202,6 +206,7 @@ where
         ensures amount { IfOk result (λ n. n ≤ length into.old) }
         ensures limit { IfOk result (λ n. (n ≡ 0) ⊎ (at + n ≤ 2 ^ 62)) }
         ensures folder { self.new.folder ≡ self.old.folder }
+        ensures known { self.new.known ≡ self.old.known }
     {
         self.open(name, false)?;
         let count = read_whole(opened_file(&mut self.opened, name)?, at, into)?;
@@ -216,6 +221,7 @@ where
         ensures limit { OnOk result (at + length from.now ≤ 2 ^ 62) }
         ensures closed { OnErr result (IsClosed self.new.opened.entries name.now) }
         ensures folder { self.new.folder ≡ self.old.folder }
+        ensures others { OnlyChanges self.old.known.names self.new.known.names name.now }
     {
         let written = self.write(name, at, from);
         self.settled(name, written)
@@ -225,6 +231,7 @@ where
     fn write(&mut self, name: &str, at: u64, from: &[u8]) -> io::Result<()>
         ensures limit { OnOk result (at + length from.now ≤ 2 ^ 62) }
         ensures folder { self.new.folder ≡ self.old.folder }
+        ensures others { OnlyChanges self.old.known.names self.new.known.names name.now }
     {
         if at > LIMIT || from.len() as u64 > LIMIT - at {
             return Err(ErrorKind::FileTooLarge.into());
@@ -239,6 +246,7 @@ where
     /// Gives a file at least a number of bytes, with zeros behind those that it has. It creates an absent file.
     fn lengthen(&mut self, name: &str, to: u64) -> io::Result<()>
         ensures folder { self.new.folder ≡ self.old.folder }
+        ensures others { OnlyChanges self.old.known.names self.new.known.names name.now }
     {
         self.open(name, true)?;
         if self.length(name)? < to {
@@ -252,6 +260,7 @@ where
         ensures limit { OnOk result (to ≤ 2 ^ 62) }
         ensures closed { OnErr result (IsClosed self.new.opened.entries name.now) }
         ensures folder { self.new.folder ≡ self.old.folder }
+        ensures others { OnlyChanges self.old.known.names self.new.known.names name.now }
     {
         let cut = self.cut_or_create(name, to);
         self.settled(name, cut)
@@ -261,6 +270,7 @@ where
     fn cut_or_create(&mut self, name: &str, to: u64) -> io::Result<()>
         ensures limit { OnOk result (to ≤ 2 ^ 62) }
         ensures folder { self.new.folder ≡ self.old.folder }
+        ensures others { OnlyChanges self.old.known.names self.new.known.names name.now }
     {
         if to > LIMIT {
             return Err(ErrorKind::FileTooLarge.into());
@@ -279,6 +289,7 @@ where
     /// Gives a file a number of bytes, after it was opened.
     fn set_len(&mut self, name: &str, to: u64, creates: bool) -> io::Result<()>
         ensures folder { self.new.folder ≡ self.old.folder }
+        ensures others { OnlyChanges self.old.known.names self.new.known.names name.now }
     {
         self.open(name, creates)?;
         opened_file(&mut self.opened, name)?.set_len(to)
@@ -288,6 +299,7 @@ where
     pub fn sync(&mut self, name: &str) -> io::Result<()>
         ensures closed { OnErr result (IsClosed self.new.opened.entries name.now) }
         ensures folder { self.new.folder ≡ self.old.folder }
+        ensures known { self.new.known ≡ self.old.known }
     {
         let synced = self.sync_file(name);
         self.settled(name, synced)
@@ -296,6 +308,7 @@ where
     /// Makes the bytes of a file durable, after it was opened.
     fn sync_file(&mut self, name: &str) -> io::Result<()>
         ensures folder { self.new.folder ≡ self.old.folder }
+        ensures known { self.new.known ≡ self.old.known }
     {
         self.open(name, false)?;
         opened_file(&mut self.opened, name)?.sync_all()

@@ -33,9 +33,10 @@ text-member (k ∷ ks) name = ap (λ b. b || list_any (is_at (λ k. slice_cmp na
 -- a change of one name
 pub sets-name : (name : List ℕ) (old new : BTreeSet (String Global)) (b : Bool) → UpdatesBy string_cmp (λ k. slice_cmp nat_cmp name (string_bytes k)) old new b → SetsName old new name b
 sets-name name old new b updates =
-    let at = btree_set_updates_text name old new b updates in
-    (at name ∙ ap (λ t. cond t b (contains_text old name)) ((bytes_eq-Decides name name).1 refl),
-     λ other apart. at other ∙ ap (λ t. cond t b (contains_text old other)) (false_from_ne_true (bytes_eq name other) (λ same. apart (sym ((bytes_eq-Decides name other).0 same)))))
+    let at = btree_set_updates_text name old new b updates in (
+      at name ∙ ap (λ t. cond t b (contains_text old name)) ((bytes_eq-Decides name name).1 refl),
+      λ other apart. at other ∙ ap (λ t. cond t b (contains_text old other)) (false_from_ne_true (bytes_eq name other) (λ same. apart (sym ((bytes_eq-Decides name other).0 same)))),
+    )
 
 -- a name begins with these bytes
 abbrev pub begins : List ℕ → List ℕ → Bool
@@ -128,11 +129,12 @@ pub part-filter : (known : BTreeSet (String Global)) (b : List ℕ) (found : Lis
 part-filter known b found is name =
     let member : Contains found name ↔ (is_member bytes_eq found name ≡ true) = ((is_member-Decides bytes_eq-Decides found name).1, (is_member-Decides bytes_eq-Decides found name).0) in
     let both : is_member bytes_eq found name ≡ (begins b name && contains_text known name) =
-        ap (λ names. is_member bytes_eq names name) is ∙ any-filter_same (bytes_eq name) (begins b) (begins b name) (λ k e. ap (begins b) (sym ((bytes_eq-Decides name k).0 e))) (map string_bytes known.keys)
-        ∙ ap (λ t. begins b name && t) (sym (text-member known.keys name)) in
-    let decides = bytes_eq-Decides b (take (length b) name) in
-    (λ h. (second_so _ _ (sym both ∙ member.0 h), sym (decides.0 (first_so _ _ (sym both ∙ member.0 h)))),
-     λ h. member.1 (both ∙ both-so (begins b name) (contains_text known name) (decides.1 (sym h.1)) h.0))
+    ap (λ names. is_member bytes_eq names name) is ∙ any-filter_same (bytes_eq name) (begins b) (begins b name) (λ k e. ap (begins b) (sym ((bytes_eq-Decides name k).0 e))) (map string_bytes known.keys)
+    ∙ ap (λ t. begins b name && t) (sym (text-member known.keys name)) in
+    let decides = bytes_eq-Decides b (take (length b) name) in (
+      λ h. (second_so _ _ (sym both ∙ member.0 h), sym (decides.0 (first_so _ _ (sym both ∙ member.0 h)))),
+      λ h. member.1 (both ∙ both-so (begins b name) (contains_text known name) (decides.1 (sym h.1)) h.0),
+    )
 
 -- a name that is there is that of a key
 find-key : (ks : List (String Global)) (name : List ℕ) → is_member bytes_eq (map string_bytes ks) name ≡ true → (q : String Global) × (string_bytes q ≡ name)
@@ -149,9 +151,10 @@ pub made-names : (xs : List (String Global)) (made : BTreeSet (String Global)) �
 made-names xs made is name =
     let decides = is_member-Decides bytes_eq-Decides (map string_bytes xs) name in
     let at : (q : String Global) → string_bytes q ≡ name → contains_text made name ≡ is_member bytes_eq (map string_bytes xs) name =
-        λ q e. subst (λ bytes. contains_text made bytes ≡ is_member bytes_eq (map string_bytes xs) bytes) e (is.0 q ∙ text-member xs (string_bytes q)) in
-    (λ h. let found = find-key made.keys name (sym (text-member made.keys name) ∙ h) in decides.0 (sym (at found.0 found.1) ∙ h),
-     λ h. let found = find-key xs name (decides.1 h) in at found.0 found.1 ∙ decides.1 h)
+    λ q e. subst (λ bytes. contains_text made bytes ≡ is_member bytes_eq (map string_bytes xs) bytes) e (is.0 q ∙ text-member xs (string_bytes q)) in (
+      λ h. let found = find-key made.keys name (sym (text-member made.keys name) ∙ h) in decides.0 (sym (at found.0 found.1) ∙ h),
+      λ h. let found = find-key xs name (decides.1 h) in at found.0 found.1 ∙ decides.1 h,
+    )
 
 -- what one name's change leaves
 pub only-changes : (old new : BTreeSet (String Global)) (name : List ℕ) (here : Bool) → SetsName old new name here → OnlyChanges (Some old) (Some new) name

@@ -52,7 +52,9 @@ impl KnownNames {
         ensures here { IsSome self.new.names → Knows self.new.names name.now }
         ensures others { OnlyChanges self.old.names self.new.names name.now }
     {
-        if let Some(names) = &mut self.names && add_to(self.alloc, names, name).is_err() {
+        if let Some(names) = &mut self.names
+            && add_to(self.alloc, names, name).is_err()
+        {
             self.names = None;
         }
     }
@@ -106,11 +108,7 @@ impl KnownNames {
     }
 
     /// The names that are known and begin so, in order; none where the names aren't known.
-    pub fn beginning_with(
-        &self,
-        alloc: Global,
-        beginning: &str,
-    ) -> Result<Vec<String>, AllocError>
+    pub fn beginning_with(&self, alloc: Global, beginning: &str) -> Result<Vec<String>, AllocError>
         ensures { IfOk result (λ found. ArePart self.now.names beginning.now (map string_bytes found.items)) }
     {
         match &self.names {

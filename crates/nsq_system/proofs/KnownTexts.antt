@@ -1,14 +1,14 @@
 -- What a set of names has after a change of one name, and which of its names begin so.
-use Rattle.std.proofs.Common.{◌≡◌, ◌≢◌, ℕ, ◌<◌, Bool, List, [], ◌∷◌, length, map, take, ◌++◌, append-nil, append_assoc, refl, sym, ◌∙◌, ap, subst, arith, true, false, Some, String, string_bytes, Contains, cond, ◌||◌, ◌&&◌, ◌↔◌, IsTrue, nat_eq}
+use Rattle.std.proofs.Common.{◌≡◌, ℕ, ◌<◌, Bool, List, [], ◌∷◌, length, map, take, ◌++◌, append-nil, append_assoc, refl, sym, ◌∙◌, ap, subst, arith, true, false, Some, String, string_bytes, Contains, cond, ◌||◌, ◌&&◌, ◌↔◌, IsTrue, nat_eq}
 use mathlib.Core.Bool.{true≢false}
 use Rattle.std.specs.declared.alloc.Global.{Global}
 use Rattle.std.specs.BTreeMap.{is_at}
-use Rattle.std.specs.BTreeSet.{BTreeSet, contains_text, IsFromIterResult, UpdatesBy, IsOrdered}
+use Rattle.std.specs.BTreeSet.{BTreeSet, contains_text, IsFromIterResult, UpdatesBy}
 use Rattle.std.specs.Cmp.{first_so, second_so}
 use Rattle.std.specs.Cmp.Lexicographic.{slice_cmp, pointwise}
 use Rattle.std.specs.List.{AllByRecursion, filter, list_any}
 use Rattle.std.specs.List.Sorted.{IsStrictlySortedBy}
-use Rattle.std.specs.Ordering.{is_eq, is_gt, is_le, nat_cmp, ordering_then, MatchOrdering}
+use Rattle.std.specs.Ordering.{is_gt, is_le, nat_cmp, ordering_then}
 use Rattle.std.specs.declared.cmp.Ordering.{Ordering}
 use Rattle.std.specs.declared.cmp.Ordering.TheVariants.{Less, Equal, Greater}
 use Rattle.std.specs.Set.{is_member}

@@ -22,8 +22,9 @@ use std::rt::Files;
 /// The folder is the process's own while it is open, and nobody else changes it: nsqd holds a lock on its data path. So `list`
 /// reads the folder where the beginning is empty, or where the names aren't known yet, or no longer: after an error of a call
 /// that makes, renames or removes a file, which may be done or undone, and after want of memory. By any other beginning it
-/// looks the names up among those that it read, in step with the calls since. What others add or take away, it shows
-/// after the next `list` with an empty beginning.
+/// looks the names up among those that it read, in step with the calls since, and asks the system nothing. What others add
+/// or take away it shows after the next `list` with an empty beginning; and so long a name that was written or renamed here
+/// counts as a regular file's. The names stay in memory.
 ///
 /// A contract sees the count of its faults.
 #[derive(Drop)]

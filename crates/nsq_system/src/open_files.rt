@@ -76,11 +76,12 @@ where
         set_path(&mut self.path, self.folder.as_str(), name)?;
         let mut how = OpenOptions::new();
         how.read(true).write(true).create(creates);
-        let file = self.rt.open_file(&how, self.path.as_str());
+        let opened = self.rt.open_file(&how, self.path.as_str());
         if creates {
-            self.known.note_made(name, &file);
+            self.known.note_made(name, &opened);
         }
-        self.opened.put(String::from_str(self.alloc, name)?, file?)?;
+        let file = opened?;
+        self.opened.put(String::from_str(self.alloc, name)?, file)?;
         Ok(())
     }
 

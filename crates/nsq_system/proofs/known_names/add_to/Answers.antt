@@ -1,4 +1,4 @@
-use Rattle.std.proofs.Common.{◌≡◌, true, string_bytes, subst}
+use Rattle.std.proofs.Common.{true, string_bytes, subst}
 use Rattle.nsq_system.specs.KnownNames.{SetsName}
 use Rattle.nsq_system.proofs.KnownTexts.{sets-name}
 use Rattle.nsq_system.proofs.known_names.add_to.Goals as goal

@@ -1,8 +1,7 @@
 use Rattle.std.proofs.Common.{rules, ◌≡◌, Bool, true, ◌&&◌, map, string_bytes, refl, ◌∙◌, ap}
 use Rattle.std.specs.Cmp.Lexicographic.{slice_cmp}
-use Rattle.std.specs.List.{filter}
 use Rattle.std.specs.Ordering.{is_le, nat_cmp}
-use Rattle.nsq_system.proofs.KnownTexts.{begins, front, front-range, part-filter, walk-step, walk-stop, walk-end}
+use Rattle.nsq_system.proofs.KnownTexts.{front-range, part-filter, walk-step, walk-stop, walk-end}
 use Rattle.nsq_system.proofs.known_names.part_of.Goals as goal
 use Rattle.nsq_system.proofs.known_names.part_of.Goals.{in-None, in-Some+then-not-starts_with}
 

@@ -1,4 +1,4 @@
-use Rattle.std.proofs.Common.{false, string_bytes}
+use Rattle.std.proofs.Common.{false}
 use Rattle.nsq_system.proofs.KnownTexts.{sets-name, only-changes}
 use Rattle.nsq_system.proofs.known_names.KnownNames.remove.Goals as goal
 

@@ -1,14 +1,14 @@
 -- What a set of names has after a change of one name, and which of its names begin so.
-use Rattle.std.proofs.Common.{◌≡◌, ℕ, ◌<◌, Bool, List, [], ◌∷◌, length, map, take, ◌++◌, append-nil, append_assoc, refl, sym, ◌∙◌, ap, subst, arith, true, false, Some, String, string_bytes, Contains, cond, ◌||◌, ◌&&◌, ◌↔◌, IsTrue, nat_eq}
+use Rattle.std.proofs.Common.{◌≡◌, ◌≢◌, ℕ, ◌<◌, Bool, get_or, List, [], ◌∷◌, length, map, take, ◌++◌, append-nil, append_assoc, refl, sym, ◌∙◌, ap, subst, arith, true, false, Some, String, string_bytes, Contains, cond, ◌||◌, ◌&&◌, ◌↔◌, IsTrue, nat_eq}
 use mathlib.Core.Bool.{true≢false}
 use Rattle.std.specs.declared.alloc.Global.{Global}
 use Rattle.std.specs.BTreeMap.{is_at}
-use Rattle.std.specs.BTreeSet.{BTreeSet, contains_text, IsFromIterResult, UpdatesBy}
+use Rattle.std.specs.BTreeSet.{BTreeSet, contains_text, IsFromIterResult, IsOrdered, UpdatesBy}
 use Rattle.std.specs.Cmp.{first_so, second_so}
 use Rattle.std.specs.Cmp.Lexicographic.{slice_cmp, pointwise}
-use Rattle.std.specs.List.{AllByRecursion, filter, list_any}
+use Rattle.std.specs.List.{AllByRecursion, AllPairs, filter, list_any}
 use Rattle.std.specs.List.Sorted.{IsStrictlySortedBy}
-use Rattle.std.specs.Ordering.{is_gt, is_le, nat_cmp, ordering_then}
+use Rattle.std.specs.Ordering.{is_eq, is_gt, is_le, nat_cmp, ordering_then}
 use Rattle.std.specs.declared.cmp.Ordering.{Ordering}
 use Rattle.std.specs.declared.cmp.Ordering.TheVariants.{Less, Equal, Greater}
 use Rattle.std.specs.Set.{is_member}
@@ -17,8 +17,9 @@ use Rattle.std.specs.String.{string_cmp}
 use Rattle.std.proofs.lemmas.Bool.{false_from_ne_true}
 use Rattle.std.proofs.lemmas.Bool.Decides.{Decides-eqb}
 use Rattle.std.proofs.lemmas.Cmp.{ranked}
-use Rattle.std.proofs.lemmas.List.{map-append}
-use Rattle.std.proofs.lemmas.Map.Keys.{sorted_head, sorted_tail}
+use Rattle.std.proofs.lemmas.List.{get_or-map, length-map, map-append}
+use Rattle.std.proofs.lemmas.List.Kept.{AllPairs-filter}
+use Rattle.std.proofs.lemmas.Map.Keys.{Less-from_sorted, sorted_head, sorted_tail}
 use Rattle.std.proofs.lemmas.Map.Made.{is_member-Decides}
 use Rattle.std.proofs.lemmas.Map.Text.{is_eq-slice_cmp, btree_set_updates_text}
 use Rattle.std.proofs.lemmas.Map.Views.{any-filter_same}
@@ -135,6 +136,23 @@ part-filter known b found is name =
       λ h. (second_so _ _ (sym both ∙ member.0 h), sym (decides.0 (first_so _ _ (sym both ∙ member.0 h)))),
       λ h. member.1 (both ∙ both-so (begins b name) (contains_text known name) (decides.1 (sym h.1)) h.0),
     )
+
+-- ordered keys are each another text
+texts-apart : (ks : List (String Global)) → IsStrictlySortedBy string_cmp ks → AllPairs (λ a b. a ≢ b) (map string_bytes ks)
+texts-apart [] o i j d before inside same = absurd (omega arith)
+texts-apart (k ∷ ks) o i j d before inside same =
+    let size : length (map string_bytes (k ∷ ks)) ≡ length (k ∷ ks) = length-map (k ∷ ks) string_bytes in
+    let inner : j < length (k ∷ ks) = omega (arith, size) in
+    let less : string_cmp (get_or (k ∷ ks) i k) (get_or (k ∷ ks) j k) ≡ Less = Less-from_sorted string_cmp (k ∷ ks) i j k o before inner in
+    let left : get_or (map string_bytes (k ∷ ks)) i d ≡ string_bytes (get_or (k ∷ ks) i k) = get_or-map string_bytes (k ∷ ks) i k d (omega arith) in
+    let right : get_or (map string_bytes (k ∷ ks)) j d ≡ string_bytes (get_or (k ∷ ks) j k) = get_or-map string_bytes (k ∷ ks) j k d inner in
+    let equal : bytes_eq (string_bytes (get_or (k ∷ ks) i k)) (string_bytes (get_or (k ∷ ks) j k)) ≡ true = (bytes_eq-Decides _ _).1 (sym left ∙ same ∙ right) in
+    let unequal : is_eq (string_cmp (get_or (k ∷ ks) i k) (get_or (k ∷ ks) j k)) ≡ false = ap is_eq less in
+    true≢false (sym equal ∙ sym (is_eq-slice_cmp (string_bytes (get_or (k ∷ ks) i k)) (string_bytes (get_or (k ∷ ks) j k))) ∙ unequal)
+
+-- and so are those that begin so
+pub once-filter : (known : BTreeSet (String Global)) (b : List ℕ) (found : List (List ℕ)) → IsOrdered string_cmp known → found ≡ filter (begins b) (map string_bytes known.keys) → AllPairs (λ a b. a ≢ b) found
+once-filter known b found ordered is = subst (λ names. AllPairs (λ a b. a ≢ b) names) (sym is) (AllPairs-filter (λ a b. a ≢ b) (begins b) (map string_bytes known.keys) (texts-apart known.keys ordered))
 
 -- a name that is there is that of a key
 find-key : (ks : List (String Global)) (name : List ℕ) → is_member bytes_eq (map string_bytes ks) name ≡ true → (q : String Global) × (string_bytes q ≡ name)

@@ -1,4 +1,4 @@
-ghost use Rattle.std.specs.Prelude.{◌≡◌, ◌≢◌, [], None, Some, true, OnOk, OnErr, IfOk, IsSome, is_some, map, string_bytes};
+ghost use Rattle.std.specs.Prelude.{◌≡◌, ◌≢◌, [], None, Some, true, OnOk, OnErr, IfOk, IsSome, AllPairs, is_some, map, string_bytes};
 ghost use Rattle.std.specs.BTreeSet.{IsFromIterResult};
 ghost use Rattle.std.specs.String.{string_cmp};
 ghost use Rattle.nsq_system.specs.KnownNames.{Knows, OnlyChanges, OnlyMoves, AreKnown, ArePart, SetsName};
@@ -109,7 +109,8 @@ impl KnownNames {
 
     /// The names that are known and begin so, in order; none where the names aren't known.
     pub fn beginning_with(&self, alloc: Global, beginning: &str) -> Result<Vec<String>, AllocError>
-        ensures { IfOk result (λ found. ArePart self.now.names beginning.now (map string_bytes found.items)) }
+        ensures part { IfOk result (λ found. ArePart self.now.names beginning.now (map string_bytes found.items)) }
+        ensures once { IfOk result (λ found. AllPairs (λ a b. a ≢ b) (map string_bytes found.items)) }
     {
         match &self.names {
             Some(names) => part_of(alloc, names, beginning),
@@ -141,7 +142,8 @@ fn part_of(
     names: &BTreeSet<String>,
     beginning: &str,
 ) -> Result<Vec<String>, AllocError>
-    ensures { IfOk result (λ found. ArePart (Some names.now) beginning.now (map string_bytes found.items)) }
+    ensures part { IfOk result (λ found. ArePart (Some names.now) beginning.now (map string_bytes found.items)) }
+    ensures once { IfOk result (λ found. AllPairs (λ a b. a ≢ b) (map string_bytes found.items)) }
 {
     let from = String::from_str(alloc, beginning)?;
     let mut found = Vec::new(alloc);

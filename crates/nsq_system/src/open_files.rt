@@ -1,4 +1,4 @@
-ghost use Rattle.std.specs.Prelude.{◌≡◌, ◌≢◌, ◌+◌, ◌^◌, ◌≤◌, ◌⊎◌, ◌++◌, ◌∷◌, [], List, ℕ, length, Contains, IfOk, OnOk, OnErr, IsSome, IsTrue, None, false, map, string_bytes};
+ghost use Rattle.std.specs.Prelude.{◌≡◌, ◌≢◌, ◌+◌, ◌^◌, ◌≤◌, ◌⊎◌, ◌++◌, ◌∷◌, [], List, ℕ, length, Contains, IfOk, OnOk, OnErr, IsSome, IsTrue, AllPairs, None, false, map, string_bytes};
 ghost use Rattle.nsq_system.specs.OpenFiles.{IsClosed};
 ghost use Rattle.nsq_system.specs.KnownNames.{Knows, OnlyChanges, OnlyMoves, ArePart};
 
@@ -129,6 +129,7 @@ where
     /// names aren't known.
     pub fn names(&mut self, alloc: Global, beginning: &str) -> io::Result<Vec<String>>
         ensures part { IfOk result (λ names. ArePart self.new.known.names beginning.now (map string_bytes names.items)) }
+        ensures once { IfOk result (λ names. AllPairs (λ a b. a ≢ b) (map string_bytes names.items)) }
         ensures known { OnOk result (IsSome self.new.known.names) }
         ensures folder { self.new.folder ≡ self.old.folder }
     {

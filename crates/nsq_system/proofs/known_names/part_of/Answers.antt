@@ -1,7 +1,7 @@
 use Rattle.std.proofs.Common.{rules, ◌≡◌, Bool, true, ◌&&◌, map, string_bytes, refl, ◌∙◌, ap}
 use Rattle.std.specs.Cmp.Lexicographic.{slice_cmp}
 use Rattle.std.specs.Ordering.{is_le, nat_cmp}
-use Rattle.nsq_system.proofs.KnownTexts.{front-range, part-filter, walk-step, walk-stop, walk-end}
+use Rattle.nsq_system.proofs.KnownTexts.{front-range, part-filter, once-filter, walk-step, walk-stop, walk-end}
 use Rattle.nsq_system.proofs.known_names.part_of.Goals as goal
 use Rattle.nsq_system.proofs.known_names.part_of.Goals.{in-None, in-Some+then-not-starts_with}
 
@@ -17,8 +17,14 @@ loop-name-init c =
 pub loop-name-preserved : goal.loop-name-preserved
 loop-name-preserved c = walk-step c.args.beginning.now c.loop-name.found.items _ c.loop-name.name-iterator c.next.new.self c.in-Some.name.now c.in_ok-clone.field-0 _ c.loop-name.invariant c.in-Some.ensures.steps (search rules) (search rules) c.in_ok-push.ensures.items
 
-pub returns : goal.returns
-returns c = part-filter c.args.names.now c.args.beginning.now (map string_bytes c.loop-name.found.items) (elim c.match-next.branch [
+pub returns-clause-part : goal.returns-clause-part
+returns-clause-part c = part-filter c.args.names.now c.args.beginning.now (map string_bytes c.loop-name.found.items) (elim c.match-next.branch [
+  | in-None w ↦ walk-end c.args.beginning.now c.loop-name.found.items c.loop-name.name-iterator _ c.loop-name.invariant w.in-None.ensures.steps.0
+  | in-Some+then-not-starts_with w ↦ walk-stop c.args.beginning.now c.loop-name.found.items c.loop-name.name-iterator c.next.new.self w.in-Some.name.now _ c.loop-name.invariant w.in-Some.ensures.steps (search rules)
+])
+
+pub returns-clause-once : goal.returns-clause-once
+returns-clause-once c = once-filter c.args.names.now c.args.beginning.now (map string_bytes c.loop-name.found.items) c.range-name-items.ensures.ordered (elim c.match-next.branch [
   | in-None w ↦ walk-end c.args.beginning.now c.loop-name.found.items c.loop-name.name-iterator _ c.loop-name.invariant w.in-None.ensures.steps.0
   | in-Some+then-not-starts_with w ↦ walk-stop c.args.beginning.now c.loop-name.found.items c.loop-name.name-iterator c.next.new.self w.in-Some.name.now _ c.loop-name.invariant w.in-Some.ensures.steps (search rules)
 ])

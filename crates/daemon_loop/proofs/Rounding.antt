@@ -1,17 +1,18 @@
 -- Rounds of the loop over the callers, one step at a time.
-use Rattle.std.proofs.Common.{ℕ, ◌≡◌, ◌≢◌, ◌≤◌, ◌<◌, ◌+◌, ◌++◌, ◌∷◌, [], List, Bool, true, false, refl, sym, ◌∙◌, ap, subst, arith, append_assoc}
+use Rattle.std.proofs.Common.{inl, inr, ℕ, ◌≡◌, ◌≢◌, ◌≤◌, ◌<◌, ◌+◌, ◌++◌, ◌∷◌, [], List, Bool, true, false, refl, sym, ◌∙◌, ap, subst, arith, append_assoc}
 use Rattle.std.specs.Prelude.{IsTrue}
 use Rattle.std.specs.List.{AllByRecursion}
 use Rattle.std.proofs.lemmas.Bool.{false≢true}
+use Rattle.nsq_outside.specs.Causes.{Rose}
 use Rattle.nsq_outside.specs.Hosts.{HostContent, Accepts}
 use Rattle.nsq_outside.specs.declared.host.Kind.{Kind}
 use Rattle.nsq_outside.specs.declared.host.Accept.TheVariants.{Caller}
 use Rattle.nsq_outside.specs.declared.journal.End.{End}
 use Rattle.v2_frame.specs.declared.fault.Limits.{Limits}
 use Rattle.broker_history.specs.declared.entry.Entry.{Entry}
-use Rattle.broker_history.specs.Entries.{History, has_stop, is_stop, is_tick, own, stops_of}
+use Rattle.broker_history.specs.Entries.{History, has_stop, is_common, is_stop, is_tick, own, stops_of}
 use Rattle.broker_history.proofs.Own.{own-append}
-use Rattle.desk.specs.Calls.{MayCall}
+use Rattle.desk.specs.Answers.{Adds, Answers, StopsSeen}
 use Rattle.desk.specs.declared.call.Call.TheVariants as call
 use Rattle.desk.specs.declared.turned.Turned.{Turned}
 use Rattle.desk.specs.declared.turned.Turned.TheVariants as turned
@@ -21,14 +22,19 @@ use Rattle.turn_laws.proofs.Laying.{turns_of}
 use Rattle.floor_turns.specs.Scenes.{Scene}
 use Rattle.floor_turns.specs.Leads.{AddsTurns, Leads}
 use Rattle.floor_turns.specs.Turns.{IsTurn}
+use Rattle.floor_turns.proofs.Leading.{turn_leads}
 use Rattle.daemon_loop.specs.Going.{Went}
-use Rattle.daemon_loop.specs.Rounds.{IsTicked, Rounds, Ticks}
+use Rattle.daemon_loop.specs.Rounds.{IsTicked, Rounds, Ticks, ticked_of}
 use Rattle.daemon_loop.specs.Served.{HasServed, IsServed, OnlyCallersChange, UpTo, Views, ticks_of}
 use Rattle.daemon_loop.specs.declared.ticking.Ticked.{Ticked}
+use Rattle.daemon_loop.specs.declared.ticking.Ticked.TheVariants as ticked
 use Rattle.daemon_loop.proofs.Going.{went_by, went_nowhere, went_then}
 use Rattle.daemon_loop.proofs.Others.{none_of, nothing_yet, one_tick, own_same, stops-append, stops_own, ticks-append, up_to_more}
 use Rattle.daemon_loop.proofs.Handing.{at_first, caller_changes, daemon_served, next_served, still_served}
 use Rattle.daemon_loop.proofs.Halting.{served_no_stop}
+
+pub rose_wider : (a0 a a' a2 : ℕ) → a0 ≤ a → a' ≤ a2 → Rose a a' → Rose a0 a2
+rose_wider a0 a a' a2 l m r = omega (arith, l, m, r)
 
 -- a tick that was answered Quiet was noted
 ticked_acts : (at : ℕ) (acts : History) → AreActsFor at 0 call.Tick turned.Quiet acts → ticks_of acts ≡ 1
@@ -44,8 +50,31 @@ ticked_laid at h h' added whole laid =
     let both : ticks_of h' ≡ ticks_of h + ticks_of added = ap ticks_of whole ∙ ticks-append h added in
     omega (arith, act, parts, both)
 
-pub tick_noted : (tells_notes tells_files tells_readings : Bool) (old new : Scene) → IsTrue tells_notes → IsTurn tells_notes tells_files tells_readings 0 call.Tick turned.Quiet old new → ticks_of old.notes + 1 ≤ ticks_of new.notes
+tick_noted : (tells_notes tells_files tells_readings : Bool) (old new : Scene) → IsTrue tells_notes → IsTurn tells_notes tells_files tells_readings 0 call.Tick turned.Quiet old new → ticks_of old.notes + 1 ≤ ticks_of new.notes
 tick_noted tells_notes tells_files tells_readings old new told turn = let t = turn.takes in ticked_laid new.hall.moment old.notes new.notes t.added (t.noted told) t.laid
+
+-- a tick brings no entry of the daemon's own
+tick_adds : (own own' : History) (t : Turned) → Adds 0 own own' call.Tick t → own' ≡ own
+tick_adds own own' t (inl a) = a.0
+tick_adds own own' t (inr j) = go t j.answers j.apart
+  where
+    go : (t : Turned) → Answers call.Tick j.entry t → is_common j.entry.0.act ≡ false → own' ≡ own
+    go turned.Quiet a apart = absurd (false≢true (sym apart ∙ ap is_common a))
+    go t a apart = absurd a
+
+tick_seen : (tells_notes tells_files tells_readings : Bool) (old new : Scene) (t : Turned) → IsTrue tells_notes → IsTurn tells_notes tells_files tells_readings 0 call.Tick t old new → StopsSeen new.notes t → IsTicked (ticked_of t) old new
+tick_seen tells_notes tells_files tells_readings old new turned.Quiet told turn seen = tick_noted tells_notes tells_files tells_readings old new told turn
+tick_seen tells_notes tells_files tells_readings old new turned.Stopping told turn seen = seen
+tick_seen tells_notes tells_files tells_readings old new t told turn seen = tt
+
+-- a turn of the daemon that ticks
+pub ticks_so : (tells_notes tells_files tells_readings : Bool) (old new : Scene) (t : Turned) (answer : Ticked) → answer ≡ ticked_of t → IsTurn tells_notes tells_files tells_readings 0 call.Tick t old new
+    → (IsTrue tells_notes → Adds 0 (own 0 old.notes) (own 0 new.notes) call.Tick t) → (IsTrue tells_notes → StopsSeen new.notes t) → Ticks tells_notes tells_files tells_readings old new answer
+ticks_so tells_notes tells_files tells_readings old new t answer is turn adds seen = record {
+  leads = turn_leads tells_notes tells_files tells_readings 0 call.Tick t old new (λ told. tt) turn;
+  nothing = λ told. tick_adds (own 0 old.notes) (own 0 new.notes) t (adds told);
+  noted = λ told. subst (λ a. IsTicked a old new) (sym is) (tick_seen tells_notes tells_files tells_readings old new t told turn (seen told));
+}
 
 -- a history that grew has no fewer ticks
 ticks_grow : (h h' added : History) → h' ≡ h ++ added → ticks_of h ≤ ticks_of h'
@@ -132,14 +161,52 @@ module _ {K : Type 0} (Told : Type 0) (tells_host tells_notes tells_files tells_
     rest = λ told. caller_changes left x y gave z kind fresh _ (r.rest told) (accepts told) (returned told);
   }
 
+  -- a whole round: a tick, and behind the accept a saving; then somebody was served
+  pub rounds_served : (left : K → List ℕ) (n : ℕ) (a b t s c : Scene) (x y gave z : HostContent K) (kind : Kind) (fresh conn : K) → RoundsTo n a b x y → Ticks tells_notes tells_files tells_readings b t ticked.Quiet → Went tells_notes tells_files tells_readings t s
+      → s.notes ≡ t.notes → Leads tells_notes tells_files tells_readings (n + 1) s c → (IsTrue tells_host → Accepts left y gave (Caller kind fresh)) → (IsTrue tells_host → z ≡ record gave { back = gave.back ++ (n + 1, conn) ∷ [] })
+      → (Told → IsServed seen limits c.notes (n + 1) kind (left fresh) conn) → RoundsTo (n + 1) a c x z
+  rounds_served left n a b t s c x y gave z kind fresh conn r ticks went same leads accepts returned served =
+      rounds_caller left n a s c x y gave z kind fresh conn (rounds_save n a t s x y (rounds_tick n a b t x y ticked.Quiet r ticks) went same)
+      (λ told. let before = r.ticks told in let more = ticks.noted told in let size : ticks_of s.notes ≡ ticks_of t.notes = ap ticks_of same in omega (arith, before, more, size)) leads accepts returned served
+
+  -- and its number had no entry yet
+  pub rounds_new : (n : ℕ) (a b t s : Scene) (x y : HostContent K) → RoundsTo n a b x y → Ticks tells_notes tells_files tells_readings b t ticked.Quiet → Went tells_notes tells_files tells_readings t s → s.notes ≡ t.notes → IsTrue tells_notes → own (n + 1) s.notes ≡ []
+  rounds_new n a b t s x y r ticks went same told =
+      let now = rounds_save n a t s x y (rounds_tick n a b t x y ticked.Quiet r ticks) went same in nothing_yet n (n + 1) s.notes (now.up_to told) (omega arith)
+
+  -- nobody came in a round
+  pub rounds_waited : (n : ℕ) (a b t s : Scene) (x y z : HostContent K) → RoundsTo n a b x y → Ticks tells_notes tells_files tells_readings b t ticked.Quiet → Went tells_notes tells_files tells_readings t s → s.notes ≡ t.notes → (IsTrue tells_host → z ≡ y) → RoundsTo n a s x z
+  rounds_waited n a b t s x y z r ticks went same content =
+      rounds_nobody n a s x y z (rounds_save n a t s x y (rounds_tick n a b t x y ticked.Quiet r ticks) went same)
+      (λ told. (ap (λ (c : HostContent K). c.coming) (content told), ap (λ (c : HostContent K). c.given) (content told), ap (λ (c : HostContent K). c.back) (content told)))
+      (λ told. record { starts = ap (λ (c : HostContent K). c.starts) (content told); printed = ap (λ (c : HostContent K). c.printed) (content told); lines = ap (λ (c : HostContent K). c.lines) (content told) })
+
+  -- the listeners failed
+  pub rounds_failed : (n : ℕ) (a b t : Scene) (x y z : HostContent K) → RoundsTo n a b x y → Ticks tells_notes tells_files tells_readings b t ticked.Quiet → (IsTrue tells_host → z ≡ y) → RoundsTo n a t x z
+  rounds_failed n a b t x y z r ticks content =
+      rounds_nobody n a t x y z (rounds_tick n a b t x y ticked.Quiet r ticks)
+      (λ told. (ap (λ (c : HostContent K). c.coming) (content told), ap (λ (c : HostContent K). c.given) (content told), ap (λ (c : HostContent K). c.back) (content told)))
+      (λ told. record { starts = ap (λ (c : HostContent K). c.starts) (content told); printed = ap (λ (c : HostContent K). c.printed) (content told); lines = ap (λ (c : HostContent K). c.lines) (content told) })
+
+  -- nobody will call any more
+  pub rounds_halted : (n : ℕ) (a b t : Scene) (x y z : HostContent K) → RoundsTo n a b x y → Ticks tells_notes tells_files tells_readings b t ticked.Quiet → (IsTrue tells_host → z ≡ record y { halted = true }) → RoundsTo n a t x z
+  rounds_halted n a b t x y z r ticks content =
+      rounds_nobody n a t x y z (rounds_tick n a b t x y ticked.Quiet r ticks)
+      (λ told. (ap (λ (c : HostContent K). c.coming) (content told), ap (λ (c : HostContent K). c.given) (content told), ap (λ (c : HostContent K). c.back) (content told)))
+      (λ told. record { starts = ap (λ (c : HostContent K). c.starts) (content told); printed = ap (λ (c : HostContent K). c.printed) (content told); lines = ap (λ (c : HostContent K). c.lines) (content told) })
+
+one_stop : (e : Entry × End) (h : History) (b : Bool) → is_stop e.0.act ≡ b → (b ≡ true → 0 < stops_of (e ∷ h)) × (b ≡ false → stops_of (e ∷ h) ≡ stops_of h)
+one_stop e h true is = (λ _. let both = stops-append (e ∷ []) h in let one : stops_of (e ∷ []) ≡ 1 = rw is refl in omega (arith, both, one), λ f. absurd (false≢true (sym f)))
+one_stop e h false is = (λ t. absurd (false≢true t), λ _. rw is refl)
+
+stops_by : (e : Entry × End) (h : History) (b : Bool) → is_stop e.0.act ≡ b → has_stop (e ∷ h) ≡ true → (has_stop h ≡ true → 0 < stops_of h) → 0 < stops_of (e ∷ h)
+stops_by e h true here is rest = (one_stop e h true here).0 refl
+stops_by e h false here is rest = let more : has_stop h ≡ true = rw here at is in let some = rest more in let same = (one_stop e h false here).1 refl in omega (arith, some, same)
+
+has_stops : (h : History) → has_stop h ≡ true → 0 < stops_of h
+has_stops [] is = absurd (false≢true is)
+has_stops (e ∷ h) is = stops_by e h (is_stop e.0.act) refl is (has_stops h)
+
 -- a Stop doesn't stand in a history without one
 pub no_stop_stands : (h : History) → has_stop h ≡ true → stops_of h ≡ 0 → ⊥
-no_stop_stands h stands none = absurd (omega (arith, has_stops h stands, none))
-  where
-    has_stops : (h : History) → has_stop h ≡ true → 0 < stops_of h
-    has_stops [] is = absurd (false≢true is)
-    has_stops (e ∷ h) is = go (is_stop e.0.act) refl
-      where
-        go : (b : Bool) → is_stop e.0.act ≡ b → 0 < stops_of (e ∷ h)
-        go true holds_so = let both = stops-append (e ∷ []) h in let one : stops_of (e ∷ []) ≡ 1 = rw holds_so refl in omega (arith, both, one)
-        go false fails_so = let both = stops-append (e ∷ []) h in let more = has_stops h (rw fails_so is) in omega (arith, both, more)
+no_stop_stands h stands none = let some = has_stops h stands in absurd (omega (arith, some, none))

@@ -4,6 +4,8 @@ use Rattle.nsq_outside.specs.Causes.{Rose}
 use Rattle.nsq_outside.specs.Hosts.{HostContent}
 use Rattle.v2_frame.specs.declared.fault.Limits.{Limits}
 use Rattle.broker_history.specs.Entries.{has_stop, own, stops_of}
+use Rattle.desk.specs.declared.turned.Turned.{Turned}
+use Rattle.desk.specs.declared.turned.Turned.TheVariants as turned
 use Rattle.floor_turns.specs.Scenes.{Scene}
 use Rattle.floor_turns.specs.Leads.{Leads}
 use Rattle.daemon_loop.specs.Going.{Went}
@@ -12,6 +14,12 @@ use Rattle.daemon_loop.specs.declared.callers.LoopEnd.{LoopEnd}
 use Rattle.daemon_loop.specs.declared.callers.LoopEnd.TheVariants as loop
 use Rattle.daemon_loop.specs.declared.ticking.Ticked.{Ticked}
 use Rattle.daemon_loop.specs.declared.ticking.Ticked.TheVariants as ticked
+
+-- how a tick was answered
+abbrev pub ticked_of : Turned → Ticked
+ticked_of turned.Quiet = ticked.Quiet
+ticked_of turned.Stopping = ticked.Stopping
+ticked_of answer = ticked.Memory
 
 -- the tick was noted; or a Stop stands in the history; or memory was wanting
 abbrev pub IsTicked : Ticked → (old new : Scene) → Type 0

@@ -1,6 +1,6 @@
 ghost use Rattle.std.specs.Prelude.{◌≡◌, false};
 ghost use Rattle.floor_turns.specs.Scenes.{scene};
-ghost use Rattle.daemon_loop.specs.Rounds.{Ticks};
+ghost use Rattle.daemon_loop.specs.Rounds.{Ticks, ticked_of};
 
 use broker_floor::Floor;
 use broker_history::Entry;
@@ -31,9 +31,19 @@ pub(crate) fn tick<F: Folder, C: Clock, J: Journal<Entry>>(
         (scene floor.old.held.hall (J.notes floor.old.journal) (F.files floor.old.folder) (F.folder_faults floor.old.folder) (C.coming floor.old.clock))
         (scene floor.new.held.hall (J.notes floor.new.journal) (F.files floor.new.folder) (F.folder_faults floor.new.folder) (C.coming floor.new.clock)) result }
 {
-    match floor.turn(alloc, 0, Call::Tick) {
-        Turned::Quiet => Ticked::Quiet,
-        Turned::Stopping => Ticked::Stopping,
-        _ => Ticked::Memory,
+    let turned = floor.turn(alloc, 0, Call::Tick);
+    answer_of(&turned)
+}
+
+/// How a tick was answered.
+fn answer_of(turned: &Turned) -> Ticked
+    ensures { result ≡ ticked_of turned.now }
+{
+    if matches!(turned, Turned::Quiet) {
+        return Ticked::Quiet;
     }
+    if matches!(turned, Turned::Stopping) {
+        return Ticked::Stopping;
+    }
+    Ticked::Memory
 }

@@ -2,7 +2,7 @@ ghost use Rattle.std.specs.Prelude.{◌≡◌, ◌≤◌, All, IfErr, IsTrue, No
 ghost use Rattle.nsq_base.specs.Name.{is_ephemeral};
 ghost use Rattle.queue_opening.specs.Refusals.{OpenFails};
 ghost use Rattle.floor_rooms.specs.Rooms.{room_in};
-ghost use Rattle.floor_opening.specs.Opened.{AreApart, BadStays, ListsStay, NoneIsBad, OnlyTheirFiles, OnlyTopicFiles, OpensRoom, OpensTo, RefusesTopic};
+ghost use Rattle.floor_opening.specs.Opened.{AreApart, BadStays, FindsBack, FindsThem, ListsStay, NoneIsBad, OnlyTheirFiles, OnlyTopicFiles, OpensRoom, OpensTo, RefusesTopic};
 
 use crate::Floor;
 use broker_history::Entry;
@@ -26,6 +26,8 @@ impl<F: Folder, C: Clock, J: Journal<Entry>> Floor<F, C, J> {
         ensures good { IsTrue F.tells_files → OnOk result (NoneIsBad topic channels.now (F.files self.old.folder)) }
         ensures theirs { IsTrue F.tells_files → OnlyTheirFiles topic channels.now (F.files self.old.folder) (F.files self.new.folder) }
         ensures bad { IsTrue F.tells_files → OnOk result (BadStays (F.files self.old.folder) (F.files self.new.folder)) }
+        ensures finds { IsTrue F.tells_files → OnOk result (FindsThem topic channels.now (F.files self.old.folder)) }
+        ensures back { IsTrue F.tells_files → OnOk result (FindsBack (F.files self.old.folder) (F.files self.new.folder)) }
         ensures same { OnErr result (self.new.held.hall.rooms.items ≡ self.old.held.hall.rooms.items) }
         ensures held { self.new.held ≡ record (self.old.held) { hall = record (self.old.held.hall) { rooms = self.new.held.hall.rooms; pending = self.new.held.hall.pending } } }
         ensures clock { self.new.clock ≡ self.old.clock }

@@ -13,7 +13,7 @@ ghost use Rattle.floor_rooms.specs.Standing.{HoldsFor};
 ghost use Rattle.floor_moves.specs.Moves.{sight};
 ghost use Rattle.floor_saving.specs.Flushing.{LeavesOthers, LeavesWhere};
 ghost use Rattle.floor_turns.specs.Turning.{TakesTurn};
-ghost use Rattle.floor_opening.specs.Opened.{AreApart, BadStays, ListsStay, NoneIsBad, OnlyTheirFiles, OnlyTopicFiles, OpensRoom, OpensTo, RefusesTopic};
+ghost use Rattle.floor_opening.specs.Opened.{AreApart, BadStays, FindsBack, FindsThem, ListsStay, NoneIsBad, OnlyTheirFiles, OnlyTopicFiles, OpensRoom, OpensTo, RefusesTopic};
 
 use crate::serving::turn_at;
 use backlog::Flushed;
@@ -166,6 +166,8 @@ impl SoundHall {
         ensures good { IsTrue F.tells_files → OnOk result (NoneIsBad topic channels.now (F.files folder.old)) }
         ensures theirs { IsTrue F.tells_files → OnlyTheirFiles topic channels.now (F.files folder.old) (F.files folder.new) }
         ensures bad { IsTrue F.tells_files → OnOk result (BadStays (F.files folder.old) (F.files folder.new)) }
+        ensures finds { IsTrue F.tells_files → OnOk result (FindsThem topic channels.now (F.files folder.old)) }
+        ensures back { IsTrue F.tells_files → OnOk result (FindsBack (F.files folder.old) (F.files folder.new)) }
         ensures same { OnErr result (self.new.hall.rooms.items ≡ self.old.hall.rooms.items) }
         ensures rest { self.new ≡ record (self.old) { hall = record (self.old.hall) { rooms = self.new.hall.rooms; pending = self.new.hall.pending } } }
         ensures refused { IsTrue F.tells_files → IfErr result (λ e. RefusesTopic topic channels.now (F.files folder.old) (F.files folder.new) e) }

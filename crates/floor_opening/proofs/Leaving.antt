@@ -18,7 +18,7 @@ use Rattle.backlog.specs.Seen.{longest_body}
 use Rattle.broker_history.proofs.Lists.{exact_bytes}
 use Rattle.topic_core.proofs.Keeping.{opening_stays}
 use Rattle.channel_core.specs.Seen.{queue_name}
-use Rattle.floor_opening.specs.Opened.{BadStays, IsBad, LeavesFound, ListsStay, NoneIsBad, OnlyChannelFiles}
+use Rattle.floor_opening.specs.Opened.{BadStays, FindsBack, FindsQueue, FindsThem, IsBad, LeavesFound, ListsStay, NoneIsBad, OnlyChannelFiles}
 use Rattle.floor_opening.proofs.Parting.{all_front, all_last, name_apart}
 use Rattle.floor_opening.proofs.Joining.{taken_next}
 
@@ -40,6 +40,9 @@ lists_then f0 f1 f2 a b = λ name bodies bad found. let first = a name bodies ba
 pub bad_then : (f0 f1 f2 : Files) → BadStays f0 f1 → BadStays f1 f2 → BadStays f0 f2
 bad_then f0 f1 f2 a b = λ name bad. b name (a name bad)
 
+pub back_then : (f0 f1 f2 : Files) → FindsBack f0 f1 → FindsBack f1 f2 → FindsBack f0 f2
+back_then f0 f1 f2 a b = λ name found. a name (b name found)
+
 bodies_of : Finding → List (List ℕ)
 bodies_of BadMeta = []
 bodies_of (Records bodies bad) = bodies
@@ -51,6 +54,9 @@ module _ (name : List ℕ) (old new : Files) (again : IsFoundAgain name old new)
   list_again bodies bad found =
       let same : again.bodies ≡ bodies = ap bodies_of (one_finding 26 (26 + longest_body) old name (Records again.bodies again.bad) (Records bodies bad) (omega arith) again.found found) in
       record { bad = []; found = subst (λ bs. IsFound 26 (26 + longest_body) new name (Records bs [])) same again.again }
+
+  pub found_before : FindsQueue old name
+  found_before = record { bodies = again.bodies; bad = again.bad; found = again.found }
 
   pub not_bad : IsBad old name → ⊥
   not_bad bad = absurd (let same : BadMeta ≡ Records again.bodies again.bad = one_finding 26 (26 + longest_body) old name BadMeta (Records again.bodies again.bad) (omega arith) bad again.found in cc)
@@ -75,6 +81,16 @@ module _ (changed : List ℕ) (old new : Files) (change : FilesOfChange changed 
     | inr apart ↦ finding_keeps 26 (26 + longest_body) old new name BadMeta (opening_stays name changed old new apart change) bad
   ]
 
+  pub back_stays : FindsQueue old changed → FindsBack old new
+  back_stays own name found = elim (names_tell changed name (bytes_eq changed name) refl) [
+    | inl is ↦ subst (FindsQueue old) is own
+    | inr apart ↦ record {
+      bodies = found.bodies;
+      bad = found.bad;
+      found = finding_keeps 26 (26 + longest_body) new old name (Records found.bodies found.bad) (λ file its. sym (opening_stays name changed old new apart change file its)) found.found;
+    }
+  ]
+
 pub lists_opened : (changed : List ℕ) (old new : Files) → FilesOfChange changed old new → IsFoundAgain changed old new → ListsStay old new
 lists_opened changed old new change again = lists_stay changed old new change (list_again changed old new again)
 
@@ -84,9 +100,19 @@ lists_refused changed old new why change refused = lists_stay changed old new ch
 pub bad_opened : (changed : List ℕ) (old new : Files) → FilesOfChange changed old new → IsFoundAgain changed old new → BadStays old new
 bad_opened changed old new change again = bad_stays changed old new change (not_bad changed old new again)
 
+pub back_opened : (changed : List ℕ) (old new : Files) → FilesOfChange changed old new → IsFoundAgain changed old new → FindsBack old new
+back_opened changed old new change again = back_stays changed old new change (found_before changed old new again)
+
 -- none was opened yet
 pub leaves_none : (topic : List ℕ) (files : Files) → LeavesFound topic [] files files
-leaves_none topic files = record { again = lists_same files; good = All-nil (λ (c : List ℕ × Bool). IsBad files (queue_name topic c.0) → ⊥); bad = λ name bad. bad; only = λ file others. refl }
+leaves_none topic files = record {
+  again = lists_same files;
+  good = All-nil (λ (c : List ℕ × Bool). IsBad files (queue_name topic c.0) → ⊥);
+  bad = λ name bad. bad;
+  finds = All-nil (λ (c : List ℕ × Bool). FindsQueue files (queue_name topic c.0));
+  back = λ name found. found;
+  only = λ file others. refl;
+}
 
 -- one more was
 pub leaves_one : (topic : List ℕ) (done : List (List ℕ × Bool)) (c : List ℕ × Bool) (f0 f1 f2 : Files) → LeavesFound topic done f0 f1 → FilesOfChange (queue_name topic c.0) f1 f2 → IsFoundAgain (queue_name topic c.0) f1 f2 → LeavesFound topic (done ++ c ∷ []) f0 f2
@@ -94,6 +120,8 @@ leaves_one topic done c f0 f1 f2 h change again = record {
   again = lists_then f0 f1 f2 h.again (lists_opened (queue_name topic c.0) f1 f2 change again);
   good = All-push (λ (d : List ℕ × Bool). IsBad f0 (queue_name topic d.0) → ⊥) done c h.good (λ bad. not_bad (queue_name topic c.0) f1 f2 again (h.bad (queue_name topic c.0) bad));
   bad = bad_then f0 f1 f2 h.bad (bad_opened (queue_name topic c.0) f1 f2 change again);
+  finds = All-push (λ (d : List ℕ × Bool). FindsQueue f0 (queue_name topic d.0)) done c h.finds (h.back (queue_name topic c.0) (found_before (queue_name topic c.0) f1 f2 again));
+  back = back_then f0 f1 f2 h.back (back_opened (queue_name topic c.0) f1 f2 change again);
   only = λ file others. change file (all_last (λ (d : List ℕ × Bool). IsFileOf (queue_name topic d.0) file → ⊥) done c others) ∙ h.only file (all_front (λ (d : List ℕ × Bool). IsFileOf (queue_name topic d.0) file → ⊥) done (c ∷ []) others);
 }
 
@@ -116,4 +144,10 @@ pub none_bad : (topic : List ℕ) (channels : List (List ℕ × Bool)) (f0 f1 f2
 none_bad topic channels f0 f1 f2 change again leaves = record {
   own = not_bad topic f0 f1 again;
   channels = All-weaker (λ (c : List ℕ × Bool). IsBad f1 (queue_name topic c.0) → ⊥) (λ (c : List ℕ × Bool). IsBad f0 (queue_name topic c.0) → ⊥) (λ c good bad. good (bad_opened topic f0 f1 change again (queue_name topic c.0) bad)) channels leaves.good;
+}
+
+pub finds_them : (topic : List ℕ) (channels : List (List ℕ × Bool)) (f0 f1 f2 : Files) → FilesOfChange topic f0 f1 → IsFoundAgain topic f0 f1 → LeavesFound topic channels f1 f2 → FindsThem topic channels f0
+finds_them topic channels f0 f1 f2 change again leaves = record {
+  own = found_before topic f0 f1 again;
+  channels = All-weaker (λ (c : List ℕ × Bool). FindsQueue f1 (queue_name topic c.0)) (λ (c : List ℕ × Bool). FindsQueue f0 (queue_name topic c.0)) (λ c found. back_opened topic f0 f1 change again (queue_name topic c.0) found) channels leaves.finds;
 }

@@ -7,7 +7,7 @@ use Rattle.nsq_base.specs.Names.{IsAscendingBy}
 use Rattle.nsq_base.specs.declared.options.Options.{Options}
 use Rattle.nsq_outside.specs.Files.{Files}
 use Rattle.queue_image.specs.FileNames.{IsFileOf}
-use Rattle.queue_image.specs.Finds.{BadMeta, IsFound}
+use Rattle.queue_image.specs.Finds.{BadMeta, IsFound, Records}
 use Rattle.queue_opening.specs.Again.{FindsSameList}
 use Rattle.queue_opening.specs.declared.refusal.Open.{Open}
 use Rattle.queue_opening.specs.declared.refusal.Open.TheVariants.{Memory}
@@ -124,6 +124,25 @@ pub record NoneIsBad (topic : List ℕ) (opened : List (List ℕ × Bool)) (file
   pub own : IsBad files topic → ⊥
   pub channels : NoChannelIsBad topic opened files
 
+-- an opening finds these bodies of the queue of this name, whatever files of it are bad
+pub record FindsQueue (files : Files) (name : List ℕ) : Type 0 where
+  pub bodies : List (List ℕ)
+  pub bad : List ℕ
+  pub found : IsFound 26 (26 + longest_body) files name (Records bodies bad)
+
+-- a queue of which an opening finds bodies in the new files has bodies that it finds in the old ones
+abbrev pub FindsBack : Files → Files → Type 0
+FindsBack old new = (name : List ℕ) → FindsQueue new name → FindsQueue old name
+
+-- an opening finds bodies of each of these channels' queues
+abbrev pub FindsQueues : (topic : List ℕ) → List (List ℕ × Bool) → Files → Type 0
+FindsQueues topic channels files = All (λ c. FindsQueue files (queue_name topic c.0)) channels
+
+-- and of the topic's own
+pub record FindsThem (topic : List ℕ) (opened : List (List ℕ × Bool)) (files : Files) : Type 0 where
+  pub own : FindsQueue files topic
+  pub channels : FindsQueues topic opened files
+
 -- no file changes but those of these channels' queues, set aside or not
 abbrev pub OnlyChannelFiles : (topic : List ℕ) → List (List ℕ × Bool) → Files → Files → Type 0
 OnlyChannelFiles topic channels old new = (file : List ℕ) → All (λ c. IsFileOf (queue_name topic c.0) file → ⊥) channels → new file ≡ old file
@@ -132,12 +151,14 @@ OnlyChannelFiles topic channels old new = (file : List ℕ) → All (λ c. IsFil
 abbrev pub OnlyTheirFiles : (topic : List ℕ) → List (List ℕ × Bool) → Files → Files → Type 0
 OnlyTheirFiles topic channels old new = (file : List ℕ) → (IsFileOf topic file → ⊥) → All (λ c. IsFileOf (queue_name topic c.0) file → ⊥) channels → new file ≡ old file
 
--- what the opening of these channels leaves to be found: each queue's list and each queue's bad metadata, and none of theirs had any. Nothing changes but
--- their files
+-- what the opening of these channels leaves to be found: each queue's list and each queue's bad metadata. None of theirs had any, and bodies were found of
+-- each; what is found of any queue was found before. Nothing changes but their files
 pub record LeavesFound (topic : List ℕ) (done : List (List ℕ × Bool)) (old new : Files) : Type 0 where
   pub again : ListsStay old new
   pub good : NoChannelIsBad topic done old
   pub bad : BadStays old new
+  pub finds : FindsQueues topic done old
+  pub back : FindsBack old new
   pub only : OnlyChannelFiles topic done old new
 
 -- a hall as it is once a topic was opened into it: the topic with its channels joined, all of them saved

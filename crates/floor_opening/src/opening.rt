@@ -11,7 +11,7 @@ ghost use Rattle.topic_core.specs.Rows.{found_topic, paused_in};
 ghost use Rattle.floor_rooms.specs.Rooms.{put_room, room_in, topic_name};
 ghost use Rattle.floor_rooms.specs.Sound.{IsSound};
 ghost use Rattle.floor_rooms.specs.Standing.{IsRoomOf};
-ghost use Rattle.floor_opening.specs.Opened.{AreApart, BadStays, IsOpenedRoom, ListsStay, NoneIsBad, OnlyTheirFiles, OnlyTopicFiles, OpensRoom, OpensTo, RefusesTopic};
+ghost use Rattle.floor_opening.specs.Opened.{AreApart, BadStays, FindsBack, FindsThem, IsOpenedRoom, ListsStay, NoneIsBad, OnlyTheirFiles, OnlyTopicFiles, OpensRoom, OpensTo, RefusesTopic};
 
 use crate::channels::open_channels;
 use floor_rooms::{Hall, Room};
@@ -41,6 +41,8 @@ pub fn open_topic<F: Folder>(
     ensures good { IsTrue F.tells_files → OnOk result (NoneIsBad topic channels.now (F.files folder.old)) }
     ensures theirs { IsTrue F.tells_files → OnlyTheirFiles topic channels.now (F.files folder.old) (F.files folder.new) }
     ensures bad { IsTrue F.tells_files → OnOk result (BadStays (F.files folder.old) (F.files folder.new)) }
+    ensures finds { IsTrue F.tells_files → OnOk result (FindsThem topic channels.now (F.files folder.old)) }
+    ensures back { IsTrue F.tells_files → OnOk result (FindsBack (F.files folder.old) (F.files folder.new)) }
     ensures same { OnErr result (hall.new.rooms.items ≡ hall.old.rooms.items) }
     ensures rest { hall.new ≡ record hall.old { rooms = hall.new.rooms; pending = hall.new.pending } }
     ensures sound { IsSound hall.new }

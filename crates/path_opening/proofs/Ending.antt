@@ -3,7 +3,7 @@ use Rattle.std.proofs.Common.{◌≡◌, ◌≢◌, ◌⊎◌, inl, inr, ◌≤�
 use Rattle.std.specs.Prelude.{IfErr, IsTrue, OnOk, codes}
 use Rattle.std.proofs.Math.Path.{fun_ext}
 use Rattle.std.specs.List.{All, Contains}
-use Rattle.std.proofs.lemmas.List.Elements.{All-cons, All-from_recursion, All-map, All-weaker, Contains-get_or}
+use Rattle.std.proofs.lemmas.List.Elements.{All-cons, All-contains, All-from_recursion, All-map, All-weaker, Contains-get_or}
 use Rattle.nsq_base.specs.declared.options.Options.{Options}
 use Rattle.nsq_outside.specs.Causes.{Rose}
 use Rattle.nsq_outside.specs.declared.did.Did.TheVariants as did
@@ -34,14 +34,15 @@ use Rattle.floor_rooms.specs.declared.hall.Hall.{Hall}
 use Rattle.floor_rooms.specs.Made.{IsEmptyHall, empty_state}
 use Rattle.floor_rooms.specs.Standing.{HoldsFor, StandsFor}
 use Rattle.broker_floor.specs.Held.{Held}
-use Rattle.floor_opening.specs.Opened.{IsBad, ListsStay}
+use Rattle.floor_opening.specs.Opened.{FindsQueue, IsBad, ListsStay}
 use Rattle.floor_opening.proofs.Leaving.{lists_then}
-use Rattle.path_opening.specs.Adding.{AddsTopics, Fills, HasNames, HasBadOf, HasOthersOnly, IsAdded, IsElsewhere, IsFilled, IsGood, IsNotAdded, IsNotFilled, IsNotSaved, IsOldOrKeeps, IsReady, IsUnread, IsWhyNotAdded, IsWhyNotSaved, OnlyFilledFiles, SameList, why_unswept}
+use Rattle.path_opening.specs.Adding.{AddsTopics, Fills, FindsAll, HasNames, HasBadOf, HasOthersOnly, IsAdded, IsElsewhere, IsFilled, IsGood, IsNotAdded, IsNotFilled, IsNotSaved, IsOldOrKeeps, IsReady, IsUnread, IsWhyNotAdded, IsWhyNotSaved, OnlyFilledFiles, SameList, why_unswept}
 use Rattle.path_opening.specs.Opening.KeepsIn.{absent, written}
-use Rattle.path_opening.specs.Opening.{FindsAgain, IsNamesFinding, IsOpenedHall, IsRefusal, IsWhy, KeepsIn, OnlyOpeningFiles, Raises}
+use Rattle.path_opening.specs.Opening.{FindsAgain, HaveBytes, IsNamesFinding, IsOpenedHall, IsRefusal, IsWhy, KeepsIn, OnlyOpeningFiles, Raises}
 use Rattle.path_opening.specs.declared.opening.Why.{Why}
 use Rattle.path_opening.specs.declared.opening.Why.TheVariants as why
-use Rattle.path_opening.proofs.Finding.{KeepsNext, all_of, bad_found, finds_again, names_found, rose_later, same_again, shown, spent_found, topics_again}
+use Rattle.path_opening.proofs.Decoding.{topics_found}
+use Rattle.path_opening.proofs.Finding.{KeepsNext, all_of, bad_found, finds_again, kept_found, names_found, rose_later, same_again, shown, spent_found, topics_again}
 use Rattle.path_opening.proofs.Idling.{idle_found}
 
 -- the file of names and its temporary are no queue's
@@ -82,6 +83,7 @@ module _ (topics : List KeptTopic) (can : CanKeepAll topics) (h0 h h' : Hall) (f
         let all = adds.stands founds pairs s none first in
         stands (record s { topics = map started founds }) (record { stands = all; idle = idle_found topics can f0 f swept adds.only h founds pairs all.topics });
     good = adds.good;
+    finds = adds.finds;
     saved = saved;
     only = filled_only two;
   }
@@ -129,6 +131,17 @@ module _ (kept : Kept) (can : CanKeepAll kept.topics) (old f1 : Files) (swept : 
     where
       at_name : {X : Type 0} (P : X → Type 0) (xs : List X) (x : X) → All P xs → Contains xs x → P x
       at_name P xs x all has = subst P has.2 (all has.0 x has.1)
+
+  found_back : (t : KeptTopic) → Contains kept.topics t → (name : List ℕ) → Contains (queues_of t) name → FindsQueue f1 name → FindsQueue old name
+  found_back t listed name its x = record {
+    bodies = x.bodies;
+    bad = x.bad;
+    found = finding_keeps 26 16777242 f1 old name (Records x.bodies x.bad) (λ file is. sym (files_stay kept.topics old f1 name file swept (listed_in t listed name its) (own is))) x.found;
+  }
+
+  pub swept_finds : All (FindsAll f1) kept.topics → All (FindsAll old) kept.topics
+  swept_finds finds = all_within (FindsAll old) kept.topics (λ t listed.
+      all_within (FindsQueue old) (queues_of t) (λ name its. found_back t listed name its (All-contains (FindsQueue f1) (queues_of t) name (All-contains (FindsAll f1) kept.topics t finds listed) its)))
 
   pub swept_names : f1 data_name ≡ old data_name
   swept_names = short_stays kept.topics old f1 data_name swept (omega arith)
@@ -266,6 +279,13 @@ names_unwritten tells topics epoch files before now = record { why = tt; file = 
 module _ (tells : Bool) (kept : Kept) (can : CanKeepAll kept.topics) (below : kept.epoch < last_epoch) (old f1 f' : Files) (h0 h : Hall) (ready : IsReady kept old f1) (fills : Fills kept.topics h0 f1 h f') where
   pub opened_finds : (x : Finding) → IsFound old x → IsNamesFinding x
   opened_finds x is = names_found old kept x ready.keeps below (swept_good kept can old f1 ready.swept fills.good) is
+
+  -- names with their messages were found
+  pub opened_names : HaveBytes old → (found : Found) × IsFound old (Names found)
+  opened_names bytes =
+      let x = topics_found old bytes kept.topics (swept_finds kept can old f1 ready.swept fills.finds) in
+      let found : Found = record { epoch = kept.epoch; topics = x.founds } in
+      (found, kept_found old kept found ready.keeps below (record { epoch = refl; topics = x.pairs }))
 
   pub opened_files : OnlyOpeningFiles old f'
   opened_files = opening_files kept can old f1 ready.swept f' fills.only

@@ -32,11 +32,11 @@ use Rattle.floor_rooms.specs.declared.room.Room.{Room}
 use Rattle.floor_rooms.specs.Rooms.{put_room, room_in, topic_name}
 use Rattle.floor_rooms.specs.Standing.{StandsFor}
 use Rattle.floor_rooms.proofs.Staying.{other_topic, topic_is_no_channel}
-use Rattle.floor_opening.specs.Opened.{AreApart, BadStays, IsBad, ListsStay, NoneIsBad, OnlyTheirFiles, OpensRoom, OpensTo, RefusesTopic, kept_channels, opened_topic}
-use Rattle.floor_opening.proofs.Leaving.{bad_then, lists_then}
+use Rattle.floor_opening.specs.Opened.{AreApart, BadStays, FindsBack, FindsQueue, FindsThem, IsBad, ListsStay, NoneIsBad, OnlyTheirFiles, OpensRoom, OpensTo, RefusesTopic, kept_channels, opened_topic}
+use Rattle.floor_opening.proofs.Leaving.{back_then, bad_then, lists_then}
 use Rattle.floor_opening.proofs.Parting.{all_front, all_last, last_of, name_apart, or_parts}
 use Rattle.broker_floor.specs.Held.{Held}
-use Rattle.path_opening.specs.Adding.{AddsOne, AddsTopics, HasOthersOnly, IsAdded, PutsTopic, why_of, HasBadOf, HasOnlyTopics, IsElsewhere, IsGood, IsNotAdded, IsNotOne, IsWhyNotAdded, IsWhyNotOne, OnlyFilesOf, SameList, StandsWith, pauses}
+use Rattle.path_opening.specs.Adding.{AddsOne, AddsTopics, HasOthersOnly, IsAdded, PutsTopic, why_of, FindsAll, HasBadOf, HasOnlyTopics, IsElsewhere, IsGood, IsNotAdded, IsNotOne, IsWhyNotAdded, IsWhyNotOne, OnlyFilesOf, SameList, StandsWith, pauses}
 use Rattle.path_opening.specs.declared.opening.Why.{Why}
 use Rattle.path_opening.specs.declared.opening.Why.TheVariants as why
 use Rattle.path_opening.proofs.Finding.{all_of, rose_later, topic_again}
@@ -66,6 +66,8 @@ added_none h files = record {
   lists = λ name bodies bad found. record { bad = bad; found = found };
   bad = λ name bad. bad;
   good = All-nil (IsGood files);
+  finds = All-nil (FindsAll files);
+  back = λ name found. found;
   only = λ file others. refl;
 }
   where
@@ -94,8 +96,8 @@ module _ (done : List KeptTopic) (t : KeptTopic) (h0 h h' : Hall) (f0 f f' : Fil
         subst (λ ts. StandsFor h' f' (record s { topics = map started ts })) (sym split.whole)
         (subst (StandsFor h' f') (topic_last s split.front z behind) (subst (λ u. StandsFor h' f' (with_topic front u)) is put))
 
-    pub added_one : ListsStay f f' → BadStays f f' → NoneIsBad t.name (pauses t.channels) f → OnlyTheirFiles t.name (pauses t.channels) f f' → AddsTopics (done ++ t ∷ []) h0 f0 h' f'
-    added_one lists bad good only = record {
+    pub added_one : ListsStay f f' → BadStays f f' → NoneIsBad t.name (pauses t.channels) f → FindsThem t.name (pauses t.channels) f → FindsBack f f' → OnlyTheirFiles t.name (pauses t.channels) f f' → AddsTopics (done ++ t ∷ []) h0 f0 h' f'
+    added_one lists bad good finds back only = record {
       stands = stands_one;
       lists = lists_then f0 f f' all.lists lists;
       bad = bad_then f0 f f' all.bad bad;
@@ -103,6 +105,11 @@ module _ (done : List KeptTopic) (t : KeptTopic) (h0 h h' : Hall) (f0 f f' : Fil
           (All-cons (λ name. IsBad f0 name → ⊥) t.name (map (λ (c : KeptChannel). channel_queue t.name c.name) t.channels) (λ b. good.own (all.bad t.name b))
           (by_names (λ name. IsBad f0 name → ⊥) t.name t.channels
           (All-weaker (λ (c : List ℕ × Bool). IsBad f (queue_name t.name c.0) → ⊥) (λ (c : List ℕ × Bool). IsBad f0 (queue_name t.name c.0) → ⊥) (λ c g b. g (all.bad (queue_name t.name c.0) b)) (pauses t.channels) good.channels)));
+      finds = All-push (FindsAll f0) done t all.finds
+          (All-cons (FindsQueue f0) t.name (map (λ (c : KeptChannel). channel_queue t.name c.name) t.channels) (all.back t.name finds.own)
+          (by_names (FindsQueue f0) t.name t.channels
+          (All-weaker (λ (c : List ℕ × Bool). FindsQueue f (queue_name t.name c.0)) (λ (c : List ℕ × Bool). FindsQueue f0 (queue_name t.name c.0)) (λ c found. all.back (queue_name t.name c.0) found) (pauses t.channels) finds.channels)));
+      back = back_then f0 f f' all.back back;
       only = λ file others. theirs file (all_last (IsElsewhere file) done t others) ∙ all.only file (all_front (IsElsewhere file) done (t ∷ []) others);
     }
       where
@@ -217,7 +224,7 @@ pub added_next : (tells : Bool) (done : List KeptTopic) (t : KeptTopic) (a b c :
 added_next tells done t a b c f0 f f' k0 k k' x before up rest puts adds low = record {
   rest = others_both a b c x.rest rest;
   names = names_one done t b.hall c.hall puts.room x.names puts.is puts.named;
-  adds = λ told. let one = adds told in added_one done t a.hall b.hall c.hall f0 f f' (x.adds told) before up one.opens one.lists one.bad one.good one.only;
+  adds = λ told. let one = adds told in added_one done t a.hall b.hall c.hall f0 f f' (x.adds told) before up one.opens one.lists one.bad one.good one.finds one.back one.only;
   faults = let first = x.faults in omega (arith, first, low);
 }
 
@@ -281,12 +288,14 @@ one_refused e tells t old new before now refuses fails lists only = record { why
 
 -- what a call tells of a topic, by its name, its pause and its list of channels
 module _ (t : KeptTopic) (name : List ℕ) (on : Bool) (list : List (List ℕ × Bool)) (called : name ≡ t.name) (paused : on ≡ t.paused) (listed : list ≡ pauses t.channels) where
-  pub adds_of : (h h' : Hall) (f f' : Files) → OpensTo name on list h f h' f' → ListsStay f f' → BadStays f f' → NoneIsBad name list f → OnlyTheirFiles name list f f' → AddsOne t h f h' f'
-  adds_of h h' f f' opens lists bad good only = record {
+  pub adds_of : (h h' : Hall) (f f' : Files) → OpensTo name on list h f h' f' → ListsStay f f' → BadStays f f' → NoneIsBad name list f → FindsThem name list f → FindsBack f f' → OnlyTheirFiles name list f f' → AddsOne t h f h' f'
+  adds_of h h' f f' opens lists bad good finds back only = record {
     opens = subst (λ n. OpensTo n t.paused (pauses t.channels) h f h' f') called (subst (λ b. OpensTo name b (pauses t.channels) h f h' f') paused (subst (λ l. OpensTo name on l h f h' f') listed opens));
     lists = lists;
     bad = bad;
     good = subst (λ n. NoneIsBad n (pauses t.channels) f) called (subst (λ l. NoneIsBad name l f) listed good);
+    finds = subst (λ n. FindsThem n (pauses t.channels) f) called (subst (λ l. FindsThem name l f) listed finds);
+    back = back;
     only = subst (λ n. OnlyTheirFiles n (pauses t.channels) f f') called (subst (λ l. OnlyTheirFiles name l f f') listed only);
   }
 

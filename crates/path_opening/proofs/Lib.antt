@@ -1,5 +1,6 @@
 pub mod Orders
 pub mod Finding
+pub mod Decoding
 pub mod Joining
 pub mod Idling
 pub mod Ending

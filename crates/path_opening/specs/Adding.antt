@@ -18,7 +18,7 @@ use Rattle.floor_rooms.specs.declared.hall.Hall.{Hall}
 use Rattle.floor_rooms.specs.declared.room.Room.{Room}
 use Rattle.floor_rooms.specs.Rooms.{put_room, room_in, topic_name}
 use Rattle.floor_rooms.specs.Standing.{HoldsFor, StandsFor}
-use Rattle.floor_opening.specs.Opened.{BadStays, IsBad, ListsStay, NoneIsBad, OnlyTheirFiles, OpensTo, RefusesTopic}
+use Rattle.floor_opening.specs.Opened.{BadStays, FindsBack, FindsQueue, FindsThem, IsBad, ListsStay, NoneIsBad, OnlyTheirFiles, OpensTo, RefusesTopic}
 use Rattle.queue_sweep.specs.Swept.{HasOnlyListed, IsSweptTo}
 use Rattle.queue_sweep.specs.declared.unswept.Unswept.{Unswept}
 use Rattle.queue_sweep.specs.declared.unswept.Unswept.TheVariants as unswept
@@ -70,6 +70,10 @@ SameList old new name = FindsSameList 26 (26 + longest_body) name old new
 abbrev pub IsGood : Files → KeptTopic → Type 0
 IsGood files t = All (λ name. IsBad files name → ⊥) (queues_of t)
 
+-- an opening finds bodies of each queue of a topic
+abbrev pub FindsAll : Files → KeptTopic → Type 0
+FindsAll files t = All (FindsQueue files) (queues_of t)
+
 -- a file is of no queue of a topic
 abbrev pub IsElsewhere : (file : List ℕ) → KeptTopic → Type 0
 IsElsewhere file t = All (λ name. IsFileOf name file → ⊥) (queues_of t)
@@ -88,6 +92,8 @@ pub record AddsTopics (topics : List KeptTopic) (old : Hall) (before : Files) (n
   pub lists : ListsStay before after
   pub bad : BadStays before after
   pub good : All (IsGood before) topics
+  pub finds : All (FindsAll before) topics
+  pub back : FindsBack before after
   pub only : OnlyFilesOf topics before after
 
 -- the hall has other topics, and nothing else of it changed
@@ -104,6 +110,8 @@ pub record AddsOne (t : KeptTopic) (old : Hall) (before : Files) (new : Hall) (a
   pub lists : ListsStay before after
   pub bad : BadStays before after
   pub good : NoneIsBad t.name (pauses t.channels) before
+  pub finds : FindsThem t.name (pauses t.channels) before
+  pub back : FindsBack before after
   pub only : OnlyTheirFiles t.name (pauses t.channels) before after
 
 -- the topic is there, where it belongs
@@ -189,6 +197,7 @@ OnlyFilledFiles topics old new = (file : List ℕ) → file ≢ data_name → fi
 pub record Fills (topics : List KeptTopic) (old : Hall) (before : Files) (new : Hall) (after : Files) : Type 0 where
   pub holds : HasOnlyListed topics before → (founds : List FoundTopic) → Pairwise (FindsTopic before) topics founds → (s : State) → s.topics ≡ [] → StandsFor old before s → HoldsFor new after (record s { topics = map started founds })
   pub good : All (IsGood before) topics
+  pub finds : All (FindsAll before) topics
   pub saved : HasNames after old.epoch topics
   pub only : OnlyFilledFiles topics before after
 

@@ -4,6 +4,7 @@ use Rattle.nsq_base.specs.declared.options.Options.{Options}
 use Rattle.nsq_outside.specs.Causes.{Rose}
 use Rattle.nsq_outside.specs.Files.{Files, SameFiles}
 use Rattle.queue_image.specs.FileNames.{IsFileOf, IsQueueName}
+use Rattle.v2_frame.specs.Laws.{AreBytes}
 use Rattle.path_image.specs.Data.{IsNames, Kept, data_name, last_epoch, names_text, temp_name}
 use Rattle.path_image.specs.Found.{BadData, EpochSpent, Finding, Found, IsFound, Names}
 use Rattle.names_file.specs.Texts.{kept_of}
@@ -21,6 +22,10 @@ abbrev pub IsNamesFinding : Finding → Type 0
 IsNamesFinding BadData = ⊥
 IsNamesFinding EpochSpent = ⊥
 IsNamesFinding (Names found) = Unit {0}
+
+-- what files have are bytes: numbers below 256
+abbrev pub HaveBytes : Files → Type 0
+HaveBytes files = (name bytes : List ℕ) → files name ≡ Some bytes → AreBytes bytes
 
 -- this run's epoch is one above the one that the file of names kept, and the file keeps it now, with the same topics. Its temporary is gone
 pub record Raises (old new : Files) (epoch : ℕ) : Type 0 where

@@ -4,7 +4,7 @@ ghost use Rattle.path_image.specs.Found.{Finding, Found, IsFound, Names};
 ghost use Rattle.broker_history.specs.Found.{start};
 ghost use Rattle.broker_history.specs.Moments.{moment_of};
 ghost use Rattle.floor_rooms.specs.Standing.{HoldsFor};
-ghost use Rattle.path_opening.specs.Opening.{FindsAgain, IsNamesFinding, IsOpenedHall, IsWhy, OnlyOpeningFiles, Raises};
+ghost use Rattle.path_opening.specs.Opening.{FindsAgain, HaveBytes, IsNamesFinding, IsOpenedHall, IsWhy, OnlyOpeningFiles, Raises};
 
 use crate::reading::prepare;
 use crate::saving::fill;
@@ -39,6 +39,9 @@ pub struct Refused<F: Folder, C: Clock, J: Journal<Entry>> {
 /// topics and channels that it lists, each with the messages of its queue, and writes the file with this run's epoch, which is one above the last run's,
 /// durably. The clock is read once. A file of names of more than 16 MiB is bad; want of memory is answered too where a longer one would have to be written.
 ///
+/// Opened, the files showed names with the messages of their queues, and the floor stands for those. Of a record only its size is read, so that its body is a
+/// message's is told where what the files have are bytes.
+///
 /// After a refusal an opening finds what it would have found before, or the same with the next epoch, and the kit's journal is as it was. Files that were set
 /// aside stay so. The journal has no entry, and none aside; the options are in their ranges.
 pub fn open<F: Folder, C: Clock, J: Journal<Entry>>(
@@ -50,6 +53,7 @@ pub fn open<F: Folder, C: Clock, J: Journal<Entry>>(
     requires aside { J.is_aside kit.journal ≡ false }
     requires empty { IsTrue J.tells_notes → J.notes kit.journal ≡ [] }
     ensures found { IfOk result (λ floor. IsTrue F.tells_files → (f : Finding) → IsFound (F.files kit.folder) f → IsNamesFinding f) }
+    ensures finds { IfOk result (λ floor. IsTrue F.tells_files → HaveBytes (F.files kit.folder) → (found : Found) × IsFound (F.files kit.folder) (Names found)) }
     ensures stands { IfOk result (λ floor. IsTrue F.tells_files → (found : Found) → IsFound (F.files kit.folder) (Names found) → HoldsFor floor.held.hall (F.files floor.folder) (start found options.now floor.held.hall.moment)) }
     ensures raised { IfOk result (λ floor. IsTrue F.tells_files → Raises (F.files kit.folder) (F.files floor.folder) floor.held.hall.epoch) }
     ensures hall { IfOk result (λ floor. IsOpenedHall options.now floor.held) }

@@ -8,7 +8,7 @@ use Rattle.floor_rooms.specs.Rooms.{put_room, room_in}
 use Rattle.floor_opening.specs.Opened.{IsOpenedRoom, IsOpenedStall, RefusesTopic, kept_channels, opened_topic}
 use Rattle.floor_opening.proofs.Parting.{handed_on}
 use Rattle.floor_opening.proofs.Joining.{found_later, opened_with, put_sound, put_stands, refuses_later, rest_both}
-use Rattle.floor_opening.proofs.Leaving.{bad_opened, bad_then, lists_opened, lists_refused, lists_same, lists_then, none_bad}
+use Rattle.floor_opening.proofs.Leaving.{back_opened, back_then, bad_opened, bad_then, finds_them, lists_opened, lists_refused, lists_same, lists_then, none_bad}
 use Rattle.floor_opening.proofs.opening.open_topic.Goals as goal
 
 pub returns-in_err-room-clause-files : goal.returns-in_err-room-clause-files
@@ -76,6 +76,12 @@ returns-clause-good g c = λ told. none_bad c.args.topic c.args.channels.now (g.
 
 pub returns-clause-bad : goal.returns-clause-bad
 returns-clause-bad g c = λ told. bad_then (g.F.Folder.files c.args.folder.now) (g.F.Folder.files c.open_queue.new.folder) (g.F.Folder.files c.open_channels.new.folder) (bad_opened c.args.topic (g.F.Folder.files c.args.folder.now) (g.F.Folder.files c.open_queue.new.folder) (c.open_queue.ensures.others told) (c.in_ok-room.ensures.again told)) (c.in_ok-open_channels.ensures.leaves told).bad
+
+pub returns-clause-finds : goal.returns-clause-finds
+returns-clause-finds g c = λ told. finds_them c.args.topic c.args.channels.now (g.F.Folder.files c.args.folder.now) (g.F.Folder.files c.open_queue.new.folder) (g.F.Folder.files c.open_channels.new.folder) (c.open_queue.ensures.others told) (c.in_ok-room.ensures.again told) (c.in_ok-open_channels.ensures.leaves told)
+
+pub returns-clause-back : goal.returns-clause-back
+returns-clause-back g c = λ told. back_then (g.F.Folder.files c.args.folder.now) (g.F.Folder.files c.open_queue.new.folder) (g.F.Folder.files c.open_channels.new.folder) (back_opened c.args.topic (g.F.Folder.files c.args.folder.now) (g.F.Folder.files c.open_queue.new.folder) (c.open_queue.ensures.others told) (c.in_ok-room.ensures.again told)) (c.in_ok-open_channels.ensures.leaves told).back
 
 pub returns-in_err-room-clause-theirs : goal.returns-in_err-room-clause-theirs
 returns-in_err-room-clause-theirs g c = λ told file no_topic no_channel. c.open_queue.ensures.others told file no_topic

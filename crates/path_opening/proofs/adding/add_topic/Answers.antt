@@ -25,7 +25,7 @@ returns-in-Ok-add-clause-adds g c = λ told.
     let t : KeptTopic = c.args.topic.now in
     let is : c.deref-2.result.now ≡ pauses t.channels = c.deref-2.ensures.value ∙ c.in-Ok.ensures ∙ ap pauses (c.deref.ensures.value ∙ ap (λ (x : KeptTopic). x.channels) c.topic.view_is) in
     adds_of t c.topic.inside.topic c.topic.inside.paused c.deref-2.result.now (ap (λ (x : KeptTopic). x.name) c.topic.view_is) (ap (λ (x : KeptTopic). x.paused) c.topic.view_is) is c.args.floor.now.held.hall c.add.new.self.held.hall (g.F.Folder.files c.args.floor.now.folder) (g.F.Folder.files c.add.new.self.folder)
-    (c.in-Ok-add.ensures.told told) (c.add.ensures.again told) (c.in-Ok-add.ensures.bad told) (c.in-Ok-add.ensures.good told) (c.add.ensures.theirs told)
+    (c.in-Ok-add.ensures.told told) (c.add.ensures.again told) (c.in-Ok-add.ensures.bad told) (c.in-Ok-add.ensures.good told) (c.in-Ok-add.ensures.finds told) (c.in-Ok-add.ensures.back told) (c.add.ensures.theirs told)
 
 pub returns-in-Ok-add-clause-puts : goal.returns-in-Ok-add-clause-puts
 returns-in-Ok-add-clause-puts g c =

@@ -6,7 +6,7 @@ use Rattle.floor_rooms.specs.Standing.{HoldsFor}
 use Rattle.broker_floor.specs.Held.{Held}
 use Rattle.path_opening.specs.Adding.{IsFilled, IsNotFilled, IsReady}
 use Rattle.path_opening.specs.Opening.{IsRefusal}
-use Rattle.path_opening.proofs.Ending.{opened_files, opened_finds, opened_holds, opened_raises, refused_filling, refused_floor}
+use Rattle.path_opening.proofs.Ending.{opened_files, opened_finds, opened_names, opened_holds, opened_raises, refused_filling, refused_floor}
 use Rattle.path_opening.proofs.opening.open.Goals as goal
 
 pub returns-in-Err-new-clause-again : goal.returns-in-Err-new-clause-again
@@ -26,6 +26,14 @@ returns-in-Ok-fill-clause-found g c = λ told.
     let ready : IsTrue g.F.Folder.tells_files → IsReady names (g.F.Folder.files c.args.kit.folder) (g.F.Folder.files c.in-Ok-new.floor.folder) = λ tells. subst (λ f. IsReady names (g.F.Folder.files c.args.kit.folder) (g.F.Folder.files f)) (sym c.in-Ok-new.ensures.folder) (c.in-Ok.ensures.ready tells) in
     let filled : IsFilled g.F.Folder.tells_files names.topics c.in-Ok-new.floor.held c.fill.new.floor.held (g.F.Folder.files c.in-Ok-new.floor.folder) (g.F.Folder.files c.fill.new.floor.folder) = subst (λ ts. IsFilled g.F.Folder.tells_files ts c.in-Ok-new.floor.held c.fill.new.floor.held (g.F.Folder.files c.in-Ok-new.floor.folder) (g.F.Folder.files c.fill.new.floor.folder)) topics c.in-Ok-fill.ensures.filled in
     opened_finds g.F.Folder.tells_files names c.in-Ok.ensures.can c.in-Ok.ensures.below (g.F.Folder.files c.args.kit.folder) (g.F.Folder.files c.in-Ok-new.floor.folder) (g.F.Folder.files c.fill.new.floor.folder) c.in-Ok-new.floor.held.hall c.fill.new.floor.held.hall (ready told) (filled.fills told)
+
+pub returns-in-Ok-fill-clause-finds : goal.returns-in-Ok-fill-clause-finds
+returns-in-Ok-fill-clause-finds g c = λ told.
+    let names : Kept = c.in-Ok.names in
+    let topics : c.deref.result.now ≡ names.topics = c.deref.ensures.value ∙ ap (λ (x : Kept). x.topics) c.names.view_is in
+    let ready : IsTrue g.F.Folder.tells_files → IsReady names (g.F.Folder.files c.args.kit.folder) (g.F.Folder.files c.in-Ok-new.floor.folder) = λ tells. subst (λ f. IsReady names (g.F.Folder.files c.args.kit.folder) (g.F.Folder.files f)) (sym c.in-Ok-new.ensures.folder) (c.in-Ok.ensures.ready tells) in
+    let filled : IsFilled g.F.Folder.tells_files names.topics c.in-Ok-new.floor.held c.fill.new.floor.held (g.F.Folder.files c.in-Ok-new.floor.folder) (g.F.Folder.files c.fill.new.floor.folder) = subst (λ ts. IsFilled g.F.Folder.tells_files ts c.in-Ok-new.floor.held c.fill.new.floor.held (g.F.Folder.files c.in-Ok-new.floor.folder) (g.F.Folder.files c.fill.new.floor.folder)) topics c.in-Ok-fill.ensures.filled in
+    opened_names g.F.Folder.tells_files names c.in-Ok.ensures.can c.in-Ok.ensures.below (g.F.Folder.files c.args.kit.folder) (g.F.Folder.files c.in-Ok-new.floor.folder) (g.F.Folder.files c.fill.new.floor.folder) c.in-Ok-new.floor.held.hall c.fill.new.floor.held.hall (ready told) (filled.fills told)
 
 pub returns-in-Ok-fill-clause-stands : goal.returns-in-Ok-fill-clause-stands
 returns-in-Ok-fill-clause-stands g c = λ told found is.

@@ -39,8 +39,8 @@ pub struct Refused<F: Folder, C: Clock, J: Journal<Entry>> {
 /// topics and channels that it lists, each with the messages of its queue, and writes the file with this run's epoch, which is one above the last run's,
 /// durably. The clock is read once. A file of names of more than 16 MiB is bad; want of memory is answered too where a longer one would have to be written.
 ///
-/// Opened, the files showed names with the messages of their queues, and the floor stands for those. Of a record only its size is read, so that its body is a
-/// message's is told where what the files have are bytes.
+/// Where it succeeds, names with the messages of their queues were there to be found, and the floor stands for them. Of a record it reads the size alone: that
+/// each body is the bytes of a message holds where the numbers in the files are bytes.
 ///
 /// After a refusal an opening finds what it would have found before, or the same with the next epoch, and the kit's journal is as it was. Files that were set
 /// aside stay so. The journal has no entry, and none aside; the options are in their ranges.

@@ -1,13 +1,13 @@
 -- A text is pairs in one way.
-use Rattle.std.proofs.Common.{◌≡◌, ◌≢◌, ℕ, zero, suc, ◌+◌, ◌-◌, ◌*◌, ◌^◌, ◌<◌, ◌≤◌, true, false, List, [], ◌∷◌, ◌++◌, Option, None, Some, length, take, drop, get_or, refl, sym, ap, ap₂, subst, ◌∙◌, arith}
+use Rattle.std.proofs.Common.{◌≡◌, ◌≢◌, ℕ, ◌+◌, ◌-◌, ◌*◌, ◌<◌, ◌≤◌, true, List, [], ◌∷◌, ◌++◌, None, Some, length, take, drop, refl, sym, ap, ap₂, subst, ◌∙◌, arith}
 use Rattle.std.specs.Prelude.{slice_get}
 use Rattle.std.specs.Char.{is_ascii_digit}
-use Rattle.std.specs.List.{AllByRecursion, AllPass}
+use Rattle.std.specs.List.{AllByRecursion}
 use Rattle.std.specs.Str.Parse.{digits_value}
 use Rattle.std.proofs.lemmas.Bool.{false≢true}
 use Rattle.std.proofs.lemmas.List.{take-append-drop, drop_at, drop-drop, length-append, length-drop, length-take-le, take_rest, drop_all}
 use Rattle.std.proofs.lemmas.List.Elements.{recursion_from_All}
-use Rattle.nsqd_words.specs.Durations.{IsDuration, IsPair, Pair, pair_time, spelled, total_time, unit_name, unit_time}
+use Rattle.nsqd_words.specs.Durations.{IsDuration, IsPair, Pair, spelled, total_time, unit_name, unit_time}
 use Rattle.nsqd_words.specs.Numbers.{AreDigits}
 use Rattle.nsqd_words.specs.Parts.{ArePairs, BeginsNoDigit, BeginsUnit, GoesOn, IsCut, IsFirst, LeadDigits}
 use Rattle.nsqd_words.specs.declared.durations.Measured.{Measured}

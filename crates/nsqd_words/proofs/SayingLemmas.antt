@@ -1,5 +1,5 @@
 -- What the words say, from what clap finds in them.
-use Rattle.std.proofs.Common.{◌≡◌, ◌≢◌, ℕ, ◌<◌, List, [], ◌∷◌, Option, None, Some, Result, Ok, Err, refl, sym, ap, subst, ◌∙◌, inl, inr, Bool, true, map, zero, suc, length, get_or, arith, ◌≤◌}
+use Rattle.std.proofs.Common.{◌≡◌, ℕ, ◌<◌, List, [], ◌∷◌, Option, None, Some, refl, sym, ap, subst, ◌∙◌, inl, inr, Bool, true, map, zero, suc, length, get_or, arith, ◌≤◌}
 use Rattle.std.specs.Prelude.{◌⊎◌, ◌↔◌, IsTrue, MatchOption, SomeIff, option_map, slice_get}
 use Rattle.std.specs.Str.{bytes_eq}
 use Rattle.std.proofs.lemmas.Option.{none-some, same_Some, slice_get-map, slice_get_past}
@@ -23,7 +23,7 @@ use Rattle.nsqd_words.specs.Command.{HasOneAtMost, Words, found_in, nsqd_app, re
 use Rattle.nsqd_words.specs.Durations.{IsDuration}
 use Rattle.nsqd_words.specs.Numbers.{AreDigits, FindsBelow, IsNumber}
 use Rattle.nsqd_words.specs.Parts.{AsksByFound, AsksByKind, AsksClap, FindsOptions, with_sizes, with_texts, with_times}
-use Rattle.nsqd_words.specs.Requests.{Asks, AsksDrill, IsForClap, IsUnknown, bad_drill, bad_value, refused}
+use Rattle.nsqd_words.specs.Requests.{Asks, AsksDrill, AsksHelp, AsksVersion, SaysOptions, IsForClap, IsUnknown, bad_drill, bad_value, refused}
 use Rattle.nsqd_words.specs.Saying.{IsSameText, IsValue, SaysSizes, SaysTexts, SaysTimes, SaysValues}
 use Rattle.nsqd_words.specs.declared.options.Sizes.{Sizes}
 use Rattle.nsqd_words.specs.declared.options.Texts.{Texts}
@@ -187,3 +187,35 @@ is_word text xs k x d b l e f =
 -- no word is, where there are too few
 pub no_word : {X : Type 0} (text : X → Text) (xs : List X) (k : ℕ) (d : Text) → length xs ≤ k → slice_get (map text xs) k ≡ Some d → ⊥
 no_word text xs k d l e = none-some d (sym (slice_get-map text xs k ∙ ap (option_map text) (slice_get_past xs k l)) ∙ e)
+
+nil_or_one : (k : ErrorKind) → [] ≡ k ∷ [] → ⊥
+nil_or_one k e = cc
+
+same_kind : (k l : ErrorKind) → k ∷ [] ≡ l ∷ [] → k ≡ l
+same_kind k l e = cc
+
+-- words that say options in their ranges aren't unknown
+options_known : (words : Words) (o : Options) → SaysOptions words o → IsInRange o → IsUnknown words → ⊥
+options_known words o s i (bad_drill b) = s.for_clap b.begins
+options_known words o s i (refused b) = absurd (nil_or_one b.why (sym s.taken ∙ b.refused))
+options_known words o s i (bad_value b) = b.bad o s.values i
+
+-- words that ask for help aren't
+help_known : (words : Words) → AsksHelp words → IsUnknown words → ⊥
+help_known words h (bad_drill b) = h.for_clap b.begins
+help_known words h (refused b) = b.no_help (same_kind b.why kind.DisplayHelp (sym b.refused ∙ h.asked))
+help_known words h (bad_value b) = nil_or_one kind.DisplayHelp (sym b.taken ∙ h.asked)
+
+-- nor those that ask for the version
+version_known : (words : Words) → AsksVersion words → IsUnknown words → ⊥
+version_known words h (bad_drill b) = h.for_clap b.begins
+version_known words h (refused b) = b.no_version (same_kind b.why kind.DisplayVersion (sym b.refused ∙ h.asked))
+version_known words h (bad_value b) = nil_or_one kind.DisplayVersion (sym b.taken ∙ h.asked)
+
+-- so what unknown words ask for is Unknown
+pub unknown_is_unknown : (words : Words) (asked : Request) → Asks words asked → IsUnknown words → asked ≡ request.Unknown
+unknown_is_unknown words (request.Serve o) h u = absurd (options_known words o h.0 h.1 u)
+unknown_is_unknown words (request.Drill seed count) h u = absurd (drills_known words seed count h u)
+unknown_is_unknown words (request.Help text) h u = absurd (help_known words h u)
+unknown_is_unknown words (request.Version text) h u = absurd (version_known words h.0 u)
+unknown_is_unknown words request.Unknown h u = refl

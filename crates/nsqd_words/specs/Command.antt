@@ -1,5 +1,5 @@
 -- The command that `clap` reads the words for.
-use Rattle.std.specs.Prelude.{ℕ, ◌≡◌, true, List, [], ◌∷◌, Option, Some, None, codes, fold}
+use Rattle.std.specs.Prelude.{ℕ, true, List, [], ◌∷◌, Option, Some, codes, fold}
 use Rattle.clap.specs.Walk.{Rule, Row, Text, first_of}
 use Rattle.clap.specs.Simple.{App, matches_of, new_app, new_rule, on_top, with_rule}
 use Rattle.clap.specs.Kinds.{Kinds}

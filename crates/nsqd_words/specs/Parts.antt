@@ -11,8 +11,7 @@ use Rattle.nsq_base.specs.Options.{AreSizesInRange, AreTimesInRange, IsInRange, 
 use Rattle.nsq_base.specs.declared.options.Options.{Options}
 use Rattle.nsqd_words.specs.Command.{with_option}
 use Rattle.nsqd_words.specs.Durations.{IsPair, Pair, spelled, total_time, unit_name}
-use Rattle.nsqd_words.specs.Numbers.{FindsBelow}
-use Rattle.nsqd_words.specs.Saying.{SaysSizes, SaysTexts, SaysTimes, SaysValues}
+use Rattle.nsqd_words.specs.Saying.{SaysSizes, SaysTimes, SaysValues}
 use Rattle.nsqd_words.specs.declared.durations.Measured.{Measured}
 use Rattle.nsqd_words.specs.declared.durations.TimeUnit.{TimeUnit}
 use Rattle.nsqd_words.specs.declared.durations.TimeUnit.TheVariants.{Minute}

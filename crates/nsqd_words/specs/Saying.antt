@@ -1,5 +1,5 @@
 -- The options that the words say.
-use Rattle.std.specs.Prelude.{ℕ, ◌≡◌, false, List, Option, Some, None, codes}
+use Rattle.std.specs.Prelude.{ℕ, ◌≡◌, List, Option, Some, None, codes}
 use Rattle.clap.specs.Walk.{Row, Text}
 use Rattle.nsq_base.specs.Options.{default_options}
 use Rattle.nsq_base.specs.declared.options.Options.{Options}

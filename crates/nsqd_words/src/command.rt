@@ -19,16 +19,21 @@ pub(crate) fn nsqd_command<'a>(alloc: Global) -> Result<Command<'a>, AllocError>
 fn bare_command<'a>(alloc: Global) -> Command<'a>
     ensures { app_of result ≡ bare_app }
 {
-    Command::new(alloc, "nsqd")
-        .version("1.0.0")
-        .about("The NSQ daemon: it takes messages, and delivers them to those who subscribed. `nsqd drill SEED COUNT` runs a drill.")
+    Command::new(alloc, "nsqd").version("1.0.0").about(
+        "The NSQ daemon: it takes messages, and delivers them to those who subscribed. `nsqd drill SEED COUNT` runs a drill.",
+    )
 }
 
 // The command with its options that are texts.
 fn with_texts<'a>(alloc: Global, command: Command<'a>) -> Result<Command<'a>, AllocError>
     ensures { IfOk result (λ grown. app_of grown ≡ with_text_options (app_of command.entry)) }
 {
-    let command = add(alloc, command, "tcp-address", "where clients are listened for, HOST:PORT [default: 0.0.0.0:4150]")?;
+    let command = add(
+        alloc,
+        command,
+        "tcp-address",
+        "where clients are listened for, HOST:PORT [default: 0.0.0.0:4150]",
+    )?;
     let command = add(
         alloc,
         command,
@@ -41,7 +46,12 @@ fn with_texts<'a>(alloc: Global, command: Command<'a>) -> Result<Command<'a>, Al
         "broadcast-address",
         "the address that lookup daemons are told, 1 to 65536 bytes [default: 127.0.0.1]",
     )?;
-    add(alloc, command, "data-path", "the folder of the queue files [default: .]")
+    add(
+        alloc,
+        command,
+        "data-path",
+        "the folder of the queue files [default: .]",
+    )
 }
 
 // The command with its options that are sizes and counts.
@@ -66,9 +76,24 @@ fn with_sizes<'a>(alloc: Global, command: Command<'a>) -> Result<Command<'a>, Al
         "sync-every",
         "records after which a queue is saved, 1 to 1000000000 [default: 2500]",
     )?;
-    let command = add(alloc, command, "max-msg-size", "most bytes of a message, 1 to 16777216 [default: 1048576]")?;
-    let command = add(alloc, command, "max-body-size", "most bytes of a command's body, 1 to 268435456 [default: 5242880]")?;
-    add(alloc, command, "max-rdy-count", "most messages in flight to a client, 1 to 100000 [default: 2500]")
+    let command = add(
+        alloc,
+        command,
+        "max-msg-size",
+        "most bytes of a message, 1 to 16777216 [default: 1048576]",
+    )?;
+    let command = add(
+        alloc,
+        command,
+        "max-body-size",
+        "most bytes of a command's body, 1 to 268435456 [default: 5242880]",
+    )?;
+    add(
+        alloc,
+        command,
+        "max-rdy-count",
+        "most messages in flight to a client, 1 to 100000 [default: 2500]",
+    )
 }
 
 // The command with its options that are durations.
@@ -93,7 +118,12 @@ fn with_times<'a>(alloc: Global, command: Command<'a>) -> Result<Command<'a>, Al
         "max-msg-timeout",
         "most time that a client may ask for, 1ms to 8760h [default: 15m]",
     )?;
-    let command = add(alloc, command, "max-req-timeout", "longest delay of a message, 1ms to 8760h [default: 1h]")?;
+    let command = add(
+        alloc,
+        command,
+        "max-req-timeout",
+        "longest delay of a message, 1ms to 8760h [default: 1h]",
+    )?;
     add(
         alloc,
         command,
@@ -103,7 +133,12 @@ fn with_times<'a>(alloc: Global, command: Command<'a>) -> Result<Command<'a>, Al
 }
 
 // The command with one option more, which takes one value.
-fn add<'a>(alloc: Global, command: Command<'a>, name: &'a str, help: &'a str) -> Result<Command<'a>, AllocError>
+fn add<'a>(
+    alloc: Global,
+    command: Command<'a>,
+    name: &'a str,
+    help: &'a str,
+) -> Result<Command<'a>, AllocError>
     ensures { IfOk result (λ grown. app_of grown ≡ with_option (app_of command.entry) name.entry.now) }
 {
     let option = Arg::new(alloc, name)

@@ -2,7 +2,10 @@ ghost use Rattle.std.specs.Prelude.{◌≡◌, ℕ};
 ghost use Rattle.nsq_base.specs.Options.{IsInRange};
 ghost use Rattle.nsq_base.specs.declared.options.Options.{Options};
 ghost use Rattle.nsqd_words.specs.Command.{HasOneAtMost, Words, refusal_of};
-ghost use Rattle.nsqd_words.specs.Requests.{AsksDrill, AsksHelp, AsksVersion, IsUnknown, SaysOptions};
+ghost use Rattle.nsqd_words.specs.Plain.{HelpIsAsked, NothingIsFound, OneIsFound, TwiceIsRefused, VersionIsAsked};
+ghost use Rattle.nsqd_words.specs.Requests.{Asks, AsksDrill, AsksHelp, AsksVersion, IsUnknown, SaysOptions};
+ghost use Rattle.nsqd_words.specs.declared.request.Request.{Request};
+ghost use Rattle.nsqd_words.specs.declared.request.Request.TheVariants as request;
 
 /// Words that say options in their ranges aren't unknown. A law, with nothing to run.
 pub fn options_are_known()
@@ -38,4 +41,19 @@ pub fn requests_exclude_each_other()
 /// clap has one kind of refusal at most for any words. A law, with nothing to run.
 pub fn refusals_are_one()
     ensures { (words : Words) → HasOneAtMost (refusal_of words) }
+{}
+
+/// What plain words ask of clap: an option as one word says its value, twice it is refused, and `--help` and `--version` in
+/// front are asked for whatever follows. A law, with nothing to run.
+pub fn plain_words_say_their_values()
+    ensures nothing { NothingIsFound }
+    ensures one { OneIsFound }
+    ensures twice { TwiceIsRefused }
+    ensures help { HelpIsAsked }
+    ensures version { VersionIsAsked }
+{}
+
+/// What words that are unknown ask for is Unknown. A law, with nothing to run.
+pub fn unknown_words_are_unknown()
+    ensures { (words : Words) (asked : Request) → Asks words asked → IsUnknown words → asked ≡ request.Unknown }
 {}

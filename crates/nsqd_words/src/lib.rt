@@ -13,8 +13,8 @@ mod request;
 
 pub use durations::{TimeUnit, read_duration};
 pub use laws::{
-    options_are_known, options_are_one, other_requests_are_known, refusals_are_one,
-    requests_exclude_each_other,
+    options_are_known, options_are_one, other_requests_are_known, plain_words_say_their_values,
+    refusals_are_one, requests_exclude_each_other, unknown_words_are_unknown,
 };
 pub use numbers::read_number;
 pub use reading::read_words;

@@ -42,7 +42,10 @@ struct Times {
 }
 
 /// The options that clap's matches say, each in its range. None where those that they say aren't in their ranges.
-pub(crate) fn read_options(alloc: Global, matches: &ArgMatches<'_>) -> Result<Option<Options>, Memory>
+pub(crate) fn read_options(
+    alloc: Global,
+    matches: &ArgMatches<'_>,
+) -> Result<Option<Options>, Memory>
     ensures { IfOk result (FindsOptions (rows_of (found_of matches.now))) }
 {
     let Some(sizes) = read_sizes(matches) else {
@@ -84,7 +87,11 @@ fn put_together(alloc: Global, texts: Texts, sizes: Sizes, times: Times) -> Opti
 fn in_range(options: Options) -> Option<Options>
     ensures { MatchOption result (IsInRange options → ⊥) (λ o. (o ≡ options) × IsInRange options) }
 {
-    if options.in_range() { Some(options) } else { None }
+    if options.in_range() {
+        Some(options)
+    } else {
+        None
+    }
 }
 
 // The options that are texts, in their ranges or not.
@@ -147,7 +154,8 @@ fn read_times(matches: &ArgMatches<'_>) -> Option<Times>
     let Some(max_req_timeout) = duration(matches, "max-req-timeout", HOUR) else {
         return None;
     };
-    let Some(max_heartbeat_interval) = duration(matches, "max-heartbeat-interval", 60 * SECOND) else {
+    let Some(max_heartbeat_interval) = duration(matches, "max-heartbeat-interval", 60 * SECOND)
+    else {
         return None;
     };
     Some(Times {

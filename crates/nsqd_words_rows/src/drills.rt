@@ -1,18 +1,15 @@
 //! Drills.
 
-use crate::held::wrong_row;
-use nsq_base::Memory;
-
-// Drills that are run.
-const RIGHT: &str = "\
+/// Drills that are run.
+pub const RIGHT: &str = "\
     nsqd drill 7 10 => drill 7 10\n\
     nsqd drill 0 0 => drill 0 0\n\
     nsqd drill 576460752303423488 100000 => drill 576460752303423488 100000\n\
     nsqd drill 000000000000000007 000000000000000010 => drill 7 10\n\
     drill drill 1 2 => drill 1 2";
 
-// Words of a drill that aren't right.
-const WRONG: &str = "\
+/// Words of a drill that aren't right.
+pub const WRONG: &str = "\
     nsqd drill => unknown\n\
     nsqd drill 7 => unknown\n\
     nsqd drill 7 10 1 => unknown\n\
@@ -32,17 +29,3 @@ const WRONG: &str = "\
     nsqd --sync-every=5 drill 7 10 => unknown\n\
     nsqd Drill 7 10 => unknown\n\
     drill 7 10 => unknown";
-
-#[test]
-fn right(rt: HostRuntime) -> Result<(), Memory> {
-    let wrong = wrong_row(rt.alloc(), RIGHT)?;
-    assert!(rt; wrong.is_none(), "{}", wrong.unwrap_or(""));
-    Ok(())
-}
-
-#[test]
-fn wrong(rt: HostRuntime) -> Result<(), Memory> {
-    let wrong = wrong_row(rt.alloc(), WRONG)?;
-    assert!(rt; wrong.is_none(), "{}", wrong.unwrap_or(""));
-    Ok(())
-}

@@ -1,10 +1,7 @@
 //! Durations.
 
-use crate::held::wrong_row;
-use nsq_base::Memory;
-
-// Durations that are said, in both forms, and the ends of their ranges.
-const SAID: &str = "\
+/// Durations that are said, in both forms, and the ends of their ranges.
+pub const SAID: &str = "\
     nsqd --msg-timeout=1m30s => serve msg-timeout=90000000000\n\
     nsqd --msg-timeout 1m30s => serve msg-timeout=90000000000\n\
     nsqd --msg-timeout=1ms => serve msg-timeout=1000000\n\
@@ -23,8 +20,8 @@ const SAID: &str = "\
     nsqd --max-heartbeat-interval=1s => serve max-heartbeat-interval=1000000000\n\
     nsqd --max-heartbeat-interval 8760h => serve max-heartbeat-interval=31536000000000000";
 
-// Pairs in any order and number.
-const PAIRS: &str = "\
+/// Pairs in any order and number.
+pub const PAIRS: &str = "\
     nsqd --sync-timeout=1h1h => serve sync-timeout=7200000000000\n\
     nsqd --sync-timeout=1h2m3s4ms => serve sync-timeout=3723004000000\n\
     nsqd --sync-timeout=4ms3s2m1h => serve sync-timeout=3723004000000\n\
@@ -37,8 +34,8 @@ const PAIRS: &str = "\
     nsqd --max-heartbeat-interval=1000ms => serve max-heartbeat-interval=1000000000\n\
     nsqd --max-heartbeat-interval=999ms1ms => serve max-heartbeat-interval=1000000000";
 
-// Durations one beyond an end of a range, and what 64 bits would make of greater ones.
-const BEYOND: &str = "\
+/// Durations one beyond an end of a range, and what 64 bits would make of greater ones.
+pub const BEYOND: &str = "\
     nsqd --msg-timeout=16m => unknown\n\
     nsqd --msg-timeout=15m1ms => unknown\n\
     nsqd --msg-timeout=0s => unknown\n\
@@ -56,8 +53,8 @@ const BEYOND: &str = "\
     nsqd --sync-timeout=999999999999h => unknown\n\
     nsqd --sync-timeout=18446744073s18446744074s => unknown";
 
-// Texts that are no durations.
-const NO_DURATIONS: &str = "\
+/// Texts that are no durations.
+pub const NO_DURATIONS: &str = "\
     nsqd --sync-timeout=5 => unknown\n\
     nsqd --sync-timeout=0 => unknown\n\
     nsqd --sync-timeout= => unknown\n\
@@ -80,31 +77,3 @@ const NO_DURATIONS: &str = "\
     nsqd --max-msg-timeout=x => unknown\n\
     nsqd --max-req-timeout=x => unknown\n\
     nsqd --max-heartbeat-interval=x => unknown";
-
-#[test]
-fn said(rt: HostRuntime) -> Result<(), Memory> {
-    let wrong = wrong_row(rt.alloc(), SAID)?;
-    assert!(rt; wrong.is_none(), "{}", wrong.unwrap_or(""));
-    Ok(())
-}
-
-#[test]
-fn pairs(rt: HostRuntime) -> Result<(), Memory> {
-    let wrong = wrong_row(rt.alloc(), PAIRS)?;
-    assert!(rt; wrong.is_none(), "{}", wrong.unwrap_or(""));
-    Ok(())
-}
-
-#[test]
-fn beyond(rt: HostRuntime) -> Result<(), Memory> {
-    let wrong = wrong_row(rt.alloc(), BEYOND)?;
-    assert!(rt; wrong.is_none(), "{}", wrong.unwrap_or(""));
-    Ok(())
-}
-
-#[test]
-fn no_durations(rt: HostRuntime) -> Result<(), Memory> {
-    let wrong = wrong_row(rt.alloc(), NO_DURATIONS)?;
-    assert!(rt; wrong.is_none(), "{}", wrong.unwrap_or(""));
-    Ok(())
-}

@@ -14,6 +14,8 @@ mod numbers;
 #[cfg(test)]
 mod others;
 #[cfg(test)]
+mod tables;
+#[cfg(test)]
 mod texts;
 #[cfg(test)]
 mod told;

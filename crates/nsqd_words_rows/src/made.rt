@@ -30,18 +30,16 @@ fn is_served(request: Request) -> bool {
     }
 }
 
-#[test]
-fn no_words(rt: HostRuntime) -> Result<(), Memory> {
-    let served = nothing(rt.alloc())?;
-    assert!(rt; served);
-    Ok(())
+// What is made.
+fn is_right(alloc: Global) -> Result<bool, Memory> {
+    let fits = is_served(addressed(alloc, 65_536)?);
+    let is_too_long = !is_served(addressed(alloc, 65_537)?);
+    Ok(nothing(alloc)? && fits && is_too_long)
 }
 
 #[test]
-fn long_addresses(rt: HostRuntime) -> Result<(), Memory> {
-    let fits = is_served(addressed(rt.alloc(), 65_536)?);
-    assert!(rt; fits);
-    let is_too_long = !is_served(addressed(rt.alloc(), 65_537)?);
-    assert!(rt; is_too_long);
+fn made(rt: HostRuntime) -> Result<(), Memory> {
+    let is_right = is_right(rt.alloc())?;
+    assert!(rt; is_right);
     Ok(())
 }

@@ -1,10 +1,7 @@
 //! Sizes and counts.
 
-use crate::held::wrong_row;
-use nsq_base::Memory;
-
-// Sizes and counts that are said, in both forms, and the ends of their ranges.
-const SAID: &str = "\
+/// Sizes and counts that are said, in both forms, and the ends of their ranges.
+pub const SAID: &str = "\
     nsqd --mem-queue-size=5 => serve mem-queue-size=5\n\
     nsqd --mem-queue-size 5 => serve mem-queue-size=5\n\
     nsqd --mem-queue-size=0 => serve mem-queue-size=0\n\
@@ -25,8 +22,8 @@ const SAID: &str = "\
     nsqd --sync-every=000000000000000007 => serve sync-every=7\n\
     nsqd --sync-every=3 --mem-queue-size 4 --max-rdy-count=5 => serve mem-queue-size=4 sync-every=3 max-rdy-count=5";
 
-// Numbers one beyond an end of a range, and what 32 bits would make of greater ones.
-const BEYOND: &str = "\
+/// Numbers one beyond an end of a range, and what 32 bits would make of greater ones.
+pub const BEYOND: &str = "\
     nsqd --mem-queue-size=1000001 => unknown\n\
     nsqd --max-bytes-per-file=0 => unknown\n\
     nsqd --max-bytes-per-file=1099511627777 => unknown\n\
@@ -43,8 +40,8 @@ const BEYOND: &str = "\
     nsqd --max-rdy-count=4294967297 => unknown\n\
     nsqd --sync-every=999999999999999999 => unknown";
 
-// Texts that are no numbers.
-const NO_NUMBERS: &str = "\
+/// Texts that are no numbers.
+pub const NO_NUMBERS: &str = "\
     nsqd --mem-queue-size=x => unknown\n\
     nsqd --mem-queue-size= => unknown\n\
     nsqd --mem-queue-size=-1 => unknown\n\
@@ -62,24 +59,3 @@ const NO_NUMBERS: &str = "\
     nsqd --max-body-size=x => unknown\n\
     nsqd --max-rdy-count=x => unknown\n\
     nsqd --max-bytes-per-file=x => unknown";
-
-#[test]
-fn said(rt: HostRuntime) -> Result<(), Memory> {
-    let wrong = wrong_row(rt.alloc(), SAID)?;
-    assert!(rt; wrong.is_none(), "{}", wrong.unwrap_or(""));
-    Ok(())
-}
-
-#[test]
-fn beyond(rt: HostRuntime) -> Result<(), Memory> {
-    let wrong = wrong_row(rt.alloc(), BEYOND)?;
-    assert!(rt; wrong.is_none(), "{}", wrong.unwrap_or(""));
-    Ok(())
-}
-
-#[test]
-fn no_numbers(rt: HostRuntime) -> Result<(), Memory> {
-    let wrong = wrong_row(rt.alloc(), NO_NUMBERS)?;
-    assert!(rt; wrong.is_none(), "{}", wrong.unwrap_or(""));
-    Ok(())
-}

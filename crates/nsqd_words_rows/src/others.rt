@@ -1,10 +1,7 @@
 //! All other words.
 
-use crate::held::wrong_row;
-use nsq_base::Memory;
-
-// Words that ask for something.
-const RIGHT: &str = "\
+/// Words that ask for something.
+pub const RIGHT: &str = "\
     nsqd => serve\n\
     nsqd -- => serve\n\
     nsqd --help => help\n\
@@ -18,8 +15,8 @@ const RIGHT: &str = "\
     nsqd --help --version => help\n\
     nsqd --version --help => version";
 
-// An option is given once.
-const REPEATED: &str = "\
+/// An option is given once.
+pub const REPEATED: &str = "\
     nsqd --mem-queue-size=5 --mem-queue-size=5 => unknown\n\
     nsqd --mem-queue-size=5 --mem-queue-size 6 => unknown\n\
     nsqd --mem-queue-size 5 --sync-every=3 --mem-queue-size=5 => unknown\n\
@@ -27,8 +24,8 @@ const REPEATED: &str = "\
     nsqd --msg-timeout=1m --msg-timeout=1m => unknown\n\
     nsqd --data-path=a --data-path=a => unknown";
 
-// Words that nothing is known of.
-const WRONG: &str = "\
+/// Words that nothing is known of.
+pub const WRONG: &str = "\
     nsqd --http-stop => unknown\n\
     nsqd --http-stop=true => unknown\n\
     nsqd --lookupd-tcp-address=127.0.0.1:4160 => unknown\n\
@@ -52,24 +49,3 @@ const WRONG: &str = "\
     nsqd --sync-every 5 6 => unknown\n\
     nsqd --version=3 => unknown\n\
     nsqd --help=x => unknown";
-
-#[test]
-fn right(rt: HostRuntime) -> Result<(), Memory> {
-    let wrong = wrong_row(rt.alloc(), RIGHT)?;
-    assert!(rt; wrong.is_none(), "{}", wrong.unwrap_or(""));
-    Ok(())
-}
-
-#[test]
-fn repeated(rt: HostRuntime) -> Result<(), Memory> {
-    let wrong = wrong_row(rt.alloc(), REPEATED)?;
-    assert!(rt; wrong.is_none(), "{}", wrong.unwrap_or(""));
-    Ok(())
-}
-
-#[test]
-fn wrong(rt: HostRuntime) -> Result<(), Memory> {
-    let wrong = wrong_row(rt.alloc(), WRONG)?;
-    assert!(rt; wrong.is_none(), "{}", wrong.unwrap_or(""));
-    Ok(())
-}

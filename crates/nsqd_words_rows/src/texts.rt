@@ -1,10 +1,7 @@
 //! Addresses and the data path.
 
-use crate::held::wrong_row;
-use nsq_base::Memory;
-
-// Texts that are said, in both forms.
-const SAID: &str = "\
+/// Texts that are said, in both forms.
+pub const SAID: &str = "\
     nsqd --tcp-address=127.0.0.1:4150 => serve tcp-address=127.0.0.1:4150\n\
     nsqd --tcp-address localhost:1 => serve tcp-address=localhost:1\n\
     nsqd --tcp-address=:65535 => serve tcp-address=:65535\n\
@@ -20,8 +17,8 @@ const SAID: &str = "\
     nsqd --data-path=--help => serve data-path=--help\n\
     nsqd --tcp-address=:1 --http-address=:2 --data-path=d --broadcast-address=b => serve tcp-address=:1 http-address=:2 broadcast-address=b data-path=d";
 
-// Texts that aren't right for their options.
-const WRONG: &str = "\
+/// Texts that aren't right for their options.
+pub const WRONG: &str = "\
     nsqd --tcp-address= => unknown\n\
     nsqd --tcp-address=x => unknown\n\
     nsqd --tcp-address=localhost => unknown\n\
@@ -37,17 +34,3 @@ const WRONG: &str = "\
     nsqd --broadcast-address= => unknown\n\
     nsqd --data-path= => unknown\n\
     nsqd --data-path  => unknown";
-
-#[test]
-fn said(rt: HostRuntime) -> Result<(), Memory> {
-    let wrong = wrong_row(rt.alloc(), SAID)?;
-    assert!(rt; wrong.is_none(), "{}", wrong.unwrap_or(""));
-    Ok(())
-}
-
-#[test]
-fn wrong(rt: HostRuntime) -> Result<(), Memory> {
-    let wrong = wrong_row(rt.alloc(), WRONG)?;
-    assert!(rt; wrong.is_none(), "{}", wrong.unwrap_or(""));
-    Ok(())
-}

@@ -72,11 +72,15 @@ fn version(alloc: Global, text: &str) -> Result<Vec<u8>, Memory> {
 fn serve(alloc: Global, options: &Options) -> Result<Vec<u8>, Memory> {
     let defaults = Options::defaults(alloc)?;
     let mut text = word(alloc, "serve")?;
-    append_texts(&mut text, options, &defaults)?;
-    append_sizes(&mut text, options, &defaults)?;
-    append_times(&mut text, options, &defaults)?;
-    append_rest(&mut text, options, &defaults)?;
+    append_options(&mut text, options, &defaults)?;
     Ok(text)
+}
+
+fn append_options(text: &mut Vec<u8>, options: &Options, defaults: &Options) -> Result<(), Memory> {
+    append_texts(text, options, defaults)?;
+    append_sizes(text, options, defaults)?;
+    append_times(text, options, defaults)?;
+    append_rest(text, options, defaults)
 }
 
 fn append_texts(text: &mut Vec<u8>, options: &Options, defaults: &Options) -> Result<(), Memory> {

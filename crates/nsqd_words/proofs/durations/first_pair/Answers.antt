@@ -1,4 +1,4 @@
-use Rattle.std.proofs.Common.{List, ℕ, None, ◌≡◌, ◌*◌, ap₂, sym, subst, ◌∙◌, arith}
+use Rattle.std.proofs.Common.{List, ℕ, None, ◌≡◌, ◌*◌, ap₂, subst, ◌∙◌, arith}
 use Rattle.std.specs.Prelude.{◌^◌, ◌+◌}
 use Rattle.std.proofs.lemmas.List.{take_rest}
 use Rattle.nsqd_words.specs.Parts.{BeginsUnit}

@@ -1,4 +1,4 @@
-use Rattle.std.proofs.Common.{List, ℕ, ◌<◌, ◌≡◌, subst, drop, sym, arith}
+use Rattle.std.proofs.Common.{List, ℕ, ◌<◌, subst, drop, sym, arith}
 use Rattle.std.specs.Prelude.{◌^◌}
 use Rattle.std.proofs.lemmas.List.{length-drop, take_rest}
 use borrow.Author.Tests.{eqb-true}

@@ -1,4 +1,4 @@
-use Rattle.std.proofs.Common.{◌≡◌, ◌+◌, ℕ, true, get_or, sym, arith}
+use Rattle.std.proofs.Common.{◌≡◌, ℕ, true, get_or, sym, arith}
 use Rattle.std.specs.Char.{is_ascii_digit}
 use Rattle.std.proofs.lemmas.List.Elements.{All-more}
 use Rattle.nsqd_words.proofs.NumberLemmas.{power_small, small_more, value_more}

@@ -1,8 +1,7 @@
 use Rattle.std.proofs.Common.{refl}
-use Rattle.std.specs.Prelude.{◌^◌, SomeIff}
-use Rattle.std.specs.Str.Parse.{digits_value}
+use Rattle.std.specs.Prelude.{◌^◌}
 use Rattle.clap.specs.Matches.{found_of}
-use Rattle.nsqd_words.specs.Numbers.{AreDigits, IsNumber}
+use Rattle.nsqd_words.specs.Numbers.{IsNumber}
 use Rattle.nsqd_words.proofs.SayingLemmas.{finds_number, finds_value, value_absent}
 use Rattle.nsqd_words.proofs.options.number.Goals as goal
 

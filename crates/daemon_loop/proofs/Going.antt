@@ -1,9 +1,8 @@
 -- Turns of several connections, one after another, and what is saved between them.
-use Rattle.std.proofs.Common.{◌≡◌, ◌≤◌, ℕ, Bool, [], ◌++◌, refl, sym, ◌∙◌, ap, subst, arith, append_assoc}
+use Rattle.std.proofs.Common.{◌≡◌, ◌≤◌, ℕ, Bool, [], ◌++◌, refl, sym, ◌∙◌, ap, arith, append_assoc}
 use Rattle.std.specs.Prelude.{IsTrue}
 use Rattle.std.proofs.lemmas.Bool.{false≢true}
 use Rattle.std.proofs.lemmas.List.{append-nil}
-use Rattle.nsq_outside.specs.Files.{Files}
 use Rattle.queue_files.specs.Replaced.{OnlyTwoChange}
 use Rattle.path_image.specs.Data.{data_name, temp_name}
 use Rattle.broker_history.specs.State.{State}
@@ -15,13 +14,13 @@ use Rattle.desk.specs.Calls.{has_began}
 use Rattle.floor_rooms.specs.Standing.{HoldsFor}
 use Rattle.turn_laws.proofs.Laying.{timed_join}
 use Rattle.turn_laws.proofs.Faulting.{faults_join, stuck_join}
-use Rattle.floor_turns.specs.Scenes.{IsAt, Scene, Stands}
+use Rattle.floor_turns.specs.Scenes.{Scene}
 use Rattle.floor_turns.specs.Leads.{Leads, LedTo, Times}
 use Rattle.broker_floor.specs.Held.{Held}
 use Rattle.path_closing.specs.Closings.{HeldBehind}
 use Rattle.path_closing.specs.declared.saving.Saved.{Saved}
 use Rattle.path_closing.specs.declared.saving.Saved.TheVariants as saved
-use Rattle.daemon_loop.specs.Going.{OnlyRunFiles, Went}
+use Rattle.daemon_loop.specs.Going.{Went}
 
 -- one led to the next
 led_on : (a b c : Scene) (s : State) (p : LedTo a b s) → LedTo b c p.to → LedTo a c s

@@ -1,5 +1,5 @@
 -- Rounds of the loop over the callers, one step at a time.
-use Rattle.std.proofs.Common.{inl, inr, ℕ, ◌≡◌, ◌≢◌, ◌≤◌, ◌<◌, ◌+◌, ◌++◌, ◌∷◌, [], List, Bool, true, false, refl, sym, ◌∙◌, ap, subst, arith, append_assoc}
+use Rattle.std.proofs.Common.{inl, inr, ℕ, ◌≡◌, ◌≢◌, ◌≤◌, ◌<◌, ◌+◌, ◌++◌, ◌∷◌, [], List, Bool, true, false, refl, sym, ◌∙◌, ap, subst, arith}
 use Rattle.std.specs.Prelude.{IsTrue}
 use Rattle.std.specs.List.{AllByRecursion}
 use Rattle.std.proofs.lemmas.Bool.{false≢true}
@@ -20,7 +20,7 @@ use Rattle.turn_laws.specs.Laid.{AreActsFor, IsLaid}
 use Rattle.turn_laws.specs.Laws.{IsOf}
 use Rattle.turn_laws.proofs.Laying.{turns_of}
 use Rattle.floor_turns.specs.Scenes.{Scene}
-use Rattle.floor_turns.specs.Leads.{AddsTurns, Leads}
+use Rattle.floor_turns.specs.Leads.{Leads}
 use Rattle.floor_turns.specs.Turns.{IsTurn}
 use Rattle.floor_turns.proofs.Leading.{turn_leads}
 use Rattle.daemon_loop.specs.Going.{Went}

@@ -1,4 +1,4 @@
-ghost use Rattle.std.specs.Prelude.{◌≡◌, ◌≤◌, [], IsTrue, false};
+ghost use Rattle.std.specs.Prelude.{◌≡◌, [], IsTrue, false};
 ghost use Rattle.nsq_outside.specs.Causes.{Rose};
 ghost use Rattle.nsq_outside.specs.Hosts.{OnlyAcceptFaults};
 ghost use Rattle.desk.specs.Calls.{AreAllowed};
@@ -84,10 +84,7 @@ pub fn serve_callers<R: Wait, H: Host<Entry>>(
 }
 
 /// Saves the file of names where names changed. A saving that fails is tried again later: the names are still said to be unsaved.
-fn save_changed<F: Folder, C: Clock, J: Journal<Entry>>(
-    alloc: Global,
-    floor: &mut Floor<F, C, J>,
-)
+fn save_changed<F: Folder, C: Clock, J: Journal<Entry>>(alloc: Global, floor: &mut Floor<F, C, J>)
     requires unflushed { floor.old.held.flushed ≡ false }
     ensures unflushed { floor.new.held.flushed ≡ false }
     ensures went { Went J.tells_notes F.tells_files C.tells_readings

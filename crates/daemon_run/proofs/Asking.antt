@@ -1,12 +1,11 @@
 -- What was asked of a host, through the parts of a run.
-use Rattle.std.proofs.Common.{◌≡◌, ◌≢◌, ◌≤◌, inl, inr, ℕ, ◌++◌, ◌∷◌, [], List, refl, sym, ◌∙◌, ap, subst, arith}
-use Rattle.std.specs.Prelude.{◌⊎◌}
+use Rattle.std.proofs.Common.{◌≡◌, ◌≢◌, ◌≤◌, inl, inr, ℕ, List, ◌∙◌, ap, subst, arith}
 use Rattle.nsq_base.specs.declared.options.Options.{Options}
 use Rattle.nsq_outside.specs.Hosts.{HostContent, HostState, Start, Starts}
 use Rattle.nsq_outside.specs.declared.did.Did.{Did}
 use Rattle.nsq_outside.specs.declared.did.Did.TheVariants as did
 use Rattle.daemon_loop.specs.Served.{ListenersFailedLast, OnlyCallersChange}
-use Rattle.daemon_run.specs.Asked.{HasAsked, StartsOnce, start_of}
+use Rattle.daemon_run.specs.Asked.{HasAsked, StartsOnce}
 use Rattle.daemon_run.specs.Runs.{NoCaller}
 use Rattle.daemon_run.proofs.Causes.{rose_wider}
 

@@ -1,7 +1,6 @@
 -- The causes of endings.
 use Rattle.std.proofs.Common.{◌≡◌, ◌≢◌, ◌≤◌, inl, inr, ℕ, Bool, true, false, refl, sym, ◌∙◌, ap, subst, arith}
 use Rattle.std.specs.Prelude.{◌⊎◌, IsTrue}
-use Rattle.std.proofs.lemmas.Bool.{false≢true}
 use Rattle.nsq_outside.specs.Causes.{Rose}
 use Rattle.nsq_outside.specs.Files.{Files}
 use Rattle.path_image.specs.Found.{BadData, EpochSpent, Finding, Found, IsFound, Names}
@@ -14,7 +13,7 @@ use Rattle.path_closing.specs.declared.shutting.ShutEnd.{ShutEnd}
 use Rattle.path_closing.specs.declared.shutting.ShutEnd.TheVariants as shut
 use Rattle.daemon_loop.specs.declared.callers.LoopEnd.{LoopEnd}
 use Rattle.daemon_loop.specs.declared.callers.LoopEnd.TheVariants as loop
-use Rattle.daemon_run.specs.Endings.{ending_of, refusal_of, status_of, FindsNames, IsCaused, IsComplete, IsOrWants}
+use Rattle.daemon_run.specs.Endings.{ending_of, refusal_of, status_of, IsCaused, IsComplete, IsOrWants}
 use Rattle.daemon_run.specs.Runs.{IsShut}
 use Rattle.daemon_run.specs.Sights.{Counts, NoFault}
 use Rattle.daemon_run.specs.declared.ending.ServeEnd.{ServeEnd}
@@ -39,7 +38,7 @@ caused_wider tf tn end.AcceptFailed files k0 k k' k2 p q c = rose_wider k0.accep
 caused_wider tf tn end.Memory files k0 k k' k2 p q c = tt
 
 -- numbers by which endings are told apart
-end_number : ServeEnd → ℕ
+abbrev pub end_number : ServeEnd → ℕ
 end_number end.Clean = 0
 end_number end.BadData = 1
 end_number end.EpochSpent = 2
@@ -78,7 +77,6 @@ module _ (looped : LoopEnd) (stopped : Bool) (shutting : ShutEnd) (ended : Serve
     pub shut_fault : ended ≡ end.StopFault → shutting ≡ shut.Fault
     pub loop_failed : ended ≡ end.AcceptFailed → looped ≡ loop.Failed
     pub loop_wants : looped ≡ loop.Memory → ended ≡ end.Memory
-    pub served : (P : ServeEnd → Type 0) → P end.Clean → P end.StopFault → P end.AcceptFailed → P end.Memory → P ended
 
   from_shut : (a : ServeEnd) (P : Type 0) → ended ≡ a → end_number a ≢ 0 → end_number a ≢ 5 → IsShut ended → P
   from_shut a P e d f (inl s) = absurd (d (ap end_number (sym e ∙ s)))
@@ -87,7 +85,7 @@ module _ (looped : LoopEnd) (stopped : Bool) (shutting : ShutEnd) (ended : Serve
   off : (a b : ServeEnd) (P : Type 0) → ended ≡ a → end_number a ≢ end_number b → ended ≡ b → P
   off a b P e d f = not_same a b P d (sym e ∙ f)
 
-  loop_number : LoopEnd → ℕ
+  abbrev loop_number : LoopEnd → ℕ
   loop_number loop.Halted = 0
   loop_number loop.Failed = 1
   loop_number loop.Stopped = 2
@@ -103,7 +101,6 @@ module _ (looped : LoopEnd) (stopped : Bool) (shutting : ShutEnd) (ended : Serve
     shut_fault = off end.Memory end.StopFault _ e (λ x. absurd (omega (arith, x)));
     loop_failed = off end.Memory end.AcceptFailed _ e (λ x. absurd (omega (arith, x)));
     loop_wants = λ _. e;
-    served = λ P clean fault failed memory. subst P (sym e) memory;
   }
 
   faults : ended ≡ end.StopFault → stopped ≡ true → shutting ≡ shut.Fault → looped ≢ loop.Memory → Parts
@@ -113,7 +110,6 @@ module _ (looped : LoopEnd) (stopped : Bool) (shutting : ShutEnd) (ended : Serve
     shut_fault = λ _. f;
     loop_failed = off end.StopFault end.AcceptFailed _ e (λ x. absurd (omega (arith, x)));
     loop_wants = λ w. absurd (d w);
-    served = λ P clean fault failed memory. subst P (sym e) fault;
   }
 
   fails : ended ≡ end.AcceptFailed → stopped ≡ true → shutting ≡ shut.Clean → looped ≡ loop.Failed → Parts
@@ -123,7 +119,6 @@ module _ (looped : LoopEnd) (stopped : Bool) (shutting : ShutEnd) (ended : Serve
     shut_fault = off end.AcceptFailed end.StopFault _ e (λ x. absurd (omega (arith, x)));
     loop_failed = λ _. l;
     loop_wants = λ w. not_loop loop.Failed loop.Memory _ (λ x. absurd (omega (arith, x))) (sym l ∙ w);
-    served = λ P clean fault failed memory. subst P (sym e) failed;
   }
 
   cleans : ended ≡ end.Clean → stopped ≡ true → shutting ≡ shut.Clean → looped ≢ loop.Memory → Parts
@@ -133,7 +128,6 @@ module _ (looped : LoopEnd) (stopped : Bool) (shutting : ShutEnd) (ended : Serve
     shut_fault = off end.Clean end.StopFault _ e (λ x. absurd (omega (arith, x)));
     loop_failed = off end.Clean end.AcceptFailed _ e (λ x. absurd (omega (arith, x)));
     loop_wants = λ w. absurd (d w);
-    served = λ P clean fault failed memory. subst P (sym e) clean;
   }
 
   parts_by : (l : LoopEnd) (s : Bool) (h : ShutEnd) → looped ≡ l → stopped ≡ s → shutting ≡ h → ended ≡ ending_of l s h → Parts
@@ -151,6 +145,24 @@ module _ (looped : LoopEnd) (stopped : Bool) (shutting : ShutEnd) (ended : Serve
 
   pub parts : Parts
   parts = parts_by looped stopped shutting refl refl refl is
+
+  -- a run that served ends in one of four ways
+  module _ (P : ServeEnd → Type 0) (clean : P end.Clean) (fault : P end.StopFault) (failed : P end.AcceptFailed) (memory : P end.Memory) where
+    served_at : (l : LoopEnd) (s : Bool) (h : ShutEnd) → P (ending_of l s h)
+    served_at l false h = memory
+    served_at loop.Memory true h = memory
+    served_at loop.Halted true shut.Memory = memory
+    served_at loop.Failed true shut.Memory = memory
+    served_at loop.Stopped true shut.Memory = memory
+    served_at loop.Halted true shut.Fault = fault
+    served_at loop.Failed true shut.Fault = fault
+    served_at loop.Stopped true shut.Fault = fault
+    served_at loop.Failed true shut.Clean = failed
+    served_at loop.Halted true shut.Clean = clean
+    served_at loop.Stopped true shut.Clean = clean
+
+    pub served_ends : P ended
+    served_ends = subst P (sym is) (served_at looped stopped shutting)
 
 -- at a clean shutting
 pub at_clean : (shutting : ShutEnd) (P : Type 0) → shutting ≡ shut.Clean → WhereClean shutting P → P

@@ -1,5 +1,5 @@
 -- The callers that were served one after another, as what was handed back says it.
-use Rattle.std.proofs.Common.{◌≡◌, ◌<◌, inl, inr, ℕ, zero, suc, ◌+◌, List, [], ◌∷◌, ◌++◌, Bool, true, length, refl, sym, ◌∙◌, ap, subst, arith, append_assoc, length-append, nat_lt}
+use Rattle.std.proofs.Common.{◌≡◌, ◌<◌, inr, ℕ, zero, suc, ◌+◌, List, [], ◌∷◌, ◌++◌, true, length, refl, sym, ◌∙◌, ap, subst, arith, append_assoc, length-append, nat_lt}
 use Rattle.std.specs.List.{AllByRecursion}
 use Rattle.std.proofs.lemmas.Grind.{common_steps}
 use Rattle.nsq_outside.specs.declared.host.Kind.{Kind}
@@ -9,7 +9,7 @@ use Rattle.daemon_loop.specs.Served.{AreServed, IsServed, Views}
 use Rattle.daemon_run.specs.Callers.{IsHandedBack, numbers_of, one_to}
 
 -- so many numbers from a first one on
-from_to : ℕ → ℕ → List ℕ
+abbrev from_to : ℕ → ℕ → List ℕ
 from_to first zero = []
 from_to first (suc n) = first ∷ from_to (first + 1) n
 

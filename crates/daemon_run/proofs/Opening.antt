@@ -1,5 +1,5 @@
 -- A floor that was opened stands for the state that starts with what was found.
-use Rattle.std.proofs.Common.{◌≡◌, ◌≤◌, ℕ, ◌+◌, [], Bool, false, refl, sym, ◌∙◌, ap, subst}
+use Rattle.std.proofs.Common.{◌≡◌, ◌≤◌, ℕ, ◌+◌, [], false, sym, ap, subst}
 use Rattle.nsq_base.specs.declared.options.Options.{Options}
 use Rattle.path_image.specs.Found.{Found, IsFound, Names}
 use Rattle.broker_history.specs.Entries.{History, own}

@@ -1,19 +1,19 @@
 -- What a run as a whole did, from what its parts did.
-use Rattle.std.proofs.Common.{◌≡◌, ◌≢◌, ◌≤◌, ◌<◌, inl, inr, ℕ, zero, ◌+◌, ◌++◌, ◌∷◌, [], List, Bool, true, false, length, refl, sym, ◌∙◌, ap, subst, arith}
+use Rattle.std.proofs.Common.{◌≡◌, ◌≢◌, ◌≤◌, inl, inr, ℕ, ◌+◌, ◌++◌, ◌∷◌, [], Bool, true, false, length, refl, sym, ◌∙◌, ap, subst, arith}
 use Rattle.std.specs.Prelude.{◌⊎◌, IsTrue, IsPermutation}
 use Rattle.std.specs.List.{AllByRecursion}
 use Rattle.std.proofs.lemmas.Bool.{false≢true}
 use Rattle.std.proofs.lemmas.List.Sorted.{IsPermutation-refl}
 use Rattle.nsq_base.specs.declared.options.Options.{Options}
 use Rattle.nsq_outside.specs.Causes.{Rose}
-use Rattle.nsq_outside.specs.Files.{Files}
 use Rattle.nsq_outside.specs.Hosts.{HostContent}
 use Rattle.nsq_outside.specs.declared.journal.End.{End}
 use Rattle.queue_image.specs.FileNames.IsFileOf.{own as own_file}
 use Rattle.path_image.specs.Found.{Found, IsFound, Names}
 use Rattle.broker_history.specs.declared.entry.Act.{Act}
+use Rattle.broker_history.specs.declared.entry.Act.TheVariants.{Stop}
 use Rattle.broker_history.specs.declared.entry.Entry.{Entry}
-use Rattle.broker_history.specs.Entries.{History, faults_apart, faults_of, has_stop, is_stop, stops_of}
+use Rattle.broker_history.specs.Entries.{History, faults_apart, faults_of, has_stop, is_common, is_stop, stops_of}
 use Rattle.broker_history.specs.Found.{start}
 use Rattle.broker_history.specs.Legal.{Legal}
 use Rattle.broker_history.specs.Moments.{IsTimed, moment_of}
@@ -23,27 +23,26 @@ use Rattle.broker_history.proofs.Timing.{turns_read}
 use Rattle.turn_laws.specs.Laws.{IsOf, RoseBy}
 use Rattle.turn_laws.proofs.Faulting.{apart_few}
 use Rattle.turn_laws.proofs.Laying.{all_both, all_so, turns_of}
-use Rattle.floor_rooms.specs.Standing.{HoldsFor}
 use Rattle.floor_turns.specs.Leads.{LedTo}
 use Rattle.floor_turns.specs.Scenes.{Scene, Stands}
 use Rattle.path_opening.specs.Opening.{HaveBytes, OnlyOpeningFiles}
-use Rattle.path_closing.specs.Closings.{Leaves, ShutChanges}
-use Rattle.daemon_loop.specs.Going.{OnlyRunFiles, Went}
+use Rattle.path_closing.specs.Closings.{Leaves}
+use Rattle.daemon_loop.specs.Going.{Went}
 use Rattle.daemon_loop.specs.Rounds.{WhyOver}
 use Rattle.daemon_loop.specs.Served.{HasServed, Views, ticks_of}
 use Rattle.daemon_loop.specs.declared.callers.LoopEnd.{LoopEnd}
 use Rattle.daemon_loop.specs.declared.callers.LoopEnd.TheVariants as loop
 use Rattle.daemon_loop.proofs.Going.{went_by, went_then}
-use Rattle.daemon_loop.proofs.Others.{common_act, stops-append, ticks-append, up_to_more}
+use Rattle.daemon_loop.proofs.Others.{stops-append, ticks-append, up_to_more}
 use Rattle.daemon_loop.proofs.Handing.{daemon_served}
 use Rattle.daemon_run.specs.Callers.{DaemonStops, HasStopCause, ServesAll, StopsAreCaused, failed, halted, one_to, wants}
 use Rattle.daemon_run.specs.Endings.{FindsNames, IsCaused}
 use Rattle.daemon_run.specs.Parts.{RunsOn}
 use Rattle.daemon_run.specs.Runs.{HasRun, TellsHistory, limits_of}
-use Rattle.daemon_run.specs.Sights.{Counts, Sight}
+use Rattle.daemon_run.specs.Sights.{Sight}
 use Rattle.daemon_run.specs.declared.ending.ServeEnd.{ServeEnd}
 use Rattle.daemon_run.specs.declared.ending.ServeEnd.TheVariants as end
-use Rattle.daemon_run.proofs.Causes.{at_clean, at_fault, parts, rose_wider}
+use Rattle.daemon_run.proofs.Causes.{at_clean, at_fault, parts, rose_wider, served_ends}
 use Rattle.daemon_run.proofs.Numbering.{handed, numbered}
 
 -- rises of counts
@@ -56,17 +55,19 @@ by_one_more m n a b c l r s = omega (arith, l, r, s)
 rose_from : (n a b : ℕ) → RoseBy (n + 1) a b → Rose a b
 rose_from n a b r = omega (arith, r)
 
+common_act : (a : Act) → is_common a ≡ true → is_stop a ≡ false
+common_act Stop h = absurd (false≢true h)
+common_act a h = refl
+
 -- no Stop stands in a history without one
+none_by : (P : Entry × End → Type 0) (e : Entry × End) (h : History) (b : Bool) → is_stop e.0.act ≡ b → stops_of (e ∷ h) ≡ 0 → (stops_of h ≡ 0 → AllByRecursion (λ e. is_stop e.0.act ≡ true → P e) h)
+    → (is_stop e.0.act ≡ true → P e) × AllByRecursion (λ e. is_stop e.0.act ≡ true → P e) h
+none_by P e h true here n rest = let both = stops-append (e ∷ []) h in let one : stops_of (e ∷ []) ≡ 1 = rw here refl in absurd (omega (arith, both, one, n))
+none_by P e h false here n rest = let both = stops-append (e ∷ []) h in (λ is. absurd (false≢true (sym here ∙ is)), rest (omega (arith, both, n)))
+
 none_stops : (P : Entry × End → Type 0) (h : History) → stops_of h ≡ 0 → AllByRecursion (λ e. is_stop e.0.act ≡ true → P e) h
 none_stops P [] n = tt
-none_stops P (e ∷ h) n = go (is_stop e.0.act) refl
-  where
-    both : stops_of (e ∷ h) ≡ stops_of (e ∷ []) + stops_of h
-    both = stops-append (e ∷ []) h
-
-    go : (b : Bool) → is_stop e.0.act ≡ b → (is_stop e.0.act ≡ true → P e) × AllByRecursion (λ e. is_stop e.0.act ≡ true → P e) h
-    go true holds_so = let one : stops_of (e ∷ []) ≡ 1 = rw holds_so refl in absurd (omega (arith, both, one, n))
-    go false fails_so = (λ is. absurd (false≢true (sym fails_so ∙ is)), none_stops P h (omega (arith, both, n)))
+none_stops P (e ∷ h) n = none_by P e h (is_stop e.0.act) refl n (none_stops P h)
 
 module _ {K : Type 0} (ended : ServeEnd) (number accept accept' : ℕ) (content : HostContent K) where
   -- the daemon's own Stops have its cause
@@ -169,13 +170,13 @@ module _ {K : Type 0} (Told : Type 0) (told : Told) (tells_host tells_notes tell
       r.changes files_told file not_names not_temp (λ name named its. none name named (own_file its))
       ∙ went.files files_told file not_names not_temp (λ name named its. none name named (own_file its)) ∙ o.files file not_names not_temp none
 
-  served : HasServed seen (limits_of options) r.number new.notes old.content new.content
+  abbrev served : HasServed seen (limits_of options) r.number new.notes old.content new.content
   served = daemon_served seen (limits_of options) r.number r.middle.notes new.notes daemons old.content new.content (r.rounds.served told) now_whole turns_daemons
 
   count : length served.callers ≡ r.number
   count = served.count
 
-  callers : ServesAll seen (limits_of options) new.notes old.content new.content
+  abbrev callers : ServesAll seen (limits_of options) new.notes old.content new.content
   callers =
       let grown : ticks_of new.notes ≡ ticks_of r.middle.notes + ticks_of daemons = ap ticks_of now_whole ∙ ticks-append r.middle.notes daemons in
       let before = r.rounds.ticks notes_told in
@@ -218,7 +219,7 @@ pub run_caused : {K : Type 0} (Told : Type 0) (tells_host tells_notes tells_file
     → IsCaused ended tells_files tells_notes old.files old.counts new.counts
 run_caused Told th tn tf tr seen options ended old new opened accept accept' found stood low unstuck r =
     let p = parts r.looped r.stopped r.shutting ended r.ended_is in
-    p.served (λ e. ended ≡ e → IsCaused e tf tn old.files old.counts new.counts) (λ is. found) (λ is told tells bytes. rose told tells bytes (at_fault r.last.hall.stuck r.last.faults new.counts.folder r.shutting (p.shut_fault is) r.shut_fails))
+    served_ends r.looped r.stopped r.shutting ended r.ended_is (λ e. ended ≡ e → IsCaused e tf tn old.files old.counts new.counts) (λ is. found) (λ is told tells bytes. rose told tells bytes (at_fault r.last.hall.stuck r.last.faults new.counts.folder r.shutting (p.shut_fault is) r.shut_fails))
     (λ is. r.failed (p.loop_failed is)) (λ is. tt) refl
   where
     went : Went tn tf tr opened r.last

@@ -1,15 +1,13 @@
 -- What is seen of a host whose kit was lent for some work, and taken back.
-use Rattle.std.proofs.Common.{◌≡◌, ◌≤◌, inl, inr, ℕ, zero, suc, ◌+◌, ◌++◌, ◌∷◌, [], List, Bool, true, refl, sym, ◌∙◌, ap, subst, arith, length, map, Option, Some, None, option_map}
-use Rattle.std.specs.Prelude.{◌⊎◌, IfSome, IsTrue}
+use Rattle.std.proofs.Common.{◌≡◌, ◌≤◌, inl, inr, ℕ, zero, suc, ◌+◌, ◌++◌, List, Bool, true, refl, sym, ◌∙◌, ap, subst, arith, length, map, Option, Some, None, option_map}
+use Rattle.std.specs.Prelude.{IfSome}
 use Rattle.std.specs.List.{AllByRecursion}
 use Rattle.nsq_base.specs.declared.options.Options.{Options}
-use Rattle.nsq_outside.specs.Causes.{Rose}
 use Rattle.nsq_outside.specs.Files.{Files}
 use Rattle.nsq_outside.specs.Hosts.{HostContent, HostState, OnlyAcceptFaults}
 use Rattle.nsq_outside.specs.declared.host.Kind.{Kind}
 use Rattle.nsq_outside.specs.declared.host.Kit.{Kit}
 use Rattle.nsq_outside.specs.declared.journal.End.{End}
-use Rattle.v2_frame.specs.declared.fault.Limits.{Limits}
 use Rattle.path_image.specs.Found.{IsFound, Names}
 use Rattle.broker_history.specs.declared.entry.Entry.{Entry}
 use Rattle.broker_history.specs.Entries.{History, faults_apart, faults_of, has_stop, is_stop, stops_of}
@@ -24,11 +22,11 @@ use Rattle.path_opening.specs.Opening.{FindsAgain, HaveBytes}
 use Rattle.daemon_loop.specs.Rounds.{IsHalted}
 use Rattle.daemon_loop.specs.Served.{UpTo, Views, ticks_of}
 use Rattle.daemon_run.specs.Asked.{StartsOnce}
-use Rattle.daemon_run.specs.Callers.{DaemonStops, HasStopCause, IsHandedBack, ServesAll, StopsAreCaused, failed, halted, wants}
+use Rattle.daemon_run.specs.Callers.{DaemonStops, HasStopCause, IsHandedBack, StopsAreCaused, failed, halted, wants}
 use Rattle.daemon_run.specs.Endings.{IsCaused}
 use Rattle.daemon_run.specs.Parts.{KeepsFaults}
-use Rattle.daemon_run.specs.Runs.{CountsFaults, HasRun, HasWorked, NoCaller, Runs, Stops, TellsHistory, limits_of}
-use Rattle.daemon_run.specs.Sights.{Both, Counts, Sight, counts_of, sight, sight_of}
+use Rattle.daemon_run.specs.Runs.{CountsFaults, HasRun, HasWorked, NoCaller, Runs, TellsHistory, limits_of}
+use Rattle.daemon_run.specs.Sights.{Both, Sight, counts_of, sight, sight_of}
 use Rattle.daemon_run.specs.declared.ending.ServeEnd.{ServeEnd}
 use Rattle.daemon_run.proofs.Asking.{no_caller_then, same_callers}
 use Rattle.daemon_run.proofs.Causes.{NoFewer, caused_wider, rose_wider}
@@ -141,6 +139,22 @@ pub record Lends {F C J : Type 0} (s0 s1 s2 s3 s4 : HostState F C J) (lent back 
   pub worked : OnlyAcceptFaults s2 s3
   pub restore : s4 ≡ record s3 { kit = Some back }
 
+-- what holds of both moments, from another fact
+pub both_then : {K : Type 0} (old new : Option (Sight K)) (P Q : Sight K → Sight K → Type 0) → ((a b : Sight K) → P a b → Q a b) → Both old new P → Both old new Q
+both_then None new P Q f h = tt
+both_then (Some a) None P Q f h = tt
+both_then (Some a) (Some b) P Q f h = f a b h
+
+module _ {F C J : Type 0} where
+  same_kit : (o o' : Option (Kit F C J)) (P : Kit F C J → Kit F C J → Type 0) → o' ≡ o → ((x : Kit F C J) → P x x) → IfSome o (λ x. IfSome o' (λ y. P x y))
+  same_kit None o' P e f = tt
+  same_kit (Some x) o' P e f = subst (λ y. IfSome y (λ z. P x z)) (sym e) (f x)
+
+  lent_kit : (o o' : Option (Kit F C J)) (lent back : Kit F C J) (P : Kit F C J → Kit F C J → Type 0) → IfSome o (λ kit. lent.folder ≡ kit.folder) → IfSome o (λ kit. lent.clock ≡ kit.clock) → o' ≡ Some back
+      → ((x : Kit F C J) → lent.folder ≡ x.folder → lent.clock ≡ x.clock → P x back) → IfSome o (λ x. IfSome o' (λ y. P x y))
+  lent_kit None o' lent back P folder clock e f = tt
+  lent_kit (Some x) o' lent back P folder clock e f = subst (λ y. IfSome y (λ z. P x z)) (sym e) (f x folder clock)
+
 module _ {F C J K : Type 0} (notes : J → History) (files : F → Files) (coming : C → ℕ → ℕ) (faults : F → ℕ) where
   abbrev Seen : Kit F C J → HostState F C J → HostContent K → Sight K
   Seen kit s c = sight notes files coming faults kit s c
@@ -154,24 +168,9 @@ module _ {F C J K : Type 0} (notes : J → History) (files : F → Files) (comin
   both_kits (Some x) None s s' c c' P h = tt
   both_kits (Some x) (Some y) s s' c c' P h = h
 
-  -- what holds of both moments, from another fact
-  pub both_then : (old new : Option (Sight K)) (P Q : Sight K → Sight K → Type 0) → ((a b : Sight K) → P a b → Q a b) → Both old new P → Both old new Q
-  both_then None new P Q f h = tt
-  both_then (Some a) None P Q f h = tt
-  both_then (Some a) (Some b) P Q f h = f a b h
-
-  same_kit : (o o' : Option (Kit F C J)) (P : Kit F C J → Kit F C J → Type 0) → o' ≡ o → ((x : Kit F C J) → P x x) → IfSome o (λ x. IfSome o' (λ y. P x y))
-  same_kit None o' P e f = tt
-  same_kit (Some x) o' P e f = subst (λ y. IfSome y (λ z. P x z)) (sym e) (f x)
-
   -- the kit stayed
   pub both_same : (s s' : HostState F C J) (c c' : HostContent K) (P : Sight K → Sight K → Type 0) → s'.kit ≡ s.kit → ((x : Kit F C J) → P (Seen x s c) (Seen x s' c')) → Both (SeenOf s c) (SeenOf s' c') P
   both_same s s' c c' P e f = both_kits s.kit s'.kit s s' c c' P (same_kit s.kit s'.kit (λ x y. P (Seen x s c) (Seen y s' c')) e f)
-
-  lent_kit : (o o' : Option (Kit F C J)) (lent back : Kit F C J) (P : Kit F C J → Kit F C J → Type 0) → IfSome o (λ kit. lent.folder ≡ kit.folder) → IfSome o (λ kit. lent.clock ≡ kit.clock) → o' ≡ Some back
-      → ((x : Kit F C J) → lent.folder ≡ x.folder → lent.clock ≡ x.clock → P x back) → IfSome o (λ x. IfSome o' (λ y. P x y))
-  lent_kit None o' lent back P folder clock e f = tt
-  lent_kit (Some x) o' lent back P folder clock e f = subst (λ y. IfSome y (λ z. P x z)) (sym e) (f x folder clock)
 
   module _ (s0 s1 s2 s3 s4 : HostState F C J) (c0 c1 c2 c3 c4 : HostContent K) (lent back : Kit F C J) (l : Lends s0 s1 s2 s3 s4 lent back) where
     lent_then : (P : Sight K → Sight K → Type 0) → ((x : Kit F C J) → lent.folder ≡ x.folder → lent.clock ≡ x.clock → P (Seen x s0 c0) (Seen back s4 c4)) → Both (SeenOf s0 c0) (SeenOf s4 c4) P
@@ -203,9 +202,12 @@ module _ {F C J K : Type 0} (notes : J → History) (files : F → Files) (comin
     -- what the work did, the whole did
     pub lent_runs : (seen : Views K) (options : Options) (ended : ServeEnd) → NoCaller c0 c1 → c2 ≡ c1 → c4 ≡ c3 → (HaveBytes (files lent.folder) → HasWorked seen options ended (Seen lent s2 c2) (Seen back s3 c3)) → StartsOnce options c0 c4
         → Both (SeenOf s0 c0) (SeenOf s4 c4) (Runs seen options ended)
-    lent_runs seen options ended none lend restore worked begun = lent_then (Runs seen options ended) (λ x folder clock bytes. inr (begun, worked_between seen options ended (Seen x s0 c0) (Seen lent s2 c2) (Seen back s3 c3) (Seen back s4 c4)
-        (record { files = ap files folder; coming = ap coming clock; counts = fewer_before x folder; callers = no_caller_then c0 c1 c2 none (same_callers c1 c2 lend) })
-        (record { files = refl; coming = refl; notes = refl; counts = fewer_after; callers = same_callers c3 c4 restore }) (worked (subst (λ f. HaveBytes f) (sym (ap files folder)) bytes))))
+    lent_runs seen options ended none lend restore worked begun = lent_then (Runs seen options ended) (λ x folder clock bytes. inr (
+      begun,
+      worked_between seen options ended (Seen x s0 c0) (Seen lent s2 c2) (Seen back s3 c3) (Seen back s4 c4)
+          (record { files = ap files folder; coming = ap coming clock; counts = fewer_before x folder; callers = no_caller_then c0 c1 c2 none (same_callers c1 c2 lend) })
+          (record { files = refl; coming = refl; notes = refl; counts = fewer_after; callers = same_callers c3 c4 restore }) (worked (subst (λ f. HaveBytes f) (sym (ap files folder)) bytes)),
+    ))
 
 module _ {F C J : Type 0} where
   -- which counts a host's calls leave

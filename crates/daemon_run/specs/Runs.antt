@@ -1,8 +1,6 @@
 -- What a run of the daemon did, told by its kit and its host before and after.
-use Rattle.std.specs.Prelude.{◌≡◌, ◌≢◌, ◌⊎◌, ℕ, ◌+◌, ◌≤◌, true, List, [], length}
+use Rattle.std.specs.Prelude.{◌≡◌, ◌≢◌, ◌⊎◌, ℕ, ◌+◌, ◌≤◌, true, [], length}
 use Rattle.nsq_base.specs.declared.options.Options.{Options}
-use Rattle.nsq_outside.specs.Causes.{Rose}
-use Rattle.nsq_outside.specs.Files.{Files, SameFiles}
 use Rattle.nsq_outside.specs.Hosts.{HostContent}
 use Rattle.v2_frame.specs.declared.fault.Limits.{Limits}
 use Rattle.path_image.specs.Found.{Found, IsFound, Names}
@@ -18,7 +16,7 @@ use Rattle.daemon_loop.specs.Served.{Views}
 use Rattle.daemon_run.specs.Asked.{StartsOnce}
 use Rattle.daemon_run.specs.Callers.{ServesAll, StopsAreCaused, numbers_of, one_to}
 use Rattle.daemon_run.specs.Endings.{status_of}
-use Rattle.daemon_run.specs.Sights.{Counts, Sight}
+use Rattle.daemon_run.specs.Sights.{Sight}
 use Rattle.daemon_run.specs.declared.ending.ServeEnd.{ServeEnd}
 use Rattle.daemon_run.specs.declared.ending.ServeEnd.TheVariants as end
 

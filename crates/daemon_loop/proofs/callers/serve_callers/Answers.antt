@@ -1,4 +1,4 @@
-use Rattle.std.proofs.Common.{arith, refl, sym, subst, ap, ◌+◌, ◌∙◌, inl}
+use Rattle.std.proofs.Common.{arith, refl, sym, subst, ap, ◌∙◌, inl}
 use Rattle.nsq_outside.specs.Hosts.{HostContent, OnlyAcceptFaults}
 use Rattle.daemon_loop.proofs.Handing.{accepted_then}
 use Rattle.daemon_loop.proofs.Rounding.{no_stop_stands, rounds_failed, rounds_first, rounds_halted, rounds_new, rounds_served, rounds_tick, rounds_waited, rose_wider}

@@ -1,4 +1,4 @@
-use Rattle.std.proofs.Common.{IsTrue, ◌≡◌, false}
+use Rattle.std.proofs.Common.{◌≡◌, false}
 use Rattle.nsq_outside.specs.Hosts.{OnlyAcceptFaults}
 use Rattle.floor_turns.specs.Scenes.{scene}
 use Rattle.daemon_loop.specs.Rounds.{Rounds}

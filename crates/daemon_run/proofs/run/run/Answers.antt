@@ -1,5 +1,4 @@
-use Rattle.std.proofs.Common.{◌∙◌, ap, sym, arith}
-use Rattle.nsq_outside.specs.Hosts.{HostState}
+use Rattle.std.proofs.Common.{◌∙◌, ap}
 use Rattle.floor_turns.specs.Scenes.{scene}
 use Rattle.daemon_run.proofs.Causes.{parts}
 use Rattle.daemon_run.proofs.run.run.Goals as goal
@@ -31,7 +30,7 @@ returns-clause-runs g c =
     }
 
 pub shut-shutting-requires : goal.shut-shutting-requires
-shut-shutting-requires g c = c.stop-stopped.ensures.leads.0 ∙ c.serve_callers-looped.ensures.unflushed
+shut-shutting-requires g c = record { unflushed = c.stop-stopped.ensures.leads.0 ∙ c.serve_callers-looped.ensures.unflushed }
 
 pub returns-clause-rest : goal.returns-clause-rest
 returns-clause-rest g c = let over = c.serve_callers-looped.ensures.over in over.rounds.rest

@@ -1,8 +1,9 @@
-use Rattle.std.proofs.Common.{inl, refl, ap, ◌∙◌, arith}
+use Rattle.std.proofs.Common.{inl, refl, ap, arith}
 use Rattle.nsq_outside.specs.Hosts.{HostContent, HostState}
 use Rattle.path_opening.specs.Opening.{HaveBytes}
 use Rattle.daemon_run.specs.Endings.{IsCaused, IsComplete}
 use Rattle.daemon_run.specs.Runs.{Runs}
+use Rattle.daemon_run.specs.Sights.{sight_of}
 use Rattle.daemon_run.specs.declared.ending.ServeEnd.TheVariants.{AcceptFailed}
 use Rattle.daemon_run.proofs.Asking.{starts_keep, failed_asked, done_keep, done_starts, done_asked, failed_wider}
 use Rattle.daemon_run.proofs.Causes.{completes_told}
@@ -62,7 +63,8 @@ returns-in-Done-clause-cause g c =
 
 pub returns-in-Done-clause-complete : goal.returns-in-Done-clause-complete
 returns-in-Done-clause-complete g c = λ told tells.
-    both_then g.H.Journal.Journal.notes g.H.Folder.Folder.files g.H.Clock.Clock.coming g.H.Folder.Folder.folder_faults _ _ (λ old new. IsCaused c.work-ending.result.0 g.H.Folder.Folder.tells_files g.H.Journal.Journal.tells_notes old.files old.counts new.counts)
+    both_then (sight_of g.H.Journal.Journal.notes g.H.Folder.Folder.files g.H.Clock.Clock.coming g.H.Folder.Folder.folder_faults (g.H.Host.state c.args.host.now) (g.H.Host.content c.args.host.now))
+    (sight_of g.H.Journal.Journal.notes g.H.Folder.Folder.files g.H.Clock.Clock.coming g.H.Folder.Folder.folder_faults (g.H.Host.state c.restore.new.self) (g.H.Host.content c.restore.new.self)) (λ old new. IsCaused c.work-ending.result.0 g.H.Folder.Folder.tells_files g.H.Journal.Journal.tells_notes old.files old.counts new.counts)
     (λ old new. HaveBytes old.files → IsComplete c.work-ending.result.0 old.files old.counts new.counts)
     (λ old new cause bytes. completes_told c.work-ending.result.0 g.H.Folder.Folder.tells_files g.H.Journal.Journal.tells_notes old.files old.counts new.counts told tells bytes cause)
     (lent_caused g.H.Journal.Journal.notes g.H.Folder.Folder.files g.H.Clock.Clock.coming g.H.Folder.Folder.folder_faults (g.H.Host.state c.args.host.now) (g.H.Host.state c.start.new.host) (g.H.Host.state c.lend-kit.new.self) (g.H.Host.state c.work-ending.new.host) (g.H.Host.state c.restore.new.self)

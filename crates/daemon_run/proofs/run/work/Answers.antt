@@ -1,7 +1,5 @@
-use Rattle.std.proofs.Common.{◌≡◌, inl, inr, ◌∙◌, ap, arith, subst, sym, refl}
+use Rattle.std.proofs.Common.{◌≡◌, inl, inr, ◌∙◌, ap, subst, sym, refl}
 use Rattle.std.specs.Prelude.{◌⊎◌}
-use Rattle.broker_history.specs.Entries.{History}
-use Rattle.daemon_loop.specs.Served.{AllTell}
 use Rattle.daemon_run.specs.Endings.{IsCaused, status_of}
 use Rattle.daemon_run.specs.Sights.{counts_of, sight}
 use Rattle.daemon_run.specs.declared.ending.ServeEnd.TheVariants as end

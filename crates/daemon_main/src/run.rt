@@ -1,17 +1,19 @@
-ghost use Rattle.std.specs.Prelude.{◌≡◌, ◌⊎◌, IsSome, IsTrue, map, string_bytes};
+ghost use Rattle.std.specs.Prelude.{◌≡◌, ◌⊎◌, ◌≤◌, ◌^◌, IsSome, IsTrue, map, string_bytes};
 ghost use Rattle.nsq_base.specs.Options.{IsInRange};
 ghost use Rattle.nsq_base.specs.declared.options.Options.{Options as SaidOptions};
 ghost use Rattle.nsq_outside.specs.Hosts.{OnlyTellFaults};
 ghost use Rattle.daemon_loop.specs.Served.{ListenersFailedLast};
 ghost use Rattle.daemon_run.specs.Sights.{Both};
+ghost use Rattle.daemon_main.specs.Doing.{CanDo, Does, Obeys, PrintsOrWants, PrintsSo};
 ghost use Rattle.daemon_main.specs.Endings.{TellsLine, line_of, status_of};
 ghost use Rattle.daemon_main.specs.Programs.{IsAsked, IsPlainRun, StaysHome};
-ghost use Rattle.nsqd_words.specs.Requests.{IsUnknown, SaysOptions};
+ghost use Rattle.nsqd_words.specs.Requests.{Asks, IsUnknown, SaysOptions};
 
 use crate::ending::{Ending, line, status};
 use broker_history::Entry;
 use daemon_run::{Watched, serve};
 use drill::drill;
+use nsq_base::Memory;
 use nsq_outside::{Did, Host};
 use nsqd_words::{Request, read_words};
 use std::alloc::Global;
@@ -58,18 +60,44 @@ fn obey<R: Wait, H: Host<Entry>>(
 ) -> Ending
     requires { IsSome (H.state host.old).kit }
     ensures home { IsSome (H.state host.new).kit }
+    ensures obeys { Obeys ⟦<H as Watched>⟧.told H.tells H.Folder.tells_files H.Journal.tells_notes ⟦<H as Watched>⟧.seen (H.state host.old) (H.state host.new) (H.content host.old) (H.content host.new)
+        (⟦<H as Watched>⟧.sight host.old) (⟦<H as Watched>⟧.sight host.new) (Asks (map string_bytes words.now)) result }
+    ensures listeners { IsTrue H.tells → status_of result ≡ 4 → ListenersFailedLast H.state H.content host.old host.new }
 {
     match read_words(alloc, words) {
-        Ok(Request::Serve(options)) => Ending::Served(serve(rt, alloc, &options, host)),
-        Ok(Request::Drill(seed, count)) => print_drill(rt, alloc, seed, count, host),
-        Ok(Request::Help(text)) | Ok(Request::Version(text)) => print(rt, host, text.as_bytes()),
-        Ok(Request::Unknown) => Ending::BadOptions,
+        Ok(request) => carry_out(rt, alloc, request, host),
         Err(_) => Ending::Memory,
     }
 }
 
+/// Does what is asked for.
+fn carry_out<R: Wait, H: Host<Entry>>(
+    rt: &R,
+    alloc: Global,
+    request: Request,
+    host: &mut H,
+) -> Ending
+    requires home { IsSome (H.state host.old).kit }
+    requires can { CanDo request }
+    ensures home { IsSome (H.state host.new).kit }
+    ensures does { Does ⟦<H as Watched>⟧.told H.tells H.Folder.tells_files H.Journal.tells_notes ⟦<H as Watched>⟧.seen (H.state host.old) (H.state host.new) (H.content host.old) (H.content host.new)
+        (⟦<H as Watched>⟧.sight host.old) (⟦<H as Watched>⟧.sight host.new) request result }
+    ensures listeners { IsTrue H.tells → status_of result ≡ 4 → ListenersFailedLast H.state H.content host.old host.new }
+{
+    match request {
+        Request::Serve(options) => Ending::Served(serve(rt, alloc, &options, host)),
+        Request::Drill(seed, count) => print_drill(rt, alloc, seed, count, host),
+        Request::Help(text) => print(rt, host, text.as_bytes()),
+        Request::Version(text) => print(rt, host, text.as_bytes()),
+        Request::Unknown => Ending::BadOptions,
+    }
+}
+
 /// Prints a text.
-fn print<R: Wait, H: Host<Entry>>(rt: &R, host: &mut H, text: &[u8]) -> Ending {
+fn print<R: Wait, H: Host<Entry>>(rt: &R, host: &mut H, text: &[u8]) -> Ending
+    ensures prints { PrintsSo H.tells (H.state host.old) (H.state host.new) (H.content host.old) (H.content host.new) text.now result }
+    ensures unserved { status_of result ≡ 4 → ⊥ }
+{
     match host.print(rt, text) {
         Did::Done => Ending::Printed,
         Did::Failed => Ending::OutputFault,
@@ -83,14 +111,28 @@ fn print_drill<R: Wait, H: Host<Entry>>(
     seed: u64,
     count: u64,
     host: &mut H,
-) -> Ending {
-    let Ok(drilled) = drill(rt, alloc, seed, count) else {
-        return Ending::Memory;
-    };
-    match format!(in alloc; "published {}\nsent {}\nfinished {}\nleft {}\n", drilled.published, drilled.sent, drilled.finished, drilled.left) {
+) -> Ending
+    requires seed { seed ≤ 2 ^ 59 }
+    requires count { count ≤ 100000 }
+    ensures prints { PrintsOrWants H.tells (H.state host.old) (H.state host.new) (H.content host.old) (H.content host.new) result }
+    ensures unserved { status_of result ≡ 4 → ⊥ }
+{
+    match drilled_text(rt, alloc, seed, count) {
         Ok(text) => print(rt, host, text.as_bytes()),
         Err(_) => Ending::Memory,
     }
+}
+
+/// What a drill counted, as it is printed.
+fn drilled_text<R: Wait>(rt: &R, alloc: Global, seed: u64, count: u64) -> Result<String, Memory>
+    requires seed { seed ≤ 2 ^ 59 }
+    requires count { count ≤ 100000 }
+{
+    let drilled = drill(rt, alloc, seed, count)?;
+    Ok(format!(in alloc;
+        "published {}\nsent {}\nfinished {}\nleft {}\n",
+        drilled.published, drilled.sent, drilled.finished, drilled.left
+    )?)
 }
 
 /// Tells the line of an ending, where one is, and returns its status.

@@ -1,0 +1,64 @@
+-- What the parts of the program do.
+use Rattle.std.specs.Prelude.{◌≡◌, ◌⊎◌, ◌≤◌, ◌^◌, ℕ, Bool, IsTrue, List, ◌++◌, take, Option, string_bytes}
+use Rattle.nsq_base.specs.Options.{IsInRange}
+use Rattle.nsq_base.specs.declared.options.Options.{Options}
+use Rattle.nsq_outside.specs.Causes.{Rose}
+use Rattle.nsq_outside.specs.Hosts.{HostContent, HostState, OnlyPrintFaults}
+use Rattle.daemon_loop.specs.Served.{Views}
+use Rattle.daemon_run.specs.Asked.{HasAsked}
+use Rattle.daemon_run.specs.Endings.{IsCaused, status_of as serve_status}
+use Rattle.daemon_run.specs.Parts.{KeepsFaults}
+use Rattle.daemon_run.specs.Runs.{Runs}
+use Rattle.daemon_run.specs.Sights.{Both, Sight}
+use Rattle.daemon_run.specs.declared.ending.ServeEnd.{ServeEnd}
+use Rattle.daemon_main.specs.declared.ending.Ending.{Ending}
+use Rattle.daemon_main.specs.declared.ending.Ending.TheVariants.{BadOptions, Memory, OutputFault, Printed, Served}
+use Rattle.nsqd_words.specs.declared.request.Request.{Request}
+use Rattle.nsqd_words.specs.declared.request.Request.TheVariants as request
+
+module _ {F C J K : Type 0} (tells : Bool) (state state' : HostState F C J) (old new : HostContent K) where
+  -- a text was printed; or a part of it from its front, and the count of standard output rose
+  pub data PrintsTo (text : List ℕ) : Ending → Type 0 where
+    whole : (IsTrue tells → new ≡ record old { printed = old.printed ++ text }) → PrintsTo text Printed
+    part : (IsTrue tells → (n : ℕ) × (new ≡ record old { printed = old.printed ++ take n text })) → Rose state.print_faults state'.print_faults → PrintsTo text OutputFault
+
+  pub record PrintsSo (text : List ℕ) (ending : Ending) : Type 0 where
+    pub prints : PrintsTo text ending
+    pub state : OnlyPrintFaults state state'
+
+  -- nothing was done
+  pub record DoesNothing : Type 0 where
+    pub state : state' ≡ state
+    pub content : new ≡ old
+
+  -- a text was printed, whatever it is, or memory was wanting for it
+  abbrev pub PrintsOrWants : Ending → Type 0
+  PrintsOrWants ending = ((text : List ℕ) × PrintsSo text ending) ⊎ ((ending ≡ Memory) × DoesNothing)
+
+module _ {F C J K : Type 0} (Told : Type 0) (tells tells_files tells_notes : Bool) (seen : Views K) (state state' : HostState F C J) (old new : HostContent K) (before after : Option (Sight K)) where
+  -- it served with these options, and ended so
+  pub record ServesSo (options : Options) (ending : Ending) : Type 0 where
+    pub ended : ServeEnd
+    pub is : ending ≡ Served ended
+    pub asked : IsTrue tells → HasAsked options (serve_status ended) old new
+    pub faults : KeepsFaults state state'
+    pub cause : Both before after (λ a b. IsCaused ended tells_files tells_notes a.files a.counts b.counts)
+    pub runs : Told → Both before after (Runs seen options ended)
+
+  -- what was asked for was done, and ended so
+  abbrev pub Does : Request → Ending → Type 0
+  Does (request.Serve options) ending = ServesSo options ending
+  Does (request.Drill seed count) ending = PrintsOrWants tells state state' old new ending
+  Does (request.Help text) ending = PrintsSo tells state state' old new (string_bytes text) ending
+  Does (request.Version text) ending = PrintsSo tells state state' old new (string_bytes text) ending
+  Does request.Unknown ending = (ending ≡ BadOptions) × DoesNothing tells state state' old new
+
+  -- what the words ask for was done, or memory was wanting for reading them
+  abbrev pub Obeys : (Request → Type 0) → Ending → Type 0
+  Obeys Asked ending = ((request : Request) × Asked request × Does request ending) ⊎ ((ending ≡ Memory) × DoesNothing tells state state' old new)
+
+-- the request can be carried out: its options are in their ranges, and so are a drill's numbers
+abbrev pub CanDo : Request → Type 0
+CanDo (request.Serve options) = IsInRange options
+CanDo (request.Drill seed count) = (seed ≤ 2 ^ 59) × (count ≤ 100000)
+CanDo asked = Unit {0}

@@ -15,7 +15,10 @@ use daemon_run::{Watched, serve};
 use drill::drill;
 use nsq_base::Memory;
 use nsq_outside::{Did, Host};
-use nsqd_words::{Request, read_words};
+use nsqd_words::{
+    Request, options_are_known, options_are_one, other_requests_are_known, read_words,
+    requests_exclude_each_other,
+};
 use std::alloc::Global;
 use std::sync::Wait;
 
@@ -47,6 +50,11 @@ pub fn nsqd_run<R: Wait, H: Host<Entry>>(
     ensures stays { IsTrue H.tells → ((o : SaidOptions) → SaysOptions (map string_bytes words.now) o → IsInRange o → ⊥) → StaysHome (H.state host.old) (H.state host.new) (H.content host.old) (H.content host.new) }
     ensures listeners { IsTrue H.tells → result ≡ 4 → ListenersFailedLast H.state H.content host.old host.new }
 {
+    // Laws: what words ask for excludes all else.
+    options_are_known();
+    options_are_one();
+    other_requests_are_known();
+    requests_exclude_each_other();
     let ending = obey(rt, alloc, words, host);
     close(rt, host, ending)
 }

@@ -1,3 +1,4 @@
+pub mod KnownTexts
 pub mod ClosedFiles
 pub mod Deliveries
 pub mod ErrorFrames

@@ -1,3 +1,4 @@
+pub mod KnownNames
 pub mod Answers
 pub mod OpenFiles
 pub mod Frames

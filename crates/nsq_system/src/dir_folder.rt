@@ -16,7 +16,15 @@ use std::rt::Files;
 ///
 /// A few dozen files stay open; a file is closed when it is renamed or removed and after each error. A name with a slash, which
 /// no file of the folder has, is an error. `list` gives regular files alone: sub-folders, symbolic links, and names that
-/// aren't UTF-8 are left out. Where the folder itself is missing, `list` and `sync_names` fail, and each file is absent.
+/// aren't UTF-8 are left out. Where the folder itself is missing, a `list` that reads it and `sync_names` fail, and each file is
+/// absent.
+///
+/// The folder is the process's own while it is open, and nobody else changes it: nsqd holds a lock on its data path. So `list`
+/// reads the folder where the beginning is empty, or where the names aren't known yet, or no longer: after an error of a call
+/// that makes, renames or removes a file, which may be done or undone, and after want of memory. By any other beginning it
+/// looks the names up among those that it read, in step with the calls since, and asks the system nothing. What others add
+/// or take away it shows after the next `list` with an empty beginning; and so long a name that was written or renamed here
+/// counts as a regular file's. The names stay in memory.
 ///
 /// A contract sees the count of its faults.
 #[derive(Drop)]
@@ -86,6 +94,7 @@ where
     R::File: FileExt,
 {
     ghost use Rattle.std.specs.Prelude.{◌+◌, length};
+    ghost use Rattle.nsq_system.specs.KnownNames.{AppendsBeginning};
     ghost use Rattle.nsq_outside.specs.Files.{IsWithin, Appends, ListingFails, ListingCounts, IsFileLength, LengthFails, LengthCounts, IsAmountAt, IsReadWithin, ReadAtFails, ReadAtCounts};
 
     ghost tells_files = { false };
@@ -96,13 +105,14 @@ where
 
     ghost counts_exactly = { true };
 
-    fn list(&mut self, alloc: Global, names: &mut Vec<String>) -> Listing
+    fn list(&mut self, alloc: Global, beginning: &str, names: &mut Vec<String>) -> Listing
         ensures kept { Appends names.old.items names.new.items result }
+        ensures begin { AppendsBeginning beginning.now names.old.items names.new.items result }
         ensures faults { self.old.count ≤ self.new.count }
         ensures cause { ListingFails self.old.count self.new.count result }
         ensures counted { ListingCounts self.old.count self.new.count result }
     {
-        match self.files.names(alloc) {
+        match self.files.names(alloc, beginning) {
             Ok(mut added) => match names.append(&mut added) {
                 Ok(()) => Listing::Done,
                 Err(_) => Listing::Memory,

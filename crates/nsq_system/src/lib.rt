@@ -8,6 +8,7 @@ mod answers;
 mod dir_folder;
 mod error_frames;
 mod forgetful;
+mod known_names;
 mod listeners;
 mod open_files;
 mod outbox;

@@ -1,7 +1,9 @@
-ghost use Rattle.std.specs.Prelude.{◌≡◌, ◌+◌, ◌^◌, ◌≤◌, ◌⊎◌, ◌++◌, ◌∷◌, [], List, ℕ, length, Contains, IfOk, OnOk, OnErr, string_bytes};
+ghost use Rattle.std.specs.Prelude.{◌≡◌, ◌≢◌, ◌+◌, ◌^◌, ◌≤◌, ◌⊎◌, ◌++◌, ◌∷◌, [], List, ℕ, length, Contains, IfOk, OnOk, OnErr, IsSome, IsTrue, AllPairs, None, false, map, string_bytes};
 ghost use Rattle.nsq_system.specs.OpenFiles.{IsClosed};
+ghost use Rattle.nsq_system.specs.KnownNames.{Knows, OnlyChanges, OnlyMoves, ArePart};
 
 use crate::answers::{PartRead, after_read};
+use crate::known_names::KnownNames;
 use lru::LruCache;
 use nsq_base::Memory;
 use std::alloc::Global;
@@ -22,6 +24,9 @@ pub const LIMIT: u64 = 1 << 62;
 ///
 /// Each call says by `ErrorKind::NotFound` that a file is absent. A file is closed when it is renamed or removed, when another
 /// takes its name, and after each error of a call on it.
+///
+/// The names are read from the folder when they are listed first. From then on they are kept in step with the calls here, and
+/// a listing by a beginning reads the folder again only after a call whose outcome isn't known.
 #[derive(Drop)]
 pub struct OpenFiles<R: Files> {
     rt: R,
@@ -32,6 +37,7 @@ pub struct OpenFiles<R: Files> {
     path: String,
     new_path: String,
     opened: LruCache<String, R::File>,
+    known: KnownNames,
 }
 
 impl<R: Files + AllocGlobal + Clone + Drop> OpenFiles<R>
@@ -42,6 +48,7 @@ where
     pub fn new(rt: R, alloc: Global, path: &str) -> Result<OpenFiles<R>, Memory>
         ensures path { IfOk result (λ files. string_bytes files.folder ≡ path.now ++ 47 ∷ []) }
         ensures closed { IfOk result (λ files. files.opened.entries ≡ []) }
+        ensures unknown { IfOk result (λ files. files.known.names ≡ None) }
     {
         let mut folder = String::from_str(alloc, path)?;
         folder.push('/')?;
@@ -52,12 +59,16 @@ where
             path: String::new(alloc),
             new_path: String::new(alloc),
             opened: LruCache::new(alloc, NonZeroUsize::new(OPEN_FILES).unwrap())?,
+            known: KnownNames::new(alloc),
         })
     }
 
-    /// Opens a file to read and write, which keeps its bytes.
+    /// Opens a file to read and write, which keeps its bytes. The name of one that it makes is known then.
     fn open(&mut self, name: &str, creates: bool) -> io::Result<()>
         ensures folder { self.new.folder ≡ self.old.folder }
+        ensures known { creates ≡ false → self.new.known ≡ self.old.known }
+        ensures here { OnOk result (IsTrue creates → IsClosed self.old.opened.entries name.now → IsSome self.new.known.names → Knows self.new.known.names name.now) }
+        ensures others { OnlyChanges self.old.known.names self.new.known.names name.now }
     {
         if self.opened.contains(name) {
             return Ok(());
@@ -65,20 +76,26 @@ where
         set_path(&mut self.path, self.folder.as_str(), name)?;
         let mut how = OpenOptions::new();
         how.read(true).write(true).create(creates);
-        let file = self.rt.open_file(&how, self.path.as_str())?;
+        let opened = self.rt.open_file(&how, self.path.as_str());
+        if creates {
+            self.known.note_made(name, &opened);
+        }
+        let file = opened?;
         self.opened.put(String::from_str(self.alloc, name)?, file)?;
         Ok(())
     }
 
-    /// Goes to the folder at another path, and closes the files of this one. Without memory nothing changes.
+    /// Goes to the folder at another path, closes the files of this one and forgets its names. Without memory nothing changes.
     pub fn move_to(&mut self, path: &str) -> Result<(), Memory>
         ensures path { OnOk result (string_bytes self.new.folder ≡ path.now ++ 47 ∷ []) }
         ensures closed { OnOk result (self.new.opened.entries ≡ []) }
+        ensures unknown { OnOk result (self.new.known.names ≡ None) }
         ensures err { OnErr result (self.new ≡ self.old) }
     {
         let mut folder = String::from_str(self.alloc, path)?;
         folder.push('/')?;
         self.opened.clear();
+        self.known.forget();
         self.folder = folder;
         Ok(())
     }
@@ -88,6 +105,7 @@ where
         ensures closed { IsClosed self.new.opened.entries name.now }
         ensures others { (other : List ℕ) → IsClosed self.old.opened.entries other → IsClosed self.new.opened.entries other }
         ensures folder { self.new.folder ≡ self.old.folder }
+        ensures known { self.new.known ≡ self.old.known }
     {
         // Its contract says that no name is there twice.
         let _ = self.opened.len();
@@ -99,6 +117,7 @@ where
         ensures same { result ≡ outcome }
         ensures closed { OnErr result (IsClosed self.new.opened.entries name.now) }
         ensures folder { self.new.folder ≡ self.old.folder }
+        ensures known { self.new.known ≡ self.old.known }
     {
         if outcome.is_err() {
             self.forget(name);
@@ -106,13 +125,38 @@ where
         outcome
     }
 
-    /// The names of the regular files.
-    pub fn names(&self, alloc: Global) -> io::Result<Vec<String>> {
-        let mut names = Vec::new(alloc);
+    /// The names of the regular files that begin so, in order. It reads the folder where the beginning is empty, or the
+    /// names aren't known.
+    pub fn names(&mut self, alloc: Global, beginning: &str) -> io::Result<Vec<String>>
+        ensures part { IfOk result (λ names. ArePart self.new.known.names beginning.now (map string_bytes names.items)) }
+        ensures once { IfOk result (λ names. AllPairs (λ a b. a ≢ b) (map string_bytes names.items)) }
+        ensures known { OnOk result (IsSome self.new.known.names) }
+        ensures folder { self.new.folder ≡ self.old.folder }
+    {
+        self.learn_names(beginning.is_empty())?;
+        Ok(self.known.beginning_with(alloc, beginning)?)
+    }
+
+    /// Sees to it that the names are known. Anew it reads the folder also where they are.
+    fn learn_names(&mut self, anew: bool) -> io::Result<()>
+        ensures known { OnOk result (IsSome self.new.known.names) }
+        ensures folder { self.new.folder ≡ self.old.folder }
+    {
+        if !anew && self.known.are_known() {
+            return Ok(());
+        }
+        let names = self.read_names()?;
+        self.known.begin_anew(names)?;
+        Ok(())
+    }
+
+    /// Reads the names of the regular files from the folder.
+    fn read_names(&self) -> io::Result<Vec<String>> {
+        let mut names = Vec::new(self.alloc);
         for entry in fs::read_dir(&self.rt, self.folder.as_str())? {
             match entry {
                 Ok(entry) if entry.file_type()?.is_file() => {
-                    names.push(String::from_str(alloc, entry.file_name())?)?;
+                    names.push(String::from_str(self.alloc, entry.file_name())?)?;
                 }
                 Ok(_) => {}
                 Err(e) if e.kind() == ErrorKind::InvalidFilename => {}
@@ -127,6 +171,7 @@ where
         ensures limit { IfOk result (λ n. n ≤ 2 ^ 62) }
         ensures closed { OnErr result (IsClosed self.new.opened.entries name.now) }
         ensures folder { self.new.folder ≡ self.old.folder }
+        ensures known { self.new.known ≡ self.old.known }
     {
         let length = self.length(name);
         self.settled(name, length)
@@ -136,6 +181,7 @@ where
     fn length(&mut self, name: &str) -> io::Result<u64>
         ensures limit { IfOk result (λ n. n ≤ 2 ^ 62) }
         ensures folder { self.new.folder ≡ self.old.folder }
+        ensures known { self.new.known ≡ self.old.known }
     {
         self.open(name, false)?;
         let length = opened_file(&mut self.opened, name)?.metadata()?.len();
@@ -151,6 +197,7 @@ where
         ensures limit { IfOk result (λ n. (n ≡ 0) ⊎ (at + n ≤ 2 ^ 62)) }
         ensures closed { OnErr result (IsClosed self.new.opened.entries name.now) }
         ensures folder { self.new.folder ≡ self.old.folder }
+        ensures known { self.new.known ≡ self.old.known }
     {
         let count = self.read(name, at, into);
         self.settled(name, count)
@@ -161,6 +208,7 @@ where
         ensures amount { IfOk result (λ n. n ≤ length into.old) }
         ensures limit { IfOk result (λ n. (n ≡ 0) ⊎ (at + n ≤ 2 ^ 62)) }
         ensures folder { self.new.folder ≡ self.old.folder }
+        ensures known { self.new.known ≡ self.old.known }
     {
         self.open(name, false)?;
         let count = read_whole(opened_file(&mut self.opened, name)?, at, into)?;
@@ -175,6 +223,7 @@ where
         ensures limit { OnOk result (at + length from.now ≤ 2 ^ 62) }
         ensures closed { OnErr result (IsClosed self.new.opened.entries name.now) }
         ensures folder { self.new.folder ≡ self.old.folder }
+        ensures others { OnlyChanges self.old.known.names self.new.known.names name.now }
     {
         let written = self.write(name, at, from);
         self.settled(name, written)
@@ -184,6 +233,7 @@ where
     fn write(&mut self, name: &str, at: u64, from: &[u8]) -> io::Result<()>
         ensures limit { OnOk result (at + length from.now ≤ 2 ^ 62) }
         ensures folder { self.new.folder ≡ self.old.folder }
+        ensures others { OnlyChanges self.old.known.names self.new.known.names name.now }
     {
         if at > LIMIT || from.len() as u64 > LIMIT - at {
             return Err(ErrorKind::FileTooLarge.into());
@@ -198,6 +248,7 @@ where
     /// Gives a file at least a number of bytes, with zeros behind those that it has. It creates an absent file.
     fn lengthen(&mut self, name: &str, to: u64) -> io::Result<()>
         ensures folder { self.new.folder ≡ self.old.folder }
+        ensures others { OnlyChanges self.old.known.names self.new.known.names name.now }
     {
         self.open(name, true)?;
         if self.length(name)? < to {
@@ -211,6 +262,7 @@ where
         ensures limit { OnOk result (to ≤ 2 ^ 62) }
         ensures closed { OnErr result (IsClosed self.new.opened.entries name.now) }
         ensures folder { self.new.folder ≡ self.old.folder }
+        ensures others { OnlyChanges self.old.known.names self.new.known.names name.now }
     {
         let cut = self.cut_or_create(name, to);
         self.settled(name, cut)
@@ -220,6 +272,7 @@ where
     fn cut_or_create(&mut self, name: &str, to: u64) -> io::Result<()>
         ensures limit { OnOk result (to ≤ 2 ^ 62) }
         ensures folder { self.new.folder ≡ self.old.folder }
+        ensures others { OnlyChanges self.old.known.names self.new.known.names name.now }
     {
         if to > LIMIT {
             return Err(ErrorKind::FileTooLarge.into());
@@ -238,6 +291,7 @@ where
     /// Gives a file a number of bytes, after it was opened.
     fn set_len(&mut self, name: &str, to: u64, creates: bool) -> io::Result<()>
         ensures folder { self.new.folder ≡ self.old.folder }
+        ensures others { OnlyChanges self.old.known.names self.new.known.names name.now }
     {
         self.open(name, creates)?;
         opened_file(&mut self.opened, name)?.set_len(to)
@@ -247,6 +301,7 @@ where
     pub fn sync(&mut self, name: &str) -> io::Result<()>
         ensures closed { OnErr result (IsClosed self.new.opened.entries name.now) }
         ensures folder { self.new.folder ≡ self.old.folder }
+        ensures known { self.new.known ≡ self.old.known }
     {
         let synced = self.sync_file(name);
         self.settled(name, synced)
@@ -255,6 +310,7 @@ where
     /// Makes the bytes of a file durable, after it was opened.
     fn sync_file(&mut self, name: &str) -> io::Result<()>
         ensures folder { self.new.folder ≡ self.old.folder }
+        ensures known { self.new.known ≡ self.old.known }
     {
         self.open(name, false)?;
         opened_file(&mut self.opened, name)?.sync_all()
@@ -270,22 +326,31 @@ where
         ensures closed { IsClosed self.new.opened.entries from.now }
         ensures replaced { IsClosed self.new.opened.entries to.now }
         ensures folder { self.new.folder ≡ self.old.folder }
+        ensures gone { OnOk result (from.now ≢ to.now → Knows self.new.known.names from.now → ⊥) }
+        ensures here { OnOk result (IsSome self.new.known.names → Knows self.new.known.names to.now) }
+        ensures others { OnlyMoves self.old.known.names self.new.known.names from.now to.now }
     {
         self.forget(from);
         self.forget(to);
         set_path(&mut self.path, self.folder.as_str(), from)?;
         set_path(&mut self.new_path, self.folder.as_str(), to)?;
-        self.rt.rename(self.path.as_str(), self.new_path.as_str())
+        let renamed = self.rt.rename(self.path.as_str(), self.new_path.as_str());
+        self.known.note_renamed(from, to, &renamed);
+        renamed
     }
 
     /// Removes a file. It isn't open then.
     pub fn remove(&mut self, name: &str) -> io::Result<()>
         ensures closed { IsClosed self.new.opened.entries name.now }
         ensures folder { self.new.folder ≡ self.old.folder }
+        ensures gone { OnOk result (Knows self.new.known.names name.now → ⊥) }
+        ensures others { OnlyChanges self.old.known.names self.new.known.names name.now }
     {
         self.forget(name);
         set_path(&mut self.path, self.folder.as_str(), name)?;
-        self.rt.remove_file(self.path.as_str())
+        let removed = self.rt.remove_file(self.path.as_str());
+        self.known.note_removed(name, &removed);
+        removed
     }
 }
 

@@ -30,7 +30,8 @@ pub fn other_requests_are_known()
 /// Words that say options ask for no drill, no help and no version, and of those three they ask for one at most. A law,
 /// with nothing to run.
 pub fn requests_exclude_each_other()
-    ensures options_drill { (words : Words) (o : Options) (seed count : ℕ) → SaysOptions words o → AsksDrill words seed count → ⊥ }
+    ensures options_drill { (words : Words) (o : Options) (seed count : ℕ) → SaysOptions words o
+        → AsksDrill words seed count → ⊥ }
     ensures options_help { (words : Words) (o : Options) → SaysOptions words o → AsksHelp words → ⊥ }
     ensures options_version { (words : Words) (o : Options) → SaysOptions words o → AsksVersion words → ⊥ }
     ensures drill_help { (words : Words) (seed count : ℕ) → AsksDrill words seed count → AsksHelp words → ⊥ }

@@ -19,7 +19,7 @@ use std::rt::Files;
 /// aren't UTF-8 are left out. Where the folder itself is missing, a `list` that reads it and `sync_names` fail, and each file is
 /// absent.
 ///
-/// The folder is the process's own while it is open, and nobody else changes it: nsqd holds a lock on its data path. So `list`
+/// The folder is the process's own while it is open, and nobody else is to change it (nothing locks it). So `list`
 /// reads the folder where the beginning is empty, or where the names aren't known yet, or no longer: after an error of a call
 /// that makes, renames or removes a file, which may be done or undone, and after want of memory. By any other beginning it
 /// looks the names up among those that it read, in step with the calls since, and asks the system nothing. What others add

@@ -1,6 +1,6 @@
 use broker_state::{ChannelState, MessageCopy, State, TakenMessage, TopicState, Waiting};
-use path_plain::{FoundChannel, FoundNames, FoundTopic, KeptChannel, KeptNames, KeptTopic};
 use nsq_base::Memory;
+use path_plain::{FoundChannel, FoundNames, FoundTopic, KeptChannel, KeptNames, KeptTopic};
 use std::alloc::Global;
 use v2_frame::Message;
 

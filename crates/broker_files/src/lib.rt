@@ -6,10 +6,10 @@ mod left;
 mod starting;
 mod text;
 
+pub use left::{is_all_left, kept_names};
 pub use path_plain::{
     Finding, FoundChannel, FoundNames, FoundTopic, KeptChannel, KeptNames, KeptTopic, found,
     read_names,
 };
-pub use left::{is_all_left, kept_names};
 pub use starting::start;
 pub use text::names_text;

@@ -1,8 +1,8 @@
 ghost use Rattle.std.specs.Prelude.{◌<◌};
 
 use broker_state::{ChannelState, MessageCopy, Place, State, TopicState, Waiting};
-use path_plain::{FoundChannel, FoundNames, FoundTopic};
 use nsq_base::{Memory, Options};
+use path_plain::{FoundChannel, FoundNames, FoundTopic};
 use std::alloc::Global;
 use v2_frame::Message;
 

@@ -1,6 +1,6 @@
-use path_plain::{KeptChannel, KeptNames, KeptTopic};
 use itoa::Buffer;
 use nsq_base::Memory;
+use path_plain::{KeptChannel, KeptNames, KeptTopic};
 use std::alloc::Global;
 
 /// The text of the file of names, `nsqd.dat`: an object in JSON without spaces, its members in byte order; a name needs no escape. Want

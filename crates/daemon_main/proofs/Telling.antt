@@ -95,9 +95,12 @@ module _ {F C J K : Type 0} (notes : J → History) (files : F → Files) (comin
     started_told : (ended : ServeEnd) (x y : Kit F C J) → KeepsAll c1 c2 → StayedHome ended (Seen x s0 c0) (Seen y s1 c1) ⊎ (StartsOnce options c0 c1 × HasWorked seen options ended (Seen x s0 c0) (Seen y s1 c1))
         → StayedHome ended (Seen x s0 c0) (Seen y s2 c2) ⊎ (StartsOnce options c0 c2 × HasWorked seen options ended (Seen x s0 c0) (Seen y s2 c2))
     started_told ended x y keeps (inl h) = inl (record { files = h.files; coming = h.coming; notes = h.notes; callers = no_caller_then c0 c1 c2 h.callers keeps.callers; ends = h.ends })
-    started_told ended x y keeps (inr w) = inr (keeps.starts ∙ w.0, worked_between seen options ended (Seen x s0 c0) (Seen x s0 c0) (Seen y s1 c1) (Seen y s2 c2)
-        (record { files = refl; coming = refl; counts = record { folder = omega arith; accept = omega arith }; callers = record { coming = refl; given = refl; back = refl; halted = refl } })
-        (record { files = refl; coming = refl; notes = refl; counts = record { folder = omega arith; accept = omega (arith, accept_same) }; callers = keeps.callers }) w.1)
+    started_told ended x y keeps (inr w) = inr (
+      keeps.starts ∙ w.0,
+      worked_between seen options ended (Seen x s0 c0) (Seen x s0 c0) (Seen y s1 c1) (Seen y s2 c2)
+          (record { files = refl; coming = refl; counts = record { folder = omega arith; accept = omega arith }; callers = record { coming = refl; given = refl; back = refl; halted = refl } })
+          (record { files = refl; coming = refl; notes = refl; counts = record { folder = omega arith; accept = omega (arith, accept_same) }; callers = keeps.callers }) w.1,
+    )
 
     -- what holds of the kit before and after holds behind the line
     moved : (P Q : Kit F C J → Kit F C J → Type 0) (o o' o'' : Option (Kit F C J)) → o'' ≡ o' → ((x y : Kit F C J) → P x y → Q x y) → IfSome o (λ x. IfSome o' (λ y. P x y)) → IfSome o (λ x. IfSome o'' (λ y. Q x y))
@@ -134,7 +137,7 @@ module _ {F C J K : Type 0} (notes : J → History) (files : F → Files) (comin
         let keeps : IsTrue tells → KeepsAll c1 c2 = λ t. tells_keeps (line_of ending) c1 c2 s1.tell_faults s2.tell_faults (line t) in
         let cause : (x y : Kit F C J) → IsCaused s.ended tells_files tells_notes (files x.folder) (counts_of faults x.folder s0) (counts_of faults y.folder s1) → IsCaused s.ended tells_files tells_notes (files x.folder) (counts_of faults x.folder s0) (counts_of faults y.folder s2)
         = λ x y c. caused_wider tells_files tells_notes s.ended (files x.folder) (counts_of faults x.folder s0) (counts_of faults x.folder s0) (counts_of faults y.folder s1) (counts_of faults y.folder s2) (record { folder = omega arith; accept = omega arith })
-            (record { folder = omega arith; accept = omega (arith, accept_same) }) c in
+        (record { folder = omega arith; accept = omega (arith, accept_same) }) c in
         both_told (λ a b. IsCaused s.ended tells_files tells_notes a.files a.counts b.counts × (Told → Runs seen options s.ended a b)) (IsPlainRun Told tells tells_files tells_notes seen options (status_of ending)) (λ x y h. record {
           ended = s.ended;
           is = status;

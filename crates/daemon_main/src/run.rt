@@ -60,12 +60,7 @@ pub fn nsqd_run<R: Wait, H: Host<Entry>>(
 }
 
 /// Does what the words ask for.
-fn obey<R: Wait, H: Host<Entry>>(
-    rt: &R,
-    alloc: Global,
-    words: &[String],
-    host: &mut H,
-) -> Ending
+fn obey<R: Wait, H: Host<Entry>>(rt: &R, alloc: Global, words: &[String], host: &mut H) -> Ending
     requires { IsSome (H.state host.old).kit }
     ensures home { IsSome (H.state host.new).kit }
     ensures obeys { Obeys ⟦<H as Watched>⟧.told H.tells H.Folder.tells_files H.Journal.tells_notes ⟦<H as Watched>⟧.seen (H.state host.old) (H.state host.new) (H.content host.old) (H.content host.new)

@@ -3,8 +3,8 @@
 
 mod host;
 
-use host::SysHost;
 use daemon_main::{Ending, close, nsqd_run, status};
+use host::SysHost;
 use std::env;
 use std::process::ExitCode;
 

@@ -1,7 +1,7 @@
 //! Folders, and what an opening finds in each.
 
-use path_plain::{Finding, FoundChannel, FoundNames, FoundTopic, found};
 use nsq_base::{Body, Memory};
+use path_plain::{Finding, FoundChannel, FoundNames, FoundTopic, found};
 use queue_plain::NamedFile;
 use std::alloc::Global;
 use std::test::Fail;

@@ -1,7 +1,7 @@
 //! Texts of a file of names, and what each keeps.
 
-use path_plain::{KeptChannel, KeptNames, KeptTopic, read_names};
 use nsq_base::Memory;
+use path_plain::{KeptChannel, KeptNames, KeptTopic, read_names};
 use std::alloc::Global;
 use std::test::Fail;
 

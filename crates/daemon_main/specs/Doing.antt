@@ -16,46 +16,46 @@ use Rattle.daemon_main.specs.declared.ending.Ending.TheVariants.{BadOptions, Mem
 use Rattle.nsqd_words.specs.declared.request.Request.{Request}
 use Rattle.nsqd_words.specs.declared.request.Request.TheVariants as request
 
-module _ {F C J K : Type 0} (tells : Bool) (state state' : HostState F C J) (old new : HostContent K) where
+module _ {F C J K : Type 0} (tells : Bool) (host host' : HostState F C J) (old new : HostContent K) where
   -- a text was printed; or a part of it from its front, and the count of standard output rose
   pub data PrintsTo (text : List ℕ) : Ending → Type 0 where
     whole : (IsTrue tells → new ≡ record old { printed = old.printed ++ text }) → PrintsTo text Printed
-    part : (IsTrue tells → (n : ℕ) × (new ≡ record old { printed = old.printed ++ take n text })) → Rose state.print_faults state'.print_faults → PrintsTo text OutputFault
+    part : (IsTrue tells → (n : ℕ) × (new ≡ record old { printed = old.printed ++ take n text })) → Rose host.print_faults host'.print_faults → PrintsTo text OutputFault
 
   pub record PrintsSo (text : List ℕ) (ending : Ending) : Type 0 where
     pub prints : PrintsTo text ending
-    pub state : OnlyPrintFaults state state'
+    pub state : OnlyPrintFaults host host'
 
   -- nothing was done
   pub record DoesNothing : Type 0 where
-    pub state : state' ≡ state
+    pub state : host' ≡ host
     pub content : new ≡ old
 
   -- a text was printed, whatever it is, or memory was wanting for it
   abbrev pub PrintsOrWants : Ending → Type 0
   PrintsOrWants ending = ((text : List ℕ) × PrintsSo text ending) ⊎ ((ending ≡ Memory) × DoesNothing)
 
-module _ {F C J K : Type 0} (Told : Type 0) (tells tells_files tells_notes : Bool) (seen : Views K) (state state' : HostState F C J) (old new : HostContent K) (before after : Option (Sight K)) where
+module _ {F C J K : Type 0} (Told : Type 0) (tells tells_files tells_notes : Bool) (seen : Views K) (host host' : HostState F C J) (old new : HostContent K) (before after : Option (Sight K)) where
   -- it served with these options, and ended so
   pub record ServesSo (options : Options) (ending : Ending) : Type 0 where
     pub ended : ServeEnd
     pub is : ending ≡ Served ended
     pub asked : IsTrue tells → HasAsked options (serve_status ended) old new
-    pub faults : KeepsFaults state state'
+    pub faults : KeepsFaults host host'
     pub cause : Both before after (λ a b. IsCaused ended tells_files tells_notes a.files a.counts b.counts)
     pub runs : Told → Both before after (Runs seen options ended)
 
   -- what was asked for was done, and ended so
   abbrev pub Does : Request → Ending → Type 0
   Does (request.Serve options) ending = ServesSo options ending
-  Does (request.Drill seed count) ending = PrintsOrWants tells state state' old new ending
-  Does (request.Help text) ending = PrintsSo tells state state' old new (string_bytes text) ending
-  Does (request.Version text) ending = PrintsSo tells state state' old new (string_bytes text) ending
-  Does request.Unknown ending = (ending ≡ BadOptions) × DoesNothing tells state state' old new
+  Does (request.Drill seed count) ending = PrintsOrWants tells host host' old new ending
+  Does (request.Help text) ending = PrintsSo tells host host' old new (string_bytes text) ending
+  Does (request.Version text) ending = PrintsSo tells host host' old new (string_bytes text) ending
+  Does request.Unknown ending = (ending ≡ BadOptions) × DoesNothing tells host host' old new
 
   -- what the words ask for was done, or memory was wanting for reading them
   abbrev pub Obeys : (Request → Type 0) → Ending → Type 0
-  Obeys Asked ending = ((request : Request) × Asked request × Does request ending) ⊎ ((ending ≡ Memory) × DoesNothing tells state state' old new)
+  Obeys Asked ending = ((request : Request) × Asked request × Does request ending) ⊎ ((ending ≡ Memory) × DoesNothing tells host host' old new)
 
 -- the request can be carried out: its options are in their ranges, and so are a drill's numbers
 abbrev pub CanDo : Request → Type 0

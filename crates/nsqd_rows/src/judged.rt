@@ -1,0 +1,154 @@
+//! The plain programs' judgement: what an opening finds in files, whether a run's entries are legal behind that, whether each caller had a conversation,
+//! and whether all was kept.
+
+use crate::hosts::Outcome;
+use broker_files::{Finding, FoundNames, found, is_all_left, start};
+use broker_history::{Ended, Entry};
+use broker_state::State;
+use broker_steps::led_to;
+use broker_talks::is_talk_in;
+use nsq_base::{Body, Memory, Options};
+use nsq_fakes::MemConn;
+use nsq_outside::{End, Kind};
+use queue_plain::NamedFile;
+use std::alloc::Global;
+use v2_frame::Limits;
+
+/// The limits of each connection, those of the default options.
+const LIMITS: Limits = Limits {
+    msg: 1_048_576,
+    body: 5_242_880,
+};
+
+// The last epoch.
+const LAST_EPOCH: u32 = 16_777_215;
+
+/// Whether a run over these files that didn't open them noted nothing, and was refused with a line that fits what is found there, if it was.
+pub fn is_rightly_shut(
+    alloc: Global,
+    files: &[NamedFile],
+    outcome: &Outcome,
+) -> Result<bool, Memory> {
+    if outcome.has_opened() {
+        return Ok(true);
+    }
+    Ok(
+        outcome.entries().is_empty()
+            && (outcome.status != 2 || may_refuse(alloc, files, outcome.line())?),
+    )
+}
+
+// Whether an opening of these files may be refused with this line.
+fn may_refuse(alloc: Global, files: &[NamedFile], line: &[u8]) -> Result<bool, Memory> {
+    let finding = found(alloc, files)?;
+    Ok(match line {
+        b"nsqd: data path: bad data" => matches!(finding, Finding::BadData),
+        b"nsqd: data path: ids spent" => matches!(finding, Finding::EpochSpent),
+        b"nsqd: data path: disk fault" => true,
+        _ => false,
+    })
+}
+
+/// The states to which entries lead from the start that an opening of these files gives at a moment; none where they aren't legal.
+pub fn states_of(
+    alloc: Global,
+    options: &Options,
+    files: &[NamedFile],
+    began: u64,
+    entries: &[(Entry, End)],
+) -> Result<Vec<State>, Memory> {
+    match begun(alloc, options, files, began)? {
+        Some(state) => led_to(alloc, &state, entries),
+        None => Ok(Vec::new(alloc)),
+    }
+}
+
+fn begun(
+    alloc: Global,
+    options: &Options,
+    files: &[NamedFile],
+    began: u64,
+) -> Result<Option<State>, Memory> {
+    let Finding::Names(names) = found(alloc, files)? else {
+        return Ok(None);
+    };
+    if names.epoch >= LAST_EPOCH {
+        return Ok(None);
+    }
+    Ok(Some(start(alloc, &names, options, began)?))
+}
+
+/// Whether an opening of these files finds all that one of the states leaves, and nothing else. Behind the last epoch it finds that none is left.
+pub fn is_kept(alloc: Global, states: &[State], files: &[NamedFile]) -> Result<bool, Memory> {
+    match found(alloc, files)? {
+        Finding::Names(names) => one_leaves(alloc, states, &names),
+        Finding::EpochSpent => Ok(states.iter().all(|state| state.epoch == LAST_EPOCH)),
+        Finding::BadData => Ok(false),
+    }
+}
+
+fn one_leaves(alloc: Global, states: &[State], names: &FoundNames) -> Result<bool, Memory> {
+    for state in states {
+        if is_all_left(alloc, state, names)? {
+            return Ok(true);
+        }
+    }
+    Ok(false)
+}
+
+/// Whether the caller at this place was handed back under its number: one of TCP had a conversation that ended in one of these ways, and of one of HTTP
+/// nothing was read, nothing was written to it, and it has no conversation.
+pub fn is_served(
+    alloc: Global,
+    outcome: &Outcome,
+    place: usize,
+    endings: &[Ended],
+) -> Result<bool, Memory> {
+    let Some((number, kind, conn)) = outcome.caller(place) else {
+        return Ok(false);
+    };
+    if number.checked_sub(1) != Some(place as u64) {
+        return Ok(false);
+    }
+    match kind {
+        Kind::Tcp => is_talk(alloc, outcome, number, conn, endings),
+        Kind::Http => Ok(is_untouched(outcome, number, conn)),
+    }
+}
+
+// Whether nothing came of a connection.
+fn is_untouched(outcome: &Outcome, number: u64, conn: &MemConn) -> bool {
+    for (entry, _) in outcome.entries() {
+        if entry.conn == number {
+            return false;
+        }
+    }
+    conn.pieces_read().is_empty() && conn.bytes_written().is_empty()
+}
+
+// Whether what a connection sent, its entries and what it got are a conversation that ended in one of these ways.
+fn is_talk(
+    alloc: Global,
+    outcome: &Outcome,
+    number: u64,
+    conn: &MemConn,
+    endings: &[Ended],
+) -> Result<bool, Memory> {
+    let pieces = pieces_of(alloc, conn)?;
+    for ended in endings {
+        let entries = outcome.entries();
+        let out = conn.bytes_written();
+        if is_talk_in(alloc, LIMITS, number, entries, 0, &pieces, out, *ended)? {
+            return Ok(true);
+        }
+    }
+    Ok(false)
+}
+
+fn pieces_of(alloc: Global, conn: &MemConn) -> Result<Vec<Body>, Memory> {
+    let mut pieces = Vec::new(alloc);
+    for piece in conn.pieces_read() {
+        pieces.push(Body::copy(alloc, piece)?)?;
+    }
+    Ok(pieces)
+}

@@ -46,6 +46,7 @@ static SETTINGS: [Setting; 3] = [
 ];
 
 // A seed's dice, and what its runs are given.
+#[derive(Drop)]
 struct Seed {
     dice: Dice,
     setting: Setting,

@@ -32,7 +32,7 @@ pub struct Outcome {
 }
 
 /// Makes a run.
-pub fn run<R: Wait>(rt: &R, alloc: Global, given: Given) -> Result<Outcome, Memory> {
+pub fn run_with<R: Wait>(rt: &R, alloc: Global, given: Given) -> Result<Outcome, Memory> {
     let Given {
         words,
         callers,
@@ -63,7 +63,7 @@ impl Outcome {
         }
     }
 
-    /// The line that was told, none of several and none of none.
+    /// The line that was told, where it is the only one.
     pub fn line(&self) -> &[u8] {
         match self.host.lines() {
             [line] => line,

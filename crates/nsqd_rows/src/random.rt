@@ -3,7 +3,7 @@
 
 use crate::dice::Dice;
 use crate::files::folder_of;
-use crate::hosts::{Given, Outcome, run};
+use crate::hosts::{Given, Outcome, run_with};
 use crate::judged::{is_kept, is_rightly_shut, is_served, states_of};
 use crate::setting::{DEFAULTS, SECOND, Setting, options_of, words_of};
 use broker_history::Ended;
@@ -113,7 +113,7 @@ fn run_wrong<R: Wait>(
 ) -> Result<Option<&'static str>, Memory> {
     let given = given_by(alloc, seed, epoch, files)?;
     let began = given.readings.first().copied().unwrap_or(0);
-    let outcome = run(rt, alloc, given)?;
+    let outcome = run_with(rt, alloc, given)?;
     if !is_status(seed, outcome.status) || !is_rightly_shut(alloc, files, &outcome)? {
         return Ok(Some("the status"));
     }

@@ -1,7 +1,7 @@
 //! Rows, what differs in one, and the test over all tables.
 
 use crate::files::{File, add_files, bytes_of, folder_of};
-use crate::hosts::{Given, Outcome, run};
+use crate::hosts::{Given, Outcome, run_with};
 use crate::judged::{is_kept, is_rightly_shut, is_served, states_of};
 use crate::setting::{DEFAULTS, Setting, options_of, words_of};
 use crate::tables::tables;
@@ -172,19 +172,19 @@ fn differs<R: Wait>(rt: &R, alloc: Global, row: &Row) -> Result<Option<&'static 
 fn run_differs<R: Wait>(
     rt: &R,
     alloc: Global,
-    row: &Run,
+    run: &Run,
     files: &mut Vec<NamedFile>,
 ) -> Result<Option<&'static str>, Memory> {
-    add_files(alloc, files, row.files)?;
-    let outcome = run(rt, alloc, given_by(alloc, row, files)?)?;
-    let wrong = shown_differs(alloc, row, files, &outcome)?;
+    add_files(alloc, files, run.files)?;
+    let outcome = run_with(rt, alloc, given_by(alloc, run, files)?)?;
+    let wrong = shown_differs(alloc, run, files, &outcome)?;
     if wrong.is_some() {
         return Ok(wrong);
     }
-    let states = noted(alloc, row, files, &outcome)?;
+    let states = noted(alloc, run, files, &outcome)?;
     let opened = outcome.has_opened();
     *files = outcome.leave(alloc)?;
-    left_differs(alloc, row, opened, &states, files)
+    left_differs(alloc, run, opened, &states, files)
 }
 
 // What differs in what a run over these files showed.

@@ -13,6 +13,9 @@ use queue_plain::NamedFile;
 use std::alloc::Global;
 use std::sync::Wait;
 
+// What a host in memory stands on.
+type MemKit = Kit<MemFolder, MemClock, MemJournal<Entry>>;
+
 /// What a run is given.
 #[derive(Drop)]
 pub struct Given {
@@ -95,15 +98,26 @@ impl Outcome {
 
     /// The files that are left.
     pub fn leave(self, alloc: Global) -> Result<Vec<NamedFile>, Memory> {
+        let mut folder = folder_in(self.kit());
+        files_in(alloc, &mut folder)
+    }
+
+    // The kit, with another journal.
+    fn kit(self) -> MemKit {
         let Outcome {
             status: _,
             mut host,
         } = self;
-        let Kit {
-            mut folder,
-            clock: _clock,
-            journal: _journal,
-        } = host.lend();
-        files_in(alloc, &mut folder)
+        host.lend()
     }
+}
+
+// The folder of a kit.
+fn folder_in(kit: MemKit) -> MemFolder {
+    let Kit {
+        folder,
+        clock: _clock,
+        journal: _journal,
+    } = kit;
+    folder
 }

@@ -23,12 +23,49 @@ const LIMITS: Limits = Limits {
 // The last epoch.
 const LAST_EPOCH: u32 = 16_777_215;
 
-/// Whether a run over these files that didn't open them noted nothing, and was refused with a line that fits what is found there, if it was.
-pub fn is_rightly_shut(
+/// What a run noted, as it is judged.
+#[derive(Drop)]
+pub struct Judged {
+    /// What is wrong with it, if something is.
+    pub wrong: Option<&'static str>,
+    /// Whether it opened the files and ended with status 0.
+    clean: bool,
+    /// The states to which it may have led.
+    states: Vec<State>,
+}
+
+/// Judges what a run over these files noted, with these options and the clock's first reading.
+pub fn judge(
     alloc: Global,
+    options: &Options,
+    began: u64,
     files: &[NamedFile],
     outcome: &Outcome,
-) -> Result<bool, Memory> {
+) -> Result<Judged, Memory> {
+    let states = states_of(alloc, options, files, began, outcome.entries())?;
+    let wrong = if !is_rightly_shut(alloc, files, outcome)? {
+        Some("the refusal")
+    } else if outcome.has_opened() && states.is_empty() {
+        Some("the history isn't legal")
+    } else {
+        None
+    };
+    Ok(Judged {
+        wrong,
+        clean: outcome.has_opened() && outcome.status == 0,
+        states,
+    })
+}
+
+impl Judged {
+    /// Whether these files, which it left, keep all that they must.
+    pub fn is_kept(&self, alloc: Global, files: &[NamedFile]) -> Result<bool, Memory> {
+        Ok(!self.clean || is_kept(alloc, &self.states, files)?)
+    }
+}
+
+// Whether a run over these files that didn't open them noted nothing, and was refused with a line that fits what is found there, if it was.
+fn is_rightly_shut(alloc: Global, files: &[NamedFile], outcome: &Outcome) -> Result<bool, Memory> {
     if outcome.has_opened() {
         return Ok(true);
     }
@@ -41,16 +78,20 @@ pub fn is_rightly_shut(
 // Whether an opening of these files may be refused with this line.
 fn may_refuse(alloc: Global, files: &[NamedFile], line: &[u8]) -> Result<bool, Memory> {
     let finding = found(alloc, files)?;
-    Ok(match line {
-        b"nsqd: data path: bad data" => matches!(finding, Finding::BadData),
-        b"nsqd: data path: ids spent" => matches!(finding, Finding::EpochSpent),
-        b"nsqd: data path: disk fault" => true,
-        _ => false,
-    })
+    Ok(line == b"nsqd: data path: disk fault" || line == refusal(&finding))
 }
 
-/// The states to which entries lead from the start that an opening of these files gives at a moment; none where they aren't legal.
-pub fn states_of(
+// The line with which what was found is refused; an empty one where it isn't.
+fn refusal(finding: &Finding) -> &'static [u8] {
+    match finding {
+        Finding::BadData => b"nsqd: data path: bad data",
+        Finding::EpochSpent => b"nsqd: data path: ids spent",
+        Finding::Names(_) => b"",
+    }
+}
+
+// The states to which entries lead from the start that an opening of these files gives at a moment; none where they aren't legal.
+fn states_of(
     alloc: Global,
     options: &Options,
     files: &[NamedFile],
@@ -78,8 +119,8 @@ fn begun(
     Ok(Some(start(alloc, &names, options, began)?))
 }
 
-/// Whether an opening of these files finds all that one of the states leaves, and nothing else. Behind the last epoch it finds that none is left.
-pub fn is_kept(alloc: Global, states: &[State], files: &[NamedFile]) -> Result<bool, Memory> {
+// Whether an opening of these files finds all that one of the states leaves, and nothing else. Behind the last epoch it finds that none is left.
+fn is_kept(alloc: Global, states: &[State], files: &[NamedFile]) -> Result<bool, Memory> {
     match found(alloc, files)? {
         Finding::Names(names) => one_leaves(alloc, states, &names),
         Finding::EpochSpent => Ok(states.iter().all(|state| state.epoch == LAST_EPOCH)),

@@ -4,10 +4,9 @@
 use crate::dice::Dice;
 use crate::files::folder_of;
 use crate::hosts::{Given, Outcome, run_with};
-use crate::judged::{is_kept, is_rightly_shut, is_served, states_of};
+use crate::judged::{Judged, is_served, judge};
 use crate::setting::{DEFAULTS, SECOND, Setting, options_of, words_of};
 use broker_history::Ended;
-use broker_state::State;
 use nsq_base::Memory;
 use nsq_fakes::MemConn;
 use nsq_outside::Kind;
@@ -114,36 +113,37 @@ fn run_wrong<R: Wait>(
     let given = given_by(alloc, seed, epoch, files)?;
     let began = given.readings.first().copied().unwrap_or(0);
     let outcome = run_with(rt, alloc, given)?;
-    if !is_status(seed, outcome.status) || !is_rightly_shut(alloc, files, &outcome)? {
+    outcome_wrong(alloc, seed, began, files, outcome)
+}
+
+// What is wrong with what a run of a seed over these files came to. Then they are those that it left.
+fn outcome_wrong(
+    alloc: Global,
+    seed: &Seed,
+    began: u64,
+    files: &mut Vec<NamedFile>,
+    outcome: Outcome,
+) -> Result<Option<&'static str>, Memory> {
+    let shown = shown_wrong(alloc, seed, &outcome)?;
+    let judged = judged(alloc, seed, began, files, &outcome)?;
+    *files = outcome.leave(alloc)?;
+    if shown.is_some() {
+        return Ok(shown);
+    }
+    left_wrong(alloc, &judged, files)
+}
+
+// What is wrong with the status of a run of a seed, or with its callers.
+fn shown_wrong(
+    alloc: Global,
+    seed: &Seed,
+    outcome: &Outcome,
+) -> Result<Option<&'static str>, Memory> {
+    if !is_status(seed, outcome.status) {
         return Ok(Some("the status"));
     }
-    let options = options_of(alloc, seed.setting)?;
-    let states = states_of(alloc, &options, files, began, outcome.entries())?;
-    let wrong = noted_wrong(alloc, &outcome, &states)?;
-    if wrong.is_some() {
-        return Ok(wrong);
-    }
-    let clean = outcome.status == 0;
-    *files = outcome.leave(alloc)?;
-    left_wrong(alloc, clean, &states, files)
-}
-
-// Whether a run of a seed may end with this status.
-fn is_status(seed: &Seed, status: u8) -> bool {
-    status == 0 || seed.fails && (status == 2 || status == 3)
-}
-
-// What is wrong with what a run noted, which led to these states.
-fn noted_wrong(
-    alloc: Global,
-    outcome: &Outcome,
-    states: &[State],
-) -> Result<Option<&'static str>, Memory> {
     if !outcome.has_opened() {
         return Ok(None);
-    }
-    if states.is_empty() {
-        return Ok(Some("the history isn't legal"));
     }
     if outcome.count() != CALLERS {
         return Ok(Some("not all are handed back"));
@@ -156,14 +156,33 @@ fn noted_wrong(
     Ok(None)
 }
 
-// What is wrong with the files that a run left.
+// Whether a run of a seed may end with this status.
+fn is_status(seed: &Seed, status: u8) -> bool {
+    status == 0 || seed.fails && (status == 2 || status == 3)
+}
+
+// How what a run of a seed over these files noted is judged.
+fn judged(
+    alloc: Global,
+    seed: &Seed,
+    began: u64,
+    files: &[NamedFile],
+    outcome: &Outcome,
+) -> Result<Judged, Memory> {
+    let options = options_of(alloc, seed.setting)?;
+    judge(alloc, &options, began, files, outcome)
+}
+
+// What is wrong with what a run noted, or with the files that it left.
 fn left_wrong(
     alloc: Global,
-    clean: bool,
-    states: &[State],
+    judged: &Judged,
     files: &[NamedFile],
 ) -> Result<Option<&'static str>, Memory> {
-    if clean && !is_kept(alloc, states, files)? {
+    if judged.wrong.is_some() {
+        return Ok(judged.wrong);
+    }
+    if !judged.is_kept(alloc, files)? {
         return Ok(Some("something else is kept"));
     }
     Ok(None)

@@ -2,11 +2,10 @@
 
 use crate::files::{File, add_files, bytes_of, folder_of};
 use crate::hosts::{Given, Outcome, run_with};
-use crate::judged::{is_kept, is_rightly_shut, is_served, states_of};
+use crate::judged::{Judged, is_served, judge};
 use crate::setting::{DEFAULTS, Setting, options_of, words_of};
 use crate::tables::tables;
 use broker_history::Ended;
-use broker_state::State;
 use nsq_base::{Body, Memory};
 use nsq_fakes::{Failing, MemConn, Piece};
 use nsq_outside::Kind;
@@ -176,22 +175,31 @@ fn run_differs<R: Wait>(
     files: &mut Vec<NamedFile>,
 ) -> Result<Option<&'static str>, Memory> {
     add_files(alloc, files, run.files)?;
-    let outcome = run_with(rt, alloc, given_by(alloc, run, files)?)?;
-    let wrong = shown_differs(alloc, run, files, &outcome)?;
-    if wrong.is_some() {
-        return Ok(wrong);
-    }
-    let states = noted(alloc, run, files, &outcome)?;
-    let opened = outcome.has_opened();
-    *files = outcome.leave(alloc)?;
-    left_differs(alloc, run, opened, &states, files)
+    let given = given_by(alloc, run, files)?;
+    let outcome = run_with(rt, alloc, given)?;
+    outcome_differs(alloc, run, files, outcome)
 }
 
-// What differs in what a run over these files showed.
+// What differs in what a run over these files came to. Then they are those that it left.
+fn outcome_differs(
+    alloc: Global,
+    run: &Run,
+    files: &mut Vec<NamedFile>,
+    outcome: Outcome,
+) -> Result<Option<&'static str>, Memory> {
+    let shown = shown_differs(alloc, run, &outcome)?;
+    let judged = judged(alloc, run, files, &outcome)?;
+    *files = outcome.leave(alloc)?;
+    if shown.is_some() {
+        return Ok(shown);
+    }
+    left_differs(alloc, run, &judged, files)
+}
+
+// What differs in what a run showed.
 fn shown_differs(
     alloc: Global,
     run: &Run,
-    files: &[NamedFile],
     outcome: &Outcome,
 ) -> Result<Option<&'static str>, Memory> {
     if outcome.status != run.status {
@@ -202,9 +210,6 @@ fn shown_differs(
     }
     if outcome.printed() != run.printed {
         return Ok(Some("what is printed"));
-    }
-    if !is_rightly_shut(alloc, files, outcome)? {
-        return Ok(Some("the refusal"));
     }
     callers_differ(alloc, run.callers, outcome)
 }
@@ -244,31 +249,36 @@ fn has_got(outcome: &Outcome, place: usize, frames: &[&[u8]]) -> bool {
     rest.is_empty()
 }
 
-// The states to which a run over these files was led; none where it isn't legal.
-fn noted(
+// How what a run over these files noted is judged.
+fn judged(
     alloc: Global,
     run: &Run,
     files: &[NamedFile],
     outcome: &Outcome,
-) -> Result<Vec<State>, Memory> {
+) -> Result<Judged, Memory> {
     let options = options_of(alloc, run.setting)?;
-    let readings = readings_of(alloc, run.clock)?;
-    let began = readings.first().copied().unwrap_or(0);
-    states_of(alloc, &options, files, began, outcome.entries())
+    judge(alloc, &options, began(run.clock), files, outcome)
+}
+
+// What the clock shows at the opening.
+fn began(clock: Shows) -> u64 {
+    match clock {
+        Shows::These([(moment, _), ..]) => *moment,
+        _ => 0,
+    }
 }
 
 // What differs in what was noted, and in the files that were left.
 fn left_differs(
     alloc: Global,
     run: &Run,
-    opened: bool,
-    states: &[State],
+    judged: &Judged,
     files: &[NamedFile],
 ) -> Result<Option<&'static str>, Memory> {
-    if opened && states.is_empty() {
-        return Ok(Some("the history isn't legal"));
+    if judged.wrong.is_some() {
+        return Ok(judged.wrong);
     }
-    if opened && run.status == 0 && !is_kept(alloc, states, files)? {
+    if !judged.is_kept(alloc, files)? {
         return Ok(Some("something else is kept"));
     }
     for (name, bytes) in run.leaves {

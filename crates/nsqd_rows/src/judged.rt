@@ -20,6 +20,9 @@ const LIMITS: Limits = Limits {
     body: 5_242_880,
 };
 
+// The line of an opening at which the folder failed.
+const DISK_FAULT: &[u8] = b"nsqd: data path: disk fault";
+
 // The last epoch.
 const LAST_EPOCH: u32 = 16_777_215;
 
@@ -78,7 +81,7 @@ fn is_rightly_shut(alloc: Global, files: &[NamedFile], outcome: &Outcome) -> Res
 // Whether an opening of these files may be refused with this line.
 fn may_refuse(alloc: Global, files: &[NamedFile], line: &[u8]) -> Result<bool, Memory> {
     let finding = found(alloc, files)?;
-    Ok(line == b"nsqd: data path: disk fault" || line == refusal(&finding))
+    Ok(line == DISK_FAULT || line == refusal(&finding))
 }
 
 // The line with which what was found is refused; an empty one where it isn't.

@@ -84,12 +84,12 @@ fn may_refuse(alloc: Global, files: &[NamedFile], line: &[u8]) -> Result<bool, M
     Ok(line == DISK_FAULT || line == refusal(&finding))
 }
 
-// The line with which what was found is refused; an empty one where it isn't.
+// The line with which what was found is refused: that of a folder that failed, where nothing else is wrong with it.
 fn refusal(finding: &Finding) -> &'static [u8] {
     match finding {
         Finding::BadData => b"nsqd: data path: bad data",
         Finding::EpochSpent => b"nsqd: data path: ids spent",
-        Finding::Names(_) => b"",
+        Finding::Names(_) => DISK_FAULT,
     }
 }
 

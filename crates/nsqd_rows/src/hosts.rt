@@ -1,0 +1,123 @@
+//! A run over a host in memory, and what is seen of the host behind it.
+
+ghost use Rattle.std.specs.Prelude.{IsSome};
+ghost use Rattle.nsq_fakes.specs.MemHosts.{state_of};
+
+use crate::files::files_in;
+use broker_history::Entry;
+use daemon_main::nsqd_run;
+use nsq_base::Memory;
+use nsq_fakes::{MemClock, MemConn, MemFolder, MemHost, MemJournal};
+use nsq_outside::{End, Host, Kind, Kit};
+use queue_plain::NamedFile;
+use std::alloc::Global;
+use std::sync::Wait;
+
+// What a host in memory stands on.
+type MemKit = Kit<MemFolder, MemClock, MemJournal<Entry>>;
+
+/// What a run is given.
+#[derive(Drop)]
+pub struct Given {
+    pub words: Vec<String>,
+    pub callers: Vec<(Kind, MemConn)>,
+    pub folder: MemFolder,
+    /// The readings of the clock.
+    pub readings: Vec<u64>,
+}
+
+/// What a run came to.
+#[derive(Drop)]
+pub struct Outcome {
+    pub status: u8,
+    host: MemHost<Entry>,
+    ghost home: { IsSome (state_of host).kit },
+}
+
+/// Makes a run.
+pub fn run_with<R: Wait>(rt: &R, alloc: Global, given: Given) -> Result<Outcome, Memory> {
+    let Given {
+        words,
+        callers,
+        folder,
+        readings,
+    } = given;
+    let kit = Kit {
+        folder,
+        clock: MemClock::new(alloc, readings)?,
+        journal: MemJournal::new(alloc),
+    };
+    let mut host = MemHost::new(alloc, callers, Vec::new(alloc), kit, false)?;
+    let status = nsqd_run(rt, alloc, &words, &mut host);
+    Ok(Outcome { status, host })
+}
+
+impl Outcome {
+    /// Whether the data path was opened.
+    pub fn has_opened(&self) -> bool {
+        !self.host.starts().is_empty() && self.status != 2
+    }
+
+    /// What was noted, in order.
+    pub fn entries(&self) -> &[(Entry, End)] {
+        match self.host.kit() {
+            Some(kit) => kit.journal.entries(),
+            None => &[],
+        }
+    }
+
+    /// The line that was told, where it is the only one.
+    pub fn line(&self) -> &[u8] {
+        match self.host.lines() {
+            [line] => line,
+            _ => b"",
+        }
+    }
+
+    /// How many lines were told.
+    pub fn lines(&self) -> usize {
+        self.host.lines().len()
+    }
+
+    /// What was printed.
+    pub fn printed(&self) -> &[u8] {
+        self.host.printed()
+    }
+
+    /// How many callers were handed back.
+    pub fn count(&self) -> usize {
+        self.host.back().len()
+    }
+
+    /// The caller that was handed back at this place, with its number.
+    pub fn caller(&self, place: usize) -> Option<(u64, Kind, &MemConn)> {
+        let (number, conn) = self.host.back().get(place)?;
+        let kind = self.host.given().get(place)?;
+        Some((*number, *kind, conn))
+    }
+
+    /// The files that are left.
+    pub fn leave(self, alloc: Global) -> Result<Vec<NamedFile>, Memory> {
+        let mut folder = folder_in(self.kit());
+        files_in(alloc, &mut folder)
+    }
+
+    // The kit, with another journal.
+    fn kit(self) -> MemKit {
+        let Outcome {
+            status: _,
+            mut host,
+        } = self;
+        host.lend()
+    }
+}
+
+// The folder of a kit.
+fn folder_in(kit: MemKit) -> MemFolder {
+    let Kit {
+        folder,
+        clock: _clock,
+        journal: _journal,
+    } = kit;
+    folder
+}

@@ -4,18 +4,20 @@ use Rattle.std.specs.Prelude.{◌⊎◌, IsTrue}
 use Rattle.nsq_base.specs.Options.{IsInRange}
 use Rattle.nsq_base.specs.declared.options.Options.{Options}
 use Rattle.nsq_outside.specs.Causes.{Rose}
+use Rattle.nsq_outside.specs.Files.{Files}
 use Rattle.nsq_outside.specs.Hosts.{HostContent, HostState, OnlyPrintFaults, OnlyTellFaults}
 use Rattle.daemon_loop.specs.Served.{Views}
 use Rattle.daemon_run.specs.Endings.{status_of as serve_status}
-use Rattle.daemon_run.specs.Sights.{Sight}
+use Rattle.broker_history.specs.Entries.{History}
+use Rattle.daemon_run.specs.Sights.{Both, Sight, sight_of}
 use Rattle.daemon_run.specs.declared.ending.ServeEnd.{ServeEnd}
 use Rattle.daemon_run.specs.declared.ending.ServeEnd.TheVariants as end
 use Rattle.daemon_main.specs.Doing.{Does, DoesNothing, Obeys, PrintsOrWants, PrintsSo, PrintsTo, ServesSo, part as to_part, whole as to_whole}
-use Rattle.daemon_main.specs.Endings.{status_of}
-use Rattle.daemon_main.specs.Programs.{IsAsked, IsPrinted, PrintsSome, StaysHome, part, version_text, wants, whole}
+use Rattle.daemon_main.specs.Endings.{TellsLine, line_of, status_of}
+use Rattle.daemon_main.specs.Programs.{IsAsked, IsPlainRun, IsPrinted, PrintsSome, StaysHome, part, version_text, wants, whole}
 use Rattle.daemon_main.specs.declared.ending.Ending.{Ending}
 use Rattle.daemon_main.specs.declared.ending.Ending.TheVariants.{BadOptions, Memory, OutputFault, Printed, Served}
-use Rattle.daemon_main.proofs.Telling.{KeepsAll}
+use Rattle.daemon_main.proofs.Telling.{KeepsAll, plain_served, plain_wanting}
 use Rattle.nsqd_words.specs.Command.{Words}
 use Rattle.nsqd_words.specs.Requests.{Asks, AsksDrill, AsksHelp, AsksVersion, IsUnknown, SaysOptions}
 use Rattle.nsqd_words.specs.declared.request.Request.{Request}
@@ -79,7 +81,7 @@ module _ {F C J K : Type 0} (Told : Type 0) (tells tells_files tells_notes : Boo
   unknown_by words request.Unknown ending asks does is = asks
 
   pub status_unknown : (words : Words) (ending : Ending) → ObeysSo words ending → status_of ending ≡ 1 → IsUnknown words
-  status_unknown words ending (inl d) is = let asks = d.1 in unknown_by words d.0 ending asks.0 asks.1 is
+  status_unknown words ending (inl d) is = unknown_by words d.0 ending d.1 d.2 is
   status_unknown words ending (inr w) is = absurd (omega (arith, is, ap status_of w.0))
 
   -- and there always, but for want of memory
@@ -91,7 +93,7 @@ module _ {F C J K : Type 0} (Told : Type 0) (tells tells_files tells_notes : Boo
   known_by words request.Unknown ending x asks does u = ap status_of does.0
 
   pub unknown_status : (words : Words) (ending : Ending) → Excludes words → ObeysSo words ending → IsUnknown words → (status_of ending ≡ 1) ⊎ (status_of ending ≡ 5)
-  unknown_status words ending x (inl d) u = let asks = d.1 in inl (known_by words d.0 ending x asks.0 asks.1 u)
+  unknown_status words ending x (inl d) u = inl (known_by words d.0 ending x d.1 d.2 u)
   unknown_status words ending x (inr w) u = inr (ap status_of w.0)
 
   -- words that say options in their ranges were served with these, or memory was wanting
@@ -104,7 +106,7 @@ module _ {F C J K : Type 0} (Told : Type 0) (tells tells_files tells_notes : Boo
 
   pub served_words : (words : Words) (o : Options) (ending : Ending) → Excludes words → SaysOptions words o → IsInRange o → ObeysSo words ending
       → ServesSo Told tells tells_files tells_notes seen s0 s1 c0 c1 before after o ending ⊎ ((ending ≡ Memory) × DoesNothing tells s0 s1 c0 c1)
-  served_words words o ending x says range (inl d) = let asks = d.1 in inl (serves_by words o d.0 ending x says range asks.0 asks.1)
+  served_words words o ending x says range (inl d) = inl (serves_by words o d.0 ending x says range d.1 d.2)
   served_words words o ending x says range (inr w) = inr w
 
   -- what was printed
@@ -141,7 +143,7 @@ module _ {F C J K : Type 0} (Told : Type 0) (tells tells_files tells_notes : Boo
       }
 
   pub asked_words : (words : Words) (ending : Ending) → Excludes words → IsTrue tells → ObeysSo words ending → IsAsked words (status_of ending) c0.printed c1.printed s0.print_faults s1.print_faults
-  asked_words words ending x told (inl d) = let asks = d.1 in asked_by words d.0 ending x told asks.0 asks.1
+  asked_words words ending x told (inl d) = asked_by words d.0 ending x told d.1 d.2
   asked_words words ending x told (inr w) = wanted_by words ending w.0 w.1
 
   -- words that say no options in their ranges leave the kit at home
@@ -178,7 +180,7 @@ module _ {F C J K : Type 0} (Told : Type 0) (tells tells_files tells_notes : Boo
   stays_by words request.Unknown ending told none asks does = nothing_stays does.1
 
   pub stays_words : (words : Words) (ending : Ending) → IsTrue tells → ((o : Options) → SaysOptions words o → IsInRange o → ⊥) → ObeysSo words ending → StaysHome s0 s1 c0 c1
-  stays_words words ending told none (inl d) = let asks = d.1 in stays_by words d.0 ending told none asks.0 asks.1
+  stays_words words ending told none (inl d) = stays_by words d.0 ending told none d.1 d.2
   stays_words words ending told none (inr w) = nothing_stays w.1
 
 -- a line was told behind
@@ -190,3 +192,18 @@ module _ {F C J K : Type 0} (s0 s1 s2 : HostState F C J) (c0 c1 c2 : HostContent
 
   pub stays_then : StaysHome s0 s1 c0 c1 → StaysHome s0 s2 c0 c2
   stays_then h = record { kit = ap (λ (s : HostState F C J). s.kit) told.1 ∙ h.kit; starts = keeps.starts ∙ h.starts; given = keeps.callers.given ∙ h.given; back = keeps.callers.back ∙ h.back }
+
+-- a plain run, by what the words ask for
+module _ {F C J K : Type 0} (notes : J → History) (files : F → Files) (coming : C → ℕ → ℕ) (faults : F → ℕ) (Told : Type 0) (tells tells_files tells_notes : Bool) (host_of : Told → IsTrue tells) (seen : Views K) (s0 s1 s2 : HostState F C J) (c0 c1 c2 : HostContent K)
+    (told : OnlyTellFaults s1 s2) where
+  pub plain_words : (words : Words) (o : Options) (ending : Ending) (status : ℕ) → status ≡ status_of ending → Excludes words → SaysOptions words o → IsInRange o → (IsTrue tells → TellsLine (line_of ending) c1 c2 s1.tell_faults s2.tell_faults)
+      → Obeys Told tells tells_files tells_notes seen s0 s1 c0 c1 (sight_of notes files coming faults s0 c0) (sight_of notes files coming faults s1 c1) (Asks words) ending
+      → Both (sight_of notes files coming faults s0 c0) (sight_of notes files coming faults s2 c2) (IsPlainRun Told tells tells_files tells_notes seen o status)
+  plain_words words o ending status is x says range line obeys =
+      subst (λ n. Both (sight_of notes files coming faults s0 c0) (sight_of notes files coming faults s2 c2) (IsPlainRun Told tells tells_files tells_notes seen o n)) (sym is)
+      (go (served_words Told tells tells_files tells_notes seen s0 s1 c0 c1 (sight_of notes files coming faults s0 c0) (sight_of notes files coming faults s1 c1) words o ending x says range obeys))
+    where
+      go : ServesSo Told tells tells_files tells_notes seen s0 s1 c0 c1 (sight_of notes files coming faults s0 c0) (sight_of notes files coming faults s1 c1) o ending ⊎ ((ending ≡ Memory) × DoesNothing tells s0 s1 c0 c1)
+          → Both (sight_of notes files coming faults s0 c0) (sight_of notes files coming faults s2 c2) (IsPlainRun Told tells tells_files tells_notes seen o (status_of ending))
+      go (inl s) = plain_served notes files coming faults Told tells tells_files tells_notes host_of seen o s0 s1 s2 c0 c1 c2 told ending line s
+      go (inr w) = plain_wanting notes files coming faults Told tells tells_files tells_notes host_of seen o s0 s1 s2 c0 c1 c2 told ending w.0 line w.1

@@ -160,7 +160,7 @@ module _ {F C J K : Type 0} (notes : J → History) (files : F → Files) (comin
         let keeps : IsTrue tells → KeepsAll c1 c2 = λ t. tells_keeps (line_of ending) c1 c2 s1.tell_faults s2.tell_faults (line t) in
         let same : KeepsAll c0 c1 = keeps_all c0 c1 n.content in
         let all : IsTrue tells → NoCaller c0 c2 = λ t. let k = keeps t in no_caller_then c0 c1 c2 same.callers k.callers in
-        kits (IsPlainRun Told tells tells_files tells_notes seen options (status_of ending)) s2 c2 s0.kit s2.kit (same_kit s0.kit s2.kit (ap (λ (x : HostState F C J). x.kit) told.1 ∙ ap (λ (x : HostState F C J). x.kit) n.state) (λ x. record {
+        kits (IsPlainRun Told tells tells_files tells_notes seen options (status_of ending)) s2 c2 s0.kit s2.kit (same_kit s0.kit s2.kit (λ x y. IsPlainRun Told tells tells_files tells_notes seen options (status_of ending) (Seen x s0 c0) (Seen y s2 c2)) (ap (λ (x : HostState F C J). x.kit) told.1 ∙ ap (λ (x : HostState F C J). x.kit) n.state) (λ x. record {
           ended = end.Memory;
           is = ap status_of is;
           caused = tt;

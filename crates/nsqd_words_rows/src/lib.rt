@@ -2,8 +2,6 @@
 #![tactic(auto)]
 
 #[cfg(test)]
-mod drills;
-#[cfg(test)]
 mod durations;
 #[cfg(test)]
 mod held;

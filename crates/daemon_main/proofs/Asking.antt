@@ -12,14 +12,14 @@ use Rattle.broker_history.specs.Entries.{History}
 use Rattle.daemon_run.specs.Sights.{Both, Sight, sight_of}
 use Rattle.daemon_run.specs.declared.ending.ServeEnd.{ServeEnd}
 use Rattle.daemon_run.specs.declared.ending.ServeEnd.TheVariants as end
-use Rattle.daemon_main.specs.Doing.{Does, DoesNothing, Obeys, PrintsOrWants, PrintsSo, PrintsTo, ServesSo, part as to_part, whole as to_whole}
+use Rattle.daemon_main.specs.Doing.{Does, DoesNothing, Obeys, PrintsSo, PrintsTo, ServesSo, part as to_part, whole as to_whole}
 use Rattle.daemon_main.specs.Endings.{TellsLine, line_of, status_of}
 use Rattle.daemon_main.specs.Programs.{IsAsked, IsPlainRun, IsPrinted, PrintsSome, StaysHome, part, version_text, wants, whole}
 use Rattle.daemon_main.specs.declared.ending.Ending.{Ending}
 use Rattle.daemon_main.specs.declared.ending.Ending.TheVariants.{BadOptions, Memory, OutputFault, Printed, Served}
 use Rattle.daemon_main.proofs.Telling.{KeepsAll, plain_served, plain_wanting}
 use Rattle.nsqd_words.specs.Command.{Words}
-use Rattle.nsqd_words.specs.Requests.{Asks, AsksDrill, AsksHelp, AsksVersion, IsUnknown, SaysOptions}
+use Rattle.nsqd_words.specs.Requests.{Asks, AsksHelp, AsksVersion, IsUnknown, SaysOptions}
 use Rattle.nsqd_words.specs.declared.request.Request.{Request}
 use Rattle.nsqd_words.specs.declared.request.Request.TheVariants as request
 
@@ -27,14 +27,10 @@ use Rattle.nsqd_words.specs.declared.request.Request.TheVariants as request
 pub record Excludes (words : Words) : Type 0 where
   pub one : (o p : Options) → SaysOptions words o → SaysOptions words p → o ≡ p
   pub known : (o : Options) → SaysOptions words o → IsInRange o → IsUnknown words → ⊥
-  pub drill_known : (seed count : ℕ) → AsksDrill words seed count → IsUnknown words → ⊥
   pub help_known : AsksHelp words → IsUnknown words → ⊥
   pub version_known : AsksVersion words → IsUnknown words → ⊥
-  pub options_drill : (o : Options) (seed count : ℕ) → SaysOptions words o → AsksDrill words seed count → ⊥
   pub options_help : (o : Options) → SaysOptions words o → AsksHelp words → ⊥
   pub options_version : (o : Options) → SaysOptions words o → AsksVersion words → ⊥
-  pub drill_help : (seed count : ℕ) → AsksDrill words seed count → AsksHelp words → ⊥
-  pub drill_version : (seed count : ℕ) → AsksDrill words seed count → AsksVersion words → ⊥
   pub help_version : AsksHelp words → AsksVersion words → ⊥
 
 not_one : (e : ServeEnd) → serve_status e ≡ 1 → ⊥
@@ -68,14 +64,9 @@ module _ {F C J K : Type 0} (Told : Type 0) (tells tells_files tells_notes : Boo
   pub printed_unserved : (text : List ℕ) (ending : Ending) → PrintsTo tells s0 s1 c0 c1 text ending → status_of ending ≡ 4 → ⊥
   printed_unserved text ending p is = printed_not 4 text ending (λ x. absurd (omega (arith, x))) (λ x. absurd (omega (arith, x))) p is
 
-  wants_not : (ending : Ending) → status_of ending ≡ 1 → PrintsOrWants tells s0 s1 c0 c1 ending → ⊥
-  wants_not ending is (inl p) = let done = p.1 in printed_not 1 p.0 ending (λ x. absurd (omega (arith, x))) (λ x. absurd (omega (arith, x))) done.prints is
-  wants_not ending is (inr w) = absurd (omega (arith, is, ap status_of w.0))
-
   -- status 1 comes only where the words aren't right
   unknown_by : (words : Words) (r : Request) (ending : Ending) → Asks words r → DoesSo r ending → status_of ending ≡ 1 → IsUnknown words
   unknown_by words (request.Serve o) ending asks does is = absurd (not_one does.ended (sym (ap status_of does.is) ∙ is))
-  unknown_by words (request.Drill seed count) ending asks does is = absurd (wants_not ending is does)
   unknown_by words (request.Help text) ending asks does is = absurd (printed_not 1 (string_bytes text) ending (λ x. absurd (omega (arith, x))) (λ x. absurd (omega (arith, x))) does.prints is)
   unknown_by words (request.Version text) ending asks does is = absurd (printed_not 1 (string_bytes text) ending (λ x. absurd (omega (arith, x))) (λ x. absurd (omega (arith, x))) does.prints is)
   unknown_by words request.Unknown ending asks does is = asks
@@ -87,7 +78,6 @@ module _ {F C J K : Type 0} (Told : Type 0) (tells tells_files tells_notes : Boo
   -- and there always, but for want of memory
   known_by : (words : Words) (r : Request) (ending : Ending) → Excludes words → Asks words r → DoesSo r ending → IsUnknown words → status_of ending ≡ 1
   known_by words (request.Serve o) ending x asks does u = absurd (x.known o asks.0 asks.1 u)
-  known_by words (request.Drill seed count) ending x asks does u = absurd (x.drill_known seed count asks u)
   known_by words (request.Help text) ending x asks does u = absurd (x.help_known asks u)
   known_by words (request.Version text) ending x asks does u = absurd (x.version_known asks.0 u)
   known_by words request.Unknown ending x asks does u = ap status_of does.0
@@ -99,7 +89,6 @@ module _ {F C J K : Type 0} (Told : Type 0) (tells tells_files tells_notes : Boo
   -- words that say options in their ranges were served with these, or memory was wanting
   serves_by : (words : Words) (o : Options) (r : Request) (ending : Ending) → Excludes words → SaysOptions words o → IsInRange o → Asks words r → DoesSo r ending → ServesSo Told tells tells_files tells_notes seen s0 s1 c0 c1 before after o ending
   serves_by words o (request.Serve p) ending x says range asks does = subst (λ q. ServesSo Told tells tells_files tells_notes seen s0 s1 c0 c1 before after q ending) (x.one p o asks.0 says) does
-  serves_by words o (request.Drill seed count) ending x says range asks does = absurd (x.options_drill o seed count says asks)
   serves_by words o (request.Help text) ending x says range asks does = absurd (x.options_help o says asks)
   serves_by words o (request.Version text) ending x says range asks does = absurd (x.options_version o says asks.0)
   serves_by words o request.Unknown ending x says range asks does = absurd (x.known o says range asks)
@@ -114,24 +103,17 @@ module _ {F C J K : Type 0} (Told : Type 0) (tells tells_files tells_notes : Boo
   printed_by text ending told (to_whole p) = whole refl (ap (λ (c : HostContent K). c.printed) (p told))
   printed_by text ending told (to_part p rose) = let q = p told in part q.0 refl (ap (λ (c : HostContent K). c.printed) q.1) rose
 
-  some_printed : (ending : Ending) → IsTrue tells → PrintsOrWants tells s0 s1 c0 c1 ending → PrintsSome (status_of ending) c0.printed c1.printed s0.print_faults s1.print_faults
-  some_printed ending told (inl p) = let done = p.1 in record { text = p.0; printed = printed_by p.0 ending told done.prints }
-  some_printed ending told (inr w) = let n = w.1 in record { text = []; printed = wants (ap status_of w.0) (ap (λ (c : HostContent K). c.printed) n.content) }
-
   asked_by : (words : Words) (r : Request) (ending : Ending) → Excludes words → IsTrue tells → Asks words r → DoesSo r ending → IsAsked words (status_of ending) c0.printed c1.printed s0.print_faults s1.print_faults
-  asked_by words (request.Serve o) ending x told asks does = record { version = λ v. absurd (x.options_version o asks.0 v); help = λ h. absurd (x.options_help o asks.0 h); drill = λ seed count d. absurd (x.options_drill o seed count asks.0 d) }
-  asked_by words (request.Drill seed count) ending x told asks does = record { version = λ v. absurd (x.drill_version seed count asks v); help = λ h. absurd (x.drill_help seed count asks h); drill = λ _ _ _. some_printed ending told does }
+  asked_by words (request.Serve o) ending x told asks does = record { version = λ v. absurd (x.options_version o asks.0 v); help = λ h. absurd (x.options_help o asks.0 h) }
   asked_by words (request.Help text) ending x told asks does = record {
     version = λ v. absurd (x.help_version asks v);
     help = λ _. record { text = string_bytes text; printed = printed_by (string_bytes text) ending told does.prints };
-    drill = λ seed count d. absurd (x.drill_help seed count d asks);
   }
   asked_by words (request.Version text) ending x told asks does = record {
     version = λ _. subst (λ t. IsPrinted t (status_of ending) c0.printed c1.printed s0.print_faults s1.print_faults) asks.1 (printed_by (string_bytes text) ending told does.prints);
     help = λ h. absurd (x.help_version h asks.0);
-    drill = λ seed count d. absurd (x.drill_version seed count d asks.0);
   }
-  asked_by words request.Unknown ending x told asks does = record { version = λ v. absurd (x.version_known v asks); help = λ h. absurd (x.help_known h asks); drill = λ seed count d. absurd (x.drill_known seed count d asks) }
+  asked_by words request.Unknown ending x told asks does = record { version = λ v. absurd (x.version_known v asks); help = λ h. absurd (x.help_known h asks) }
 
   wanted_by : (words : Words) (ending : Ending) → ending ≡ Memory → DoesNothing tells s0 s1 c0 c1 → IsAsked words (status_of ending) c0.printed c1.printed s0.print_faults s1.print_faults
   wanted_by words ending is n =
@@ -139,7 +121,6 @@ module _ {F C J K : Type 0} (Told : Type 0) (tells tells_files tells_notes : Boo
       record {
         version = λ _. wants (ap status_of is) same;
         help = λ _. record { text = []; printed = wants (ap status_of is) same };
-        drill = λ _ _ _. record { text = []; printed = wants (ap status_of is) same };
       }
 
   pub asked_words : (words : Words) (ending : Ending) → Excludes words → IsTrue tells → ObeysSo words ending → IsAsked words (status_of ending) c0.printed c1.printed s0.print_faults s1.print_faults
@@ -168,13 +149,8 @@ module _ {F C J K : Type 0} (Told : Type 0) (tells tells_files tells_notes : Boo
       go (to_whole q) = content_stays kit _ (q told)
       go (to_part q rose) = let r = q told in content_stays kit _ r.1
 
-  some_stay : (ending : Ending) → IsTrue tells → PrintsOrWants tells s0 s1 c0 c1 ending → StaysHome s0 s1 c0 c1
-  some_stay ending told (inl p) = prints_stay p.0 ending told p.1
-  some_stay ending told (inr w) = nothing_stays w.1
-
   stays_by : (words : Words) (r : Request) (ending : Ending) → IsTrue tells → ((o : Options) → SaysOptions words o → IsInRange o → ⊥) → Asks words r → DoesSo r ending → StaysHome s0 s1 c0 c1
   stays_by words (request.Serve o) ending told none asks does = absurd (none o asks.0 asks.1)
-  stays_by words (request.Drill seed count) ending told none asks does = some_stay ending told does
   stays_by words (request.Help text) ending told none asks does = prints_stay (string_bytes text) ending told does
   stays_by words (request.Version text) ending told none asks does = prints_stay (string_bytes text) ending told does
   stays_by words request.Unknown ending told none asks does = nothing_stays does.1

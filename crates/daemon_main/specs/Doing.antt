@@ -31,10 +31,6 @@ module _ {F C J K : Type 0} (tells : Bool) (host host' : HostState F C J) (old n
     pub state : host' ≡ host
     pub content : new ≡ old
 
-  -- a text was printed, whatever it is, or memory was wanting for it
-  abbrev pub PrintsOrWants : Ending → Type 0
-  PrintsOrWants ending = ((text : List ℕ) × PrintsSo text ending) ⊎ ((ending ≡ Memory) × DoesNothing)
-
 module _ {F C J K : Type 0} (Told : Type 0) (tells tells_files tells_notes : Bool) (seen : Views K) (host host' : HostState F C J) (old new : HostContent K) (before after : Option (Sight K)) where
   -- it served with these options, and ended so
   pub record ServesSo (options : Options) (ending : Ending) : Type 0 where
@@ -48,7 +44,6 @@ module _ {F C J K : Type 0} (Told : Type 0) (tells tells_files tells_notes : Boo
   -- what was asked for was done, and ended so
   abbrev pub Does : Request → Ending → Type 0
   Does (request.Serve options) ending = ServesSo options ending
-  Does (request.Drill seed count) ending = PrintsOrWants tells host host' old new ending
   Does (request.Help text) ending = PrintsSo tells host host' old new (string_bytes text) ending
   Does (request.Version text) ending = PrintsSo tells host host' old new (string_bytes text) ending
   Does request.Unknown ending = (ending ≡ BadOptions) × DoesNothing tells host host' old new
@@ -57,8 +52,7 @@ module _ {F C J K : Type 0} (Told : Type 0) (tells tells_files tells_notes : Boo
   abbrev pub Obeys : (Request → Type 0) → Ending → Type 0
   Obeys Asked ending = ((request : Request) × Asked request × Does request ending) ⊎ ((ending ≡ Memory) × DoesNothing tells host host' old new)
 
--- the request can be carried out: its options are in their ranges, and so are a drill's numbers
+-- the request can be carried out: its options are in their ranges
 abbrev pub CanDo : Request → Type 0
 CanDo (request.Serve options) = IsInRange options
-CanDo (request.Drill seed count) = (seed ≤ 2 ^ 59) × (count ≤ 100000)
 CanDo asked = Unit {0}

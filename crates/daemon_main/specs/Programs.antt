@@ -14,7 +14,7 @@ use Rattle.daemon_run.specs.declared.ending.ServeEnd.TheVariants as end
 use Rattle.daemon_main.specs.Endings.{IsTold, line_of}
 use Rattle.daemon_main.specs.declared.ending.Ending.TheVariants.{Served}
 use Rattle.nsqd_words.specs.Command.{Words}
-use Rattle.nsqd_words.specs.Requests.{AsksDrill, AsksHelp, AsksVersion}
+use Rattle.nsqd_words.specs.Requests.{AsksHelp, AsksVersion}
 
 -- what a plain run asks of its host: it is started once at most, with the addresses and the data path of the options, and it is where a caller was given or the
 -- status is 0. Nothing is printed
@@ -61,4 +61,3 @@ pub record StaysHome {F C J K : Type 0} (state state' : HostState F C J) (old ne
 pub record IsAsked (words : Words) (status : ℕ) (old new : List ℕ) (print print' : ℕ) : Type 0 where
   pub version : AsksVersion words → IsPrinted version_text status old new print print'
   pub help : AsksHelp words → PrintsSome status old new print print'
-  pub drill : (seed count : ℕ) → AsksDrill words seed count → PrintsSome status old new print print'

@@ -1,10 +1,10 @@
-ghost use Rattle.std.specs.Prelude.{◌≡◌, ◌⊎◌, ◌≤◌, ◌^◌, IsSome, IsTrue, map, string_bytes};
+ghost use Rattle.std.specs.Prelude.{◌≡◌, ◌⊎◌, IsSome, IsTrue, map, string_bytes};
 ghost use Rattle.nsq_base.specs.Options.{IsInRange};
 ghost use Rattle.nsq_base.specs.declared.options.Options.{Options as SaidOptions};
 ghost use Rattle.nsq_outside.specs.Hosts.{OnlyTellFaults};
 ghost use Rattle.daemon_loop.specs.Served.{ListenersFailedLast};
 ghost use Rattle.daemon_run.specs.Sights.{Both};
-ghost use Rattle.daemon_main.specs.Doing.{CanDo, Does, Obeys, PrintsOrWants, PrintsSo};
+ghost use Rattle.daemon_main.specs.Doing.{CanDo, Does, Obeys, PrintsSo};
 ghost use Rattle.daemon_main.specs.Endings.{TellsLine, line_of, status_of};
 ghost use Rattle.daemon_main.specs.Programs.{IsAsked, IsPlainRun, StaysHome};
 ghost use Rattle.nsqd_words.specs.Requests.{Asks, IsUnknown, SaysOptions};
@@ -12,8 +12,6 @@ ghost use Rattle.nsqd_words.specs.Requests.{Asks, IsUnknown, SaysOptions};
 use crate::ending::{Ending, line, status};
 use broker_history::Entry;
 use daemon_run::{Watched, serve};
-use drill::drill;
-use nsq_base::Memory;
 use nsq_outside::{Did, Host};
 use nsqd_words::{
     Request, options_are_known, options_are_one, other_requests_are_known, read_words,
@@ -89,7 +87,6 @@ fn carry_out<R: Wait, H: Host<Entry>>(
 {
     match request {
         Request::Serve(options) => Ending::Served(serve(rt, alloc, &options, host)),
-        Request::Drill(seed, count) => print_drill(rt, alloc, seed, count, host),
         Request::Help(text) => print(rt, host, text.as_bytes()),
         Request::Version(text) => print(rt, host, text.as_bytes()),
         Request::Unknown => Ending::BadOptions,
@@ -105,37 +102,6 @@ fn print<R: Wait, H: Host<Entry>>(rt: &R, host: &mut H, text: &[u8]) -> Ending
         Did::Done => Ending::Printed,
         Did::Failed => Ending::OutputFault,
     }
-}
-
-/// Runs a drill and prints what it counted.
-fn print_drill<R: Wait, H: Host<Entry>>(
-    rt: &R,
-    alloc: Global,
-    seed: u64,
-    count: u64,
-    host: &mut H,
-) -> Ending
-    requires seed { seed ≤ 2 ^ 59 }
-    requires count { count ≤ 100000 }
-    ensures prints { PrintsOrWants H.tells (H.state host.old) (H.state host.new) (H.content host.old) (H.content host.new) result }
-    ensures unserved { status_of result ≡ 4 → ⊥ }
-{
-    match drilled_text(rt, alloc, seed, count) {
-        Ok(text) => print(rt, host, text.as_bytes()),
-        Err(_) => Ending::Memory,
-    }
-}
-
-/// What a drill counted, as it is printed.
-fn drilled_text<R: Wait>(rt: &R, alloc: Global, seed: u64, count: u64) -> Result<String, Memory>
-    requires seed { seed ≤ 2 ^ 59 }
-    requires count { count ≤ 100000 }
-{
-    let drilled = drill(rt, alloc, seed, count)?;
-    Ok(format!(in alloc;
-        "published {}\nsent {}\nfinished {}\nleft {}\n",
-        drilled.published, drilled.sent, drilled.finished, drilled.left
-    )?)
 }
 
 /// Tells the line of an ending, where one is, and returns its status.

@@ -12,19 +12,15 @@ returns-clause-unknown g c = λ is. status_unknown _ g.H.Dialer.tells g.H.Folder
 pub returns-clause-serves : goal.returns-clause-serves
 returns-clause-serves g c = λ o says range.
     let excludes : Excludes (map string_bytes c.args.words.now)
-      = record {
-        one = c.options_are_one.ensures (map string_bytes c.args.words.now);
-        known = c.options_are_known.ensures (map string_bytes c.args.words.now);
-        drill_known = c.other_requests_are_known.ensures.drill (map string_bytes c.args.words.now);
-        help_known = c.other_requests_are_known.ensures.help (map string_bytes c.args.words.now);
-        version_known = c.other_requests_are_known.ensures.version (map string_bytes c.args.words.now);
-        options_drill = c.requests_exclude_each_other.ensures.options_drill (map string_bytes c.args.words.now);
-        options_help = c.requests_exclude_each_other.ensures.options_help (map string_bytes c.args.words.now);
-        options_version = c.requests_exclude_each_other.ensures.options_version (map string_bytes c.args.words.now);
-        drill_help = c.requests_exclude_each_other.ensures.drill_help (map string_bytes c.args.words.now);
-        drill_version = c.requests_exclude_each_other.ensures.drill_version (map string_bytes c.args.words.now);
-        help_version = c.requests_exclude_each_other.ensures.help_version (map string_bytes c.args.words.now);
-      } in
+    = record {
+      one = c.options_are_one.ensures (map string_bytes c.args.words.now);
+      known = c.options_are_known.ensures (map string_bytes c.args.words.now);
+      help_known = c.other_requests_are_known.ensures.help (map string_bytes c.args.words.now);
+      version_known = c.other_requests_are_known.ensures.version (map string_bytes c.args.words.now);
+      options_help = c.requests_exclude_each_other.ensures.options_help (map string_bytes c.args.words.now);
+      options_version = c.requests_exclude_each_other.ensures.options_version (map string_bytes c.args.words.now);
+      help_version = c.requests_exclude_each_other.ensures.help_version (map string_bytes c.args.words.now);
+    } in
     plain_words g.H.Journal.Journal.notes g.H.Folder.Folder.files g.H.Clock.Clock.coming g.H.Folder.Folder.folder_faults _ g.H.Dialer.tells g.H.Folder.Folder.tells_files g.H.Journal.Journal.tells_notes (λ told. told.host) _
     (g.H.Host.state c.args.host.now) (g.H.Host.state c.obey-ending.new.host) (g.H.Host.state c.close.new.host) (g.H.Host.content c.args.host.now) (g.H.Host.content c.obey-ending.new.host) (g.H.Host.content c.close.new.host) c.close.ensures.state
     (map string_bytes c.args.words.now) o c.obey-ending.result c.close.result c.close.ensures.status excludes says range c.close.ensures.content c.obey-ending.ensures.obeys
@@ -32,19 +28,15 @@ returns-clause-serves g c = λ o says range.
 pub returns-clause-prints : goal.returns-clause-prints
 returns-clause-prints g c = λ told.
     let excludes : Excludes (map string_bytes c.args.words.now)
-      = record {
-        one = c.options_are_one.ensures (map string_bytes c.args.words.now);
-        known = c.options_are_known.ensures (map string_bytes c.args.words.now);
-        drill_known = c.other_requests_are_known.ensures.drill (map string_bytes c.args.words.now);
-        help_known = c.other_requests_are_known.ensures.help (map string_bytes c.args.words.now);
-        version_known = c.other_requests_are_known.ensures.version (map string_bytes c.args.words.now);
-        options_drill = c.requests_exclude_each_other.ensures.options_drill (map string_bytes c.args.words.now);
-        options_help = c.requests_exclude_each_other.ensures.options_help (map string_bytes c.args.words.now);
-        options_version = c.requests_exclude_each_other.ensures.options_version (map string_bytes c.args.words.now);
-        drill_help = c.requests_exclude_each_other.ensures.drill_help (map string_bytes c.args.words.now);
-        drill_version = c.requests_exclude_each_other.ensures.drill_version (map string_bytes c.args.words.now);
-        help_version = c.requests_exclude_each_other.ensures.help_version (map string_bytes c.args.words.now);
-      } in
+    = record {
+      one = c.options_are_one.ensures (map string_bytes c.args.words.now);
+      known = c.options_are_known.ensures (map string_bytes c.args.words.now);
+      help_known = c.other_requests_are_known.ensures.help (map string_bytes c.args.words.now);
+      version_known = c.other_requests_are_known.ensures.version (map string_bytes c.args.words.now);
+      options_help = c.requests_exclude_each_other.ensures.options_help (map string_bytes c.args.words.now);
+      options_version = c.requests_exclude_each_other.ensures.options_version (map string_bytes c.args.words.now);
+      help_version = c.requests_exclude_each_other.ensures.help_version (map string_bytes c.args.words.now);
+    } in
     asked_then (g.H.Host.state c.args.host.now) (g.H.Host.state c.obey-ending.new.host) (g.H.Host.state c.close.new.host) (g.H.Host.content c.args.host.now) (g.H.Host.content c.obey-ending.new.host) (g.H.Host.content c.close.new.host) c.close.ensures.state (tells_keeps (line_of c.obey-ending.result) (g.H.Host.content c.obey-ending.new.host) (g.H.Host.content c.close.new.host) (g.H.Host.state c.obey-ending.new.host).tell_faults (g.H.Host.state c.close.new.host).tell_faults (c.close.ensures.content told)) (map string_bytes c.args.words.now) _ _ c.close.ensures.status
     (asked_words _ g.H.Dialer.tells g.H.Folder.Folder.tells_files g.H.Journal.Journal.tells_notes _ (g.H.Host.state c.args.host.now) (g.H.Host.state c.obey-ending.new.host) (g.H.Host.content c.args.host.now) (g.H.Host.content c.obey-ending.new.host) _ _ (map string_bytes c.args.words.now) c.obey-ending.result excludes told c.obey-ending.ensures.obeys)
 

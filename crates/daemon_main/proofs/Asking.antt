@@ -1,11 +1,10 @@
 -- What the words ask for, by what was done.
-use Rattle.std.proofs.Common.{◌≡◌, ◌≢◌, ◌≤◌, inl, inr, ℕ, ◌++◌, ◌∷◌, [], List, Bool, codes, length, refl, sym, ◌∙◌, ap, subst, arith, Option, Some, slice_get, string_bytes, take}
+use Rattle.std.proofs.Common.{◌≡◌, ◌≢◌, inl, inr, ℕ, [], List, Bool, refl, sym, ◌∙◌, ap, subst, arith, Option, string_bytes}
 use Rattle.std.specs.Prelude.{◌⊎◌, IsTrue}
 use Rattle.nsq_base.specs.Options.{IsInRange}
 use Rattle.nsq_base.specs.declared.options.Options.{Options}
-use Rattle.nsq_outside.specs.Causes.{Rose}
 use Rattle.nsq_outside.specs.Files.{Files}
-use Rattle.nsq_outside.specs.Hosts.{HostContent, HostState, OnlyPrintFaults, OnlyTellFaults}
+use Rattle.nsq_outside.specs.Hosts.{HostContent, HostState, OnlyTellFaults}
 use Rattle.daemon_loop.specs.Served.{Views}
 use Rattle.daemon_run.specs.Endings.{status_of as serve_status}
 use Rattle.broker_history.specs.Entries.{History}
@@ -14,9 +13,9 @@ use Rattle.daemon_run.specs.declared.ending.ServeEnd.{ServeEnd}
 use Rattle.daemon_run.specs.declared.ending.ServeEnd.TheVariants as end
 use Rattle.daemon_main.specs.Doing.{Does, DoesNothing, Obeys, PrintsSo, PrintsTo, ServesSo, part as to_part, whole as to_whole}
 use Rattle.daemon_main.specs.Endings.{TellsLine, line_of, status_of}
-use Rattle.daemon_main.specs.Programs.{IsAsked, IsPlainRun, IsPrinted, PrintsSome, StaysHome, part, version_text, wants, whole}
+use Rattle.daemon_main.specs.Programs.{IsAsked, IsPlainRun, IsPrinted, StaysHome, part, wants, whole}
 use Rattle.daemon_main.specs.declared.ending.Ending.{Ending}
-use Rattle.daemon_main.specs.declared.ending.Ending.TheVariants.{BadOptions, Memory, OutputFault, Printed, Served}
+use Rattle.daemon_main.specs.declared.ending.Ending.TheVariants.{Memory}
 use Rattle.daemon_main.proofs.Telling.{KeepsAll, plain_served, plain_wanting}
 use Rattle.nsqd_words.specs.Command.{Words}
 use Rattle.nsqd_words.specs.Requests.{Asks, AsksHelp, AsksVersion, IsUnknown, SaysOptions}

@@ -1,27 +1,25 @@
 -- The end of the program, behind what it did: the line of its ending is told.
-use Rattle.std.proofs.Common.{◌≡◌, ◌≤◌, inl, inr, ℕ, ◌++◌, ◌∷◌, [], List, Bool, refl, sym, ◌∙◌, ap, subst, arith, Option, Some, None, option_map}
+use Rattle.std.proofs.Common.{◌≡◌, inl, inr, ℕ, ◌++◌, ◌∷◌, [], List, Bool, refl, sym, ◌∙◌, ap, subst, arith, Option, Some, None, option_map}
 use Rattle.std.specs.Prelude.{◌⊎◌, IfSome, IsTrue}
 use Rattle.nsq_base.specs.declared.options.Options.{Options}
 use Rattle.nsq_outside.specs.Causes.{Rose}
 use Rattle.nsq_outside.specs.Files.{Files}
 use Rattle.nsq_outside.specs.Hosts.{HostContent, HostState, OnlyTellFaults, Tells}
 use Rattle.nsq_outside.specs.declared.host.Kit.{Kit}
-use Rattle.path_opening.specs.Opening.{HaveBytes}
 use Rattle.broker_history.specs.Entries.{History}
 use Rattle.daemon_loop.specs.Served.{Views}
 use Rattle.daemon_run.specs.Asked.{StartsOnce, start_of}
 use Rattle.daemon_run.specs.Endings.{IsCaused, status_of as serve_status}
-use Rattle.daemon_run.specs.Parts.{KeepsFaults}
 use Rattle.daemon_run.specs.Runs.{HasWorked, NoCaller, Runs, StayedHome}
 use Rattle.daemon_run.specs.Sights.{Both, Sight, counts_of, sight, sight_of}
 use Rattle.daemon_run.specs.declared.ending.ServeEnd.{ServeEnd}
 use Rattle.daemon_run.specs.declared.ending.ServeEnd.TheVariants as end
 use Rattle.daemon_run.proofs.Asking.{no_caller_then}
 use Rattle.daemon_run.proofs.Causes.{caused_wider, completes_told}
-use Rattle.daemon_run.proofs.Sighting.{After, Before, worked_between}
+use Rattle.daemon_run.proofs.Sighting.{worked_between}
 use Rattle.daemon_main.specs.Doing.{DoesNothing, ServesSo}
 use Rattle.daemon_main.specs.Endings.{IsTold, TellsLine, line_of, status_of}
-use Rattle.daemon_main.specs.Programs.{AsksHost, IsPlainRun}
+use Rattle.daemon_main.specs.Programs.{IsPlainRun}
 use Rattle.daemon_main.specs.declared.ending.Ending.{Ending}
 use Rattle.daemon_main.specs.declared.ending.Ending.TheVariants.{Memory, Served}
 

@@ -10,7 +10,6 @@ use Rattle.daemon_run.specs.Endings.{IsCaused, IsComplete, status_of}
 use Rattle.daemon_run.specs.Runs.{Runs}
 use Rattle.daemon_run.specs.Sights.{Sight}
 use Rattle.daemon_run.specs.declared.ending.ServeEnd.{ServeEnd}
-use Rattle.daemon_run.specs.declared.ending.ServeEnd.TheVariants as end
 use Rattle.daemon_main.specs.Endings.{IsTold, line_of}
 use Rattle.daemon_main.specs.declared.ending.Ending.TheVariants.{Served}
 use Rattle.nsqd_words.specs.Command.{Words}

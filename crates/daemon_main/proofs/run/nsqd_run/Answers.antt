@@ -1,8 +1,8 @@
-use Rattle.std.proofs.Common.{◌∙◌, ap, arith, map, refl, string_bytes, sym}
-use Rattle.nsq_outside.specs.Hosts.{HostContent, HostState}
+use Rattle.std.proofs.Common.{◌∙◌, ap, arith, map, string_bytes, sym}
+use Rattle.nsq_outside.specs.Hosts.{HostState}
 use Rattle.daemon_run.proofs.Asking.{failed_wider}
 use Rattle.daemon_main.specs.Endings.{line_of}
-use Rattle.daemon_main.proofs.Asking.{Excludes, asked_then, asked_words, plain_words, status_unknown, stays_then, stays_words, unknown_status}
+use Rattle.daemon_main.proofs.Asking.{Excludes, asked_then, asked_words, plain_words, status_unknown, stays_then, stays_words}
 use Rattle.daemon_main.proofs.Telling.{KeepsAll, tells_keeps}
 use Rattle.daemon_main.proofs.run.nsqd_run.Goals as goal
 

@@ -30,7 +30,7 @@ pub struct MemFolder {
 impl MemFolder {
     ghost use Rattle.nsq_fakes.specs.Failings.{CountsCall};
     ghost use Rattle.nsq_fakes.specs.Made.{Joins};
-    ghost use Rattle.nsq_fakes.specs.MemFolders.{counts_of, called_of, IsRefused, IsUnkept};
+    ghost use Rattle.nsq_fakes.specs.MemFolders.{counts_of, called_of, faults_of, IsRefused, IsUnkept};
 
     /// A folder with these files, of which these calls fail. Of several files with one name the first counts.
     pub fn new(
@@ -69,6 +69,13 @@ impl MemFolder {
         ensures { result.now ≡ called_of self.now }
     {
         &self.called
+    }
+
+    /// How many calls failed; at most 2^64 - 1, where the count stops.
+    pub fn faults(&self) -> u64
+        ensures { result ≡ faults_of self.now }
+    {
+        self.faults.count
     }
 
     /// Counts a call, and a fault where it is among those that fail.

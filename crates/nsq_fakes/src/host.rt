@@ -115,6 +115,27 @@ impl<E: Drop> MemHost<E> {
         self.kit.as_ref()
     }
 
+    /// How often it failed to say who calls; at most 2^64 - 1, where the count stops.
+    pub fn accept_faults(&self) -> u64
+        ensures { result ≡ (state_of self.now).accept_faults }
+    {
+        self.accept_faults.count
+    }
+
+    /// How often it failed to print; at most 2^64 - 1, where the count stops.
+    pub fn print_faults(&self) -> u64
+        ensures { result ≡ (state_of self.now).print_faults }
+    {
+        self.print_faults.count
+    }
+
+    /// How often it failed to tell a line; at most 2^64 - 1, where the count stops.
+    pub fn tell_faults(&self) -> u64
+        ensures { result ≡ (state_of self.now).tell_faults }
+    {
+        self.tell_faults.count
+    }
+
     /// The addresses that it was asked to dial. One for which it found no memory is missing.
     pub fn asked(&self) -> &[String]
         ensures { map string_bytes result.now ≡ (dials_of self.now).asked }

@@ -32,8 +32,11 @@ impl<'a, T: Turner> Desk for CallerDesk<'a, T> {
 
     ghost stays = { λ d. (((refl, refl), T.stays d.desk.number d.desk.floor.now), λ there. there) };
 
-    ghost goes_on = { λ a b c p q. (steps_join T.leads a.desk.number b.desk.number c.desk.number a.desk.floor.ghost_name b.desk.floor.ghost_name c.desk.floor.ghost_name a.desk.floor.now b.desk.floor.now c.desk.floor.now
-        (T.goes_on a.desk.number a.desk.floor.now b.desk.floor.now c.desk.floor.now) p.0 q.0, λ there. q.1 (p.1 there)) };
+    ghost goes_on = { λ a b c p q. (
+      steps_join T.leads a.desk.number b.desk.number c.desk.number a.desk.floor.ghost_name b.desk.floor.ghost_name c.desk.floor.ghost_name a.desk.floor.now b.desk.floor.now c.desk.floor.now
+          (T.goes_on a.desk.number a.desk.floor.now b.desk.floor.now c.desk.floor.now) p.0 q.0,
+      λ there. q.1 (p.1 there),
+    ) };
 
     fn turn<R: Wait>(&mut self, rt: &R, alloc: Global, conn: u64, call: Call) -> Turned {
         if self.desk.wanted > 0 {

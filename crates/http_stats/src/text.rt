@@ -13,12 +13,7 @@ use std::mem;
 /// Appends the statistics in JSON (nsq.io, nsqd, `/stats`) of a daemon that was opened at the moment `began`, in nanoseconds:
 /// without spaces, members in byte order of their names, topics, channels and clients as they are given. Want of memory is the
 /// only error: then `out` is as before. Nothing is allocated but the growth of `out`, and copies of texts that aren't UTF-8.
-pub fn stats_text(
-    alloc: Global,
-    stats: &Stats,
-    began: u64,
-    out: &mut Vec<u8>,
-) -> Result<(), Memory>
+pub fn stats_text(alloc: Global, stats: &Stats, began: u64, out: &mut Vec<u8>) -> Result<(), Memory>
     ensures ok { OnOk result (out.new.items ≡ out.old.items ++ stats_bytes began stats.now) }
     ensures err { OnErr result (out.new.items ≡ out.old.items) }
 {

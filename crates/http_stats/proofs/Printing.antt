@@ -1,5 +1,6 @@
 -- The tokens of the statistics are printed as their text.
-use Rattle.std.proofs.Common.{◌≡◌, ℕ, ◌/◌, Bool, true, false, List, [], ◌∷◌, ◌++◌, flat_map, Result, Ok, Err, OnOk, codes, decimal, append_assoc, refl, sym, ap, ◌∙◌}
+use Rattle.std.proofs.Common.{◌≡◌, ℕ, ◌/◌, Bool, true, false, List, [], ◌∷◌, ◌++◌, flat_map, append_assoc, codes, decimal}
+use Rattle.std.proofs.Common.{Result, Ok, Err, OnOk, refl, sym, ap, ◌∙◌}
 use Rattle.std.specs.Result.{is_err}
 use Rattle.json.specs.Token.{Token, begin_object, end_object, begin_array, end_array, key, string, number, boolean}
 use Rattle.json.specs.Print.{escape_byte, quoted, token_text, separator, print_from, print}
@@ -16,9 +17,15 @@ flag_is : (flag : Bool) → token_text (boolean flag) ≡ flag_text flag
 flag_is true = refl
 flag_is false = refl
 
--- a list whose items are printed as their texts
-module _ {X : Type 0} (tokens : X → List Token) (text : X → List ℕ) (prints : (later : Bool) (x : X) (rest : List Token) → print_from later (tokens x ++ rest) ≡ separator later begin_object ++ (text x ++ print_from true rest)) where
-  later_items : (xs : List X) (rest : List Token) → print_from true (flat_map tokens xs ++ end_array ∷ rest) ≡ flat_map (λ x. codes "," ++ text x) xs ++ 93 ∷ print_from true rest
+-- the tokens of a value that is an object are printed as its text, behind a comma where a value stands before it
+abbrev Prints : {X : Type 0} → (X → List Token) → (X → List ℕ) → Type 0
+Prints {X} tokens text =
+    (later : Bool) (x : X) (rest : List Token) → print_from later (tokens x ++ rest) ≡ separator later begin_object ++ (text x ++ print_from true rest)
+
+-- and so a list of them
+module _ {X : Type 0} (tokens : X → List Token) (text : X → List ℕ) (prints : Prints tokens text) where
+  later_items : (xs : List X) (rest : List Token)
+      → print_from true (flat_map tokens xs ++ end_array ∷ rest) ≡ flat_map (λ x. codes "," ++ text x) xs ++ 93 ∷ print_from true rest
   unfolding print_from
   later_items [] rest = refl
   later_items (x ∷ xs) rest =
@@ -36,7 +43,7 @@ module _ {X : Type 0} (tokens : X → List Token) (text : X → List ℕ) (print
       ∙ ap (λ (r : List ℕ). text x ++ r) (later_items xs rest)
       ∙ sym (append_assoc (text x) (flat_map (λ x. codes "," ++ text x) xs) (93 ∷ print_from true rest))
 
-client_prints : (later : Bool) (c : ClientStats) (rest : List Token) → print_from later (client_tokens c ++ rest) ≡ separator later begin_object ++ (client_text c ++ print_from true rest)
+client_prints : Prints client_tokens client_text
 unfolding escape_byte print_from
 client_prints later c rest = ap (λ (r : List ℕ). separator later begin_object ++ r) (together (codes "{\"client_id\":") (
     said_text c.client_id
@@ -82,16 +89,16 @@ channel_back k flag =
     ∷ codes ",\"timeout_count\":" ∷ decimal k.timeout_count
     ∷ codes "}" ∷ []
 
-channel_prints : (later : Bool) (k : ChannelStats) (rest : List Token) → print_from later (channel_tokens k ++ rest) ≡ separator later begin_object ++ (channel_text k ++ print_from true rest)
+channel_prints : Prints channel_tokens channel_text
 unfolding escape_byte print_from
 channel_prints later k rest =
-    let first = codes "{\"backend_depth\":" in
+    let front = λ (r : List ℕ). separator later begin_object ++ (codes "{\"backend_depth\":" ++ before_rest (channel_front k) r) in
     let clients = joined client_text k.clients in
     let more = print_from true rest in
     ap (print_from later) (sym (together (channel_tokens_front k) (channel_tokens_back k) rest))
-    ∙ ap (λ (r : List ℕ). separator later begin_object ++ (first ++ before_rest (channel_front k) r)) (list_prints client_tokens client_text client_prints k.clients _)
-    ∙ ap (λ (f : List ℕ). separator later begin_object ++ (first ++ before_rest (channel_front k) (clients ++ before_rest (channel_back k f) more))) (flag_is k.paused)
-    ∙ ap (λ (r : List ℕ). separator later begin_object ++ r) (together first (channel_front k ++ clients ∷ channel_back k (flag_text k.paused)) more)
+    ∙ ap front (list_prints client_tokens client_text client_prints k.clients _)
+    ∙ ap (λ (f : List ℕ). front (clients ++ before_rest (channel_back k f) more)) (flag_is k.paused)
+    ∙ ap (λ (r : List ℕ). separator later begin_object ++ r) (together (codes "{\"backend_depth\":") (channel_front k ++ clients ∷ channel_back k (flag_text k.paused)) more)
 
 -- the tokens of a topic up to the last of its channels, and those behind
 abbrev topic_tokens_front : TopicStats → List Token
@@ -119,16 +126,16 @@ topic_back t flag =
     ∷ codes ",\"topic_name\":" ∷ quoted t.topic_name
     ∷ codes "}" ∷ []
 
-topic_prints : (later : Bool) (t : TopicStats) (rest : List Token) → print_from later (topic_tokens t ++ rest) ≡ separator later begin_object ++ (topic_text t ++ print_from true rest)
+topic_prints : Prints topic_tokens topic_text
 unfolding escape_byte print_from
 topic_prints later t rest =
-    let first = codes "{\"backend_depth\":" in
+    let front = λ (r : List ℕ). separator later begin_object ++ (codes "{\"backend_depth\":" ++ before_rest (topic_front t) r) in
     let channels = joined channel_text t.channels in
     let more = print_from true rest in
     ap (print_from later) (sym (together (topic_tokens_front t) (topic_tokens_back t) rest))
-    ∙ ap (λ (r : List ℕ). separator later begin_object ++ (first ++ before_rest (topic_front t) r)) (list_prints channel_tokens channel_text channel_prints t.channels _)
-    ∙ ap (λ (f : List ℕ). separator later begin_object ++ (first ++ before_rest (topic_front t) (channels ++ before_rest (topic_back t f) more))) (flag_is t.paused)
-    ∙ ap (λ (r : List ℕ). separator later begin_object ++ r) (together first (topic_front t ++ channels ∷ topic_back t (flag_text t.paused)) more)
+    ∙ ap front (list_prints channel_tokens channel_text channel_prints t.channels _)
+    ∙ ap (λ (f : List ℕ). front (channels ++ before_rest (topic_back t f) more)) (flag_is t.paused)
+    ∙ ap (λ (r : List ℕ). separator later begin_object ++ r) (together (codes "{\"backend_depth\":") (topic_front t ++ channels ∷ topic_back t (flag_text t.paused)) more)
 
 -- the whole
 pub stats_print : (began : ℕ) (s : Stats) → print (stats_tokens (began / second) s) ≡ stats_bytes began s
@@ -136,13 +143,15 @@ unfolding escape_byte print_from
 stats_print began s =
     let first = codes "{\"health\":\"OK\",\"start_time\":" in
     let start = decimal (began / second) in
-    ap (print_from false) (sym (together_alone (begin_object ∷ key (codes "health") ∷ string (codes "OK") ∷ key (codes "start_time") ∷ number start ∷ key (codes "topics") ∷ begin_array ∷ flat_map topic_tokens s.topics)
-    ((end_array ∷ []) ∷ (key (codes "version") ∷ string (codes "1.0.0") ∷ []) ∷ (end_object ∷ []) ∷ [])))
+    let front = begin_object ∷ key (codes "health") ∷ string (codes "OK") ∷ key (codes "start_time") ∷ number start ∷ key (codes "topics") ∷ begin_array ∷ [] in
+    let back = (end_array ∷ []) ∷ (key (codes "version") ∷ string (codes "1.0.0") ∷ []) ∷ (end_object ∷ []) ∷ [] in
+    ap (print_from false) (sym (together_alone (front ++ flat_map topic_tokens s.topics) back))
     ∙ ap (λ (r : List ℕ). first ++ (start ++ (codes ",\"topics\":[" ++ r))) (list_prints topic_tokens topic_text topic_prints s.topics _)
     ∙ together_alone first (start ∷ codes ",\"topics\":[" ∷ joined topic_text s.topics ∷ codes "],\"version\":\"1.0.0\"}" ∷ [])
 
 -- the same behind what was there
-pub stats_whole : (began : ℕ) (s : Stats) (old before items : List ℕ) (none tokens : List Token) → items ≡ before ++ print tokens → before ≡ old → tokens ≡ none ++ stats_tokens (began / second) s → none ≡ []
+pub stats_whole : (began : ℕ) (s : Stats) (old before items : List ℕ) (none tokens : List Token)
+    → items ≡ before ++ print tokens → before ≡ old → tokens ≡ none ++ stats_tokens (began / second) s → none ≡ []
     → items ≡ old ++ stats_bytes began s
 stats_whole began s old before items none tokens printed stays written empty =
     printed

@@ -3,8 +3,11 @@
 //! `specs/Stats.antt` says what the text is.
 #![tactic(auto)]
 
-mod items;
+mod channel;
+mod client;
+mod list;
 mod members;
 mod text;
+mod topic;
 
 pub use text::stats_text;

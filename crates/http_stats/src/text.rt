@@ -2,7 +2,7 @@ ghost use Rattle.std.specs.Prelude.{◌≡◌, ◌++◌, OnOk, OnErr};
 ghost use Rattle.http_stats.specs.Stats.{stats_bytes};
 ghost use Rattle.http_stats.specs.Tokens.{stats_tokens};
 
-use crate::items::put_list;
+use crate::list::put_list;
 use crate::members::{put_count, put_name};
 use broker_history::Stats;
 use json::Writer;

@@ -4,7 +4,8 @@ use Rattle.http_stats.proofs.text.stats_text.Goals as goal
 
 pub returns-clause-ok : goal.returns-clause-ok
 returns-clause-ok c =
-    stats_whole c.args.began c.args.stats.now c.args.out.now.items c.put_stats-done.new.page.before c.into_inner.result.items c.new-page.result.tokens c.put_stats-done.new.page.tokens
+    let page = c.put_stats-done.new.page in
+    stats_whole c.args.began c.args.stats.now c.args.out.now.items page.before c.into_inner.result.items c.new-page.result.tokens page.tokens
     c.into_inner.ensures.items
     (c.put_stats-done.ensures.before ∙ c.new-page.ensures.before ∙ ap (λ bytes. bytes.items) c.replace.ensures.value)
     (not_err c.put_stats-done.result (sym c.is_err.ensures.value ∙ c.if-is_err.false) c.put_stats-done.ensures.ok)

@@ -1,6 +1,6 @@
 use Rattle.std.proofs.Common.{◌≡◌, ℕ, ◌++◌, List, flat_map, take}
 use Rattle.json.specs.Token.{Token}
-use Rattle.http_stats.proofs.items.put_list.Given as goal
+use Rattle.http_stats.proofs.list.put_list.Given as goal
 
 -- the items so far are written; what stood before the text stays
 pub record Listed {X : Type 0} (tokens : X → List Token) (items : List X) (i : ℕ) (old new : List Token) (old_text new_text : List ℕ) : Type 0 where

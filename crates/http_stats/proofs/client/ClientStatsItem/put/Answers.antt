@@ -2,7 +2,7 @@ use Rattle.std.proofs.Common.{◌≡◌, ◌++◌, [], ◌∷◌, List, OnOk, co
 use Rattle.json.specs.Token.{Token, begin_object, end_object}
 use Rattle.http_stats.specs.Tokens.{client_tokens, count_tokens, said_tokens}
 use Rattle.http_stats.proofs.Appending.{all_appended}
-use Rattle.http_stats.proofs.items.ClientStatsItem.put.Goals as goal
+use Rattle.http_stats.proofs.client.ClientStatsItem.put.Goals as goal
 
 pub returns-clause-ok : goal.returns-clause-ok
 returns-clause-ok c =

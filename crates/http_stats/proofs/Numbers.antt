@@ -29,8 +29,8 @@ whole_digits (d ∷ ds) first all = (
 first_digit : (n : ℕ) → 0 < n → n < 10 ^ 64 → 48 < get_or (decimal n) 0 0
 first_digit n some small = (decimal_by_steps_wide (λ m ds. (0 < length ds) × (0 < m → 48 < get_or ds 0 0)) (λ m l. (omega arith, λ a. omega arith))
     (λ m ds l h.
-      let last = (48 + m % 10) ∷ [] in
-      (omega (arith, length-append ds last), λ a. omega (arith, get_or_append_left ds last 0 0 h.0, h.1 (omega arith)))) n small).1 some
+    let last = (48 + m % 10) ∷ [] in
+    (omega (arith, length-append ds last), λ a. omega (arith, get_or_append_left ds last 0 0 h.0, h.1 (omega arith)))) n small).1 some
 
 whole_decimal : (n : ℕ) → n < 10 ^ 64 → (after_whole (decimal n) ≡ Some []) × ((head (decimal n) == 45) ≡ false)
 whole_decimal zero h = let e = decimal_digit 0 (omega arith) in (ap after_whole e, ap (λ l. head l == 45) e)

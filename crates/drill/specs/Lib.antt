@@ -1,0 +1,4 @@
+pub mod Draws
+pub mod Callers
+pub mod Counting
+pub mod Left

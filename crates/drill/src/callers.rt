@@ -1,6 +1,6 @@
-ghost use Rattle.std.specs.Prelude.{◌≡◌, IfOk, OnOk, ◌++◌, flat_map, map};
+ghost use Rattle.std.specs.Prelude.{◌≡◌, ◌*◌, ◌<◌, IfOk, OnOk, ◌++◌, flat_map, length, map};
 ghost use Rattle.nsq_fakes.specs.declared.script.Piece.TheVariants.{Bytes};
-ghost use Rattle.drill.specs.Callers.{consumer, digit, fin, greeting, publish_piece, publisher, those_to};
+ghost use Rattle.drill.specs.Callers.{consumer, digit, fin, fin_piece, greeting, publish_piece, publisher, those_to};
 
 use crate::draws::Publish;
 use nsq_base::{Body, Memory, MsgId};
@@ -61,9 +61,7 @@ pub fn consumer(alloc: Global, publishes: &[Publish], topic: u8) -> Result<Vec<P
     let count = those.len().div_ceil(FINS);
     let mut k = 0;
     while k < count {
-        let from = FINS * k;
-        let to = those.len().min(from + FINS);
-        pieces.push(Piece::Bytes(fins(alloc, &those[from..to])?))?;
+        pieces.push(Piece::Bytes(fin_piece(alloc, &those, k)?))?;
         k += 1;
     }
     Ok(pieces)
@@ -90,6 +88,16 @@ fn those_to(alloc: Global, publishes: &[Publish], topic: u8) -> Result<Vec<Publi
         }
     }
     Ok(those)
+}
+
+// The FINs of the piece of this number.
+fn fin_piece(alloc: Global, publishes: &[Publish], k: usize) -> Result<Body, Memory>
+    requires { 64 * k < length publishes.now }
+    ensures { IfOk result (λ piece. piece ≡ fin_piece publishes.now k) }
+{
+    let from = FINS * k;
+    let rest = &publishes[from..];
+    fins(alloc, &rest[..FINS.min(rest.len())])
 }
 
 // The FINs of these publishes.

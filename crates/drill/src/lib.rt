@@ -4,7 +4,9 @@
 mod callers;
 mod counting;
 mod draws;
+mod left;
 
 pub use callers::{consumer, publisher};
 pub use counting::{finished_in, published_in, sent_in};
 pub use draws::{Publish, draw};
+pub use left::left_in;

@@ -1,2 +1,4 @@
 pub mod Lists
 pub mod Lefts
+pub mod Hosting
+pub mod Epochs

@@ -2,3 +2,4 @@ pub mod Draws
 pub mod Callers
 pub mod Counting
 pub mod Left
+pub mod Hosts

@@ -12,9 +12,10 @@ use Rattle.broker_history.specs.declared.ended.Ended.TheVariants.{EndOfInput, Cl
 use Rattle.broker_history.specs.Entries.{History, own}
 use Rattle.broker_history.specs.Talk.{Allows}
 use Rattle.broker_history.proofs.Own.{own-append, talk_stays}
+use Rattle.desk.specs.Calls.{IsHere}
 use Rattle.turn_laws.specs.Laws.{IsOf}
 use Rattle.v2_session.specs.Sessions.{HasCause}
-use Rattle.daemon_loop.specs.Served.{Views, IsServedTcp, IsServed, AreServed, HasServed, OnlyCallersChange}
+use Rattle.daemon_loop.specs.Served.{Views, IsServed, AreServed, HasServed, OnlyCallersChange}
 use Rattle.daemon_loop.proofs.Others.{none_of}
 
 own_stays : (k : ℕ) (h es : History) → own k es ≡ [] → own k (h ++ es) ≡ own k h
@@ -44,17 +45,13 @@ caller_changes {K} left old mid gave new kind fresh back p accepts returned = re
   lines = ap (λ (x : HostContent K). x.lines) returned ∙ ap (λ (x : HostContent K). x.lines) accepts.1 ∙ p.lines;
 }
 
--- a caller of the TCP protocol was served
-pub tcp_served : {K : Type 0} (seen : Views K) (limits : Limits) (h : History) (number : ℕ) (kind : Kind) (bytes : List ℕ) (conn : K) → kind ≡ Tcp → IsServedTcp seen limits h number bytes conn → IsServed seen limits h number kind bytes conn
-tcp_served seen limits h number kind bytes conn e s = subst (λ k. IsServed seen limits h number k bytes conn) (sym e) s
-
 module _ {K : Type 0} (seen : Views K) (limits : Limits) where
   one_stays : (h es : History) (k : ℕ) (kind : Kind) (bytes : List ℕ) (conn : K) → own k es ≡ [] → IsServed seen limits h k kind bytes conn → IsServed seen limits (h ++ es) k kind bytes conn
   one_stays h es k Tcp bytes conn o s =
       let t = s.talks in
       record {
         ended = s.ended;
-        talks = record { wanted = t.wanted; talk = talk_stays limits k t.wanted h es (seen.pieces conn) (seen.written conn) s.ended o t.talk; warned = t.warned };
+        talks = record { wanted = t.wanted; talk = talk_stays limits k t.wanted h es (seen.pieces conn) (seen.written conn) s.ended o t.talk; warned = t.warned; stays = λ some. subst (λ x. IsHere x) (sym (own_stays k h es o)) (t.stays some) };
         cause = s.cause;
         stream = s.stream;
       }

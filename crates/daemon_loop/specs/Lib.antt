@@ -1,4 +1,5 @@
 pub mod Going
+pub mod Desks
 pub mod Served
 pub mod Rounds
 pub mod Stops

@@ -1,5 +1,5 @@
 -- What is said of the callers that a run served.
-use Rattle.std.specs.Prelude.{◌≡◌, ◌⊎◌, ℕ, ◌+◌, ◌≤◌, Bool, false, IsTrue, List, [], ◌∷◌, ◌++◌, length, map, filter}
+use Rattle.std.specs.Prelude.{◌≡◌, ◌⊎◌, ℕ, ◌+◌, ◌<◌, ◌≤◌, Bool, false, IsTrue, List, [], ◌∷◌, ◌++◌, length, map, filter}
 use Rattle.std.specs.List.{AllByRecursion}
 use Rattle.nsq_outside.specs.Causes.{Rose}
 use Rattle.nsq_outside.specs.Hosts.{HostContent, HostState}
@@ -11,6 +11,7 @@ use Rattle.broker_history.specs.declared.ended.Ended.{Ended}
 use Rattle.broker_history.specs.declared.entry.Entry.{Entry}
 use Rattle.broker_history.specs.Entries.{History, IsCommon, is_tick, own}
 use Rattle.broker_history.specs.Talk.{Allows, IsTalkIn, bytes_of}
+use Rattle.desk.specs.Calls.{IsHere}
 use Rattle.v2_session.specs.Sessions.{IsWarned}
 
 -- what is seen of a connection: the pieces read, the bytes still to come, whether it ended, the bytes written, and how often a read and a write failed
@@ -35,11 +36,13 @@ pub record AllTell (tells tells_pieces tells_written tells_notes : Bool) : Type 
   pub notes : IsTrue tells_notes
 
 -- what a client sent, its entries and what it got are a conversation that ended so; where it ended by want of memory the client was told, as far as a write
--- didn't fail. `wanted` says whether memory was wanting for the note that it is gone
+-- didn't fail. `wanted` says whether memory was wanting for the note that it is gone: only then its entries may lack it and it may not have been told, and it
+-- began and is still there in the history
 pub record Talks (limits : Limits) (number : ℕ) (h : History) (pieces : List (List ℕ)) (written : List ℕ) (write_faults write_faults' : ℕ) (ended : Ended) : Type 0 where
   pub wanted : ℕ
   pub talk : IsTalkIn limits number h wanted pieces written ended
   pub warned : IsWarned ended written write_faults write_faults' wanted
+  pub stays : 0 < wanted → IsHere (own number h)
 
 -- a caller of the TCP protocol was served: what it sent, its entries and what it got are a conversation, with an ending that has its cause; what it sent is from
 -- the bytes that it had

@@ -1,6 +1,5 @@
 -- The daemon's Stop.
 use Rattle.std.specs.Prelude.{◌≡◌, ◌⊎◌, Bool, true, false}
-use Rattle.broker_history.specs.declared.entry.Act.TheVariants.{Stop}
 use Rattle.broker_history.specs.Entries.{History}
 use Rattle.desk.specs.declared.call.Call.TheVariants as call
 use Rattle.desk.specs.declared.turned.Turned.{Turned}

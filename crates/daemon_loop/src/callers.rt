@@ -33,8 +33,9 @@ pub enum LoopEnd {
 
 /// Serves the callers, one after another, each under its number, from 1 on, and hands each one back.
 ///
-/// Each round begins with a tick, by which what is due is moved and queues are saved that weren't for the sync timeout. Behind each accept the file of
-/// names is saved where names changed; where that fails it is tried again behind the next one.
+/// Each round begins with a tick, by which what is due is moved and queues are saved that weren't for the sync timeout. Behind an accept that gives a
+/// caller, or none for now, the file of names is saved where names changed; where that fails it is tried again behind the next such one. Behind an accept
+/// that fails, or says that nobody will call any more, nothing is saved: the floor is to be stopped and shut.
 ///
 /// The floor wasn't flushed, and its journal has no entry yet; the limits are such as options allow.
 pub fn serve_callers<R: Wait, H: Host<Entry>>(

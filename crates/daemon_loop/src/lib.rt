@@ -4,6 +4,7 @@
 //! `specs/Going.antt` says what the floor is led to meanwhile, `specs/Served.antt` what is true of the callers.
 #![tactic(auto)]
 
+mod caller_desk;
 mod callers;
 mod serving;
 mod stopping;

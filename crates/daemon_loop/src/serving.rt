@@ -4,8 +4,9 @@ ghost use Rattle.broker_history.specs.Entries.{own};
 ghost use Rattle.broker_history.specs.Talk.{bytes_of};
 ghost use Rattle.desk.specs.Calls.{AreAllowed};
 ghost use Rattle.v2_session.specs.Sessions.{HasCause};
-ghost use Rattle.daemon_loop.specs.Served.{views, IsServed, Talks};
+ghost use Rattle.daemon_loop.specs.Served.{views, IsServed, IsServedTcp, Talks};
 
+use crate::caller_desk::CallerDesk;
 use broker_history::Ended;
 use desk::{FloorDesk, Turner};
 use nsq_outside::{Conn, Kind};
@@ -32,15 +33,32 @@ pub(crate) fn serve_caller<R: Wait, K: Conn, T: Turner>(
     ensures leads { T.leads number floor.old floor.new }
 {
     match kind {
-        Kind::Tcp => {
-            let _ended = serve_tcp(rt, alloc, limits, conn, floor, number);
-        }
+        Kind::Tcp => serve_tcp(rt, alloc, limits, conn, floor, number),
         Kind::Http => {}
     }
 }
 
-/// Serves a caller of the TCP protocol at the floor, as `serve_v2`.
+/// Serves a caller of the TCP protocol.
 fn serve_tcp<R: Wait, K: Conn, T: Turner>(
+    rt: &R,
+    alloc: Global,
+    limits: Limits,
+    conn: &mut K,
+    floor: &mut T,
+    number: u64,
+)
+    requires limits { AreAllowed limits }
+    requires number { 0 < number }
+    requires new { IsTrue T.tells → own number (T.notes floor.old) ≡ [] }
+    ensures served { IsTrue K.tells_pieces → IsTrue K.tells_written → IsTrue T.tells → IsFresh K.pieces K.ended K.written K.read_faults K.write_faults conn.old
+        → IsServedTcp (views K.pieces K.left K.ended K.written K.read_faults K.write_faults) limits (T.notes floor.new) number (K.left conn.old) conn.new }
+    ensures leads { T.leads number floor.old floor.new }
+{
+    let _ended = converse(rt, alloc, limits, conn, floor, number);
+}
+
+/// Makes the conversation with a caller of the TCP protocol at a desk of the floor, as `serve_v2`.
+fn converse<R: Wait, K: Conn, T: Turner>(
     rt: &R,
     alloc: Global,
     limits: Limits,
@@ -57,10 +75,12 @@ fn serve_tcp<R: Wait, K: Conn, T: Turner>(
     ensures stream { IsTrue K.tells_pieces → bytes_of (K.pieces conn.new) ++ K.left conn.new ≡ bytes_of (K.pieces conn.old) ++ K.left conn.old }
     ensures leads { T.leads number floor.old floor.new }
 {
-    let mut desk = FloorDesk {
-        floor,
-        number,
-        wanted: 0,
+    let mut desk = CallerDesk {
+        desk: FloorDesk {
+            floor,
+            number,
+            wanted: 0,
+        },
     };
     serve_v2(rt, alloc, number, conn, &mut desk, limits)
 }

@@ -1,22 +1,25 @@
 -- What the words ask for, by what was done.
-use Rattle.std.proofs.Common.{◌≡◌, ◌≢◌, inl, inr, ℕ, [], List, Bool, refl, sym, ◌∙◌, ap, subst, arith, Option, string_bytes}
+use Rattle.std.proofs.Common.{◌≡◌, ◌≢◌, ◌≤◌, inl, inr, ℕ, [], List, Bool, refl, sym, ◌∙◌, ap, subst, arith, Option, string_bytes}
 use Rattle.std.specs.Prelude.{◌⊎◌, IsTrue}
 use Rattle.nsq_base.specs.Options.{IsInRange}
 use Rattle.nsq_base.specs.declared.options.Options.{Options}
+use Rattle.nsq_outside.specs.Causes.{Rose}
 use Rattle.nsq_outside.specs.Files.{Files}
-use Rattle.nsq_outside.specs.Hosts.{HostContent, HostState, OnlyTellFaults}
+use Rattle.nsq_outside.specs.Hosts.{HostContent, HostState, OnlyPrintFaults, OnlyTellFaults}
 use Rattle.daemon_loop.specs.Served.{Views}
 use Rattle.daemon_run.specs.Endings.{status_of as serve_status}
 use Rattle.broker_history.specs.Entries.{History}
+use Rattle.daemon_run.specs.Runs.{NoCaller}
 use Rattle.daemon_run.specs.Sights.{Both, Sight, sight_of}
 use Rattle.daemon_run.specs.declared.ending.ServeEnd.{ServeEnd}
 use Rattle.daemon_run.specs.declared.ending.ServeEnd.TheVariants as end
+use Rattle.daemon_run.proofs.Asking.{no_caller_then}
 use Rattle.daemon_main.specs.Doing.{Does, DoesNothing, Obeys, PrintsSo, PrintsTo, ServesSo, part as to_part, whole as to_whole}
-use Rattle.daemon_main.specs.Endings.{TellsLine, line_of, status_of}
-use Rattle.daemon_main.specs.Programs.{IsAsked, IsPlainRun, IsPrinted, StaysHome, part, wants, whole}
+use Rattle.daemon_main.specs.Endings.{IsUnserved, TellsLine, line_of, status_of}
+use Rattle.daemon_main.specs.Programs.{IsAsked, IsPlainRun, IsPrinted, StaysHome, part, version_text, wants, whole}
 use Rattle.daemon_main.specs.declared.ending.Ending.{Ending}
 use Rattle.daemon_main.specs.declared.ending.Ending.TheVariants.{Memory}
-use Rattle.daemon_main.proofs.Telling.{KeepsAll, plain_served, plain_wanting}
+use Rattle.daemon_main.proofs.Telling.{KeepsAll, plain_served, plain_wanting, tells_keeps, tells_told}
 use Rattle.nsqd_words.specs.Command.{Words}
 use Rattle.nsqd_words.specs.Requests.{Asks, AsksHelp, AsksVersion, IsUnknown, SaysOptions}
 use Rattle.nsqd_words.specs.declared.request.Request.{Request}
@@ -40,6 +43,33 @@ not_one end.OpeningFault s = absurd (omega (arith, s))
 not_one end.StopFault s = absurd (omega (arith, s))
 not_one end.AcceptFailed s = absurd (omega (arith, s))
 not_one end.Memory s = absurd (omega (arith, s))
+
+-- a run that served has a status of 5 at most
+most_five : (e : ServeEnd) → serve_status e ≤ 5
+most_five end.Clean = omega arith
+most_five end.BadData = omega arith
+most_five end.EpochSpent = omega arith
+most_five end.OpeningFault = omega arith
+most_five end.StopFault = omega arith
+most_five end.AcceptFailed = omega arith
+most_five end.Memory = omega arith
+
+-- what was done where nothing was served, before its line was told
+pub record Unserved {F C J K : Type 0} (tells : Bool) (words : Words) (ending : Ending) (s0 s1 : HostState F C J) (c0 c1 : HostContent K) : Type 0 where
+  pub unserved : IsUnserved ending
+  pub state : OnlyPrintFaults s0 s1
+  pub starts : IsTrue tells → c1.starts ≡ c0.starts
+  pub lines : IsTrue tells → c1.lines ≡ c0.lines
+  pub callers : IsTrue tells → NoCaller c0 c1
+  pub silent : IsUnknown words → (s1.print_faults ≡ s0.print_faults) × (IsTrue tells → c1.printed ≡ c0.printed)
+
+printed_callers : {K : Type 0} (old new : HostContent K) (printed : List ℕ) → new ≡ record old { printed = printed } → NoCaller old new
+printed_callers {K} old new printed e = record {
+  coming = ap (λ (c : HostContent K). c.coming) e;
+  given = ap (λ (c : HostContent K). c.given) e;
+  back = ap (λ (c : HostContent K). c.back) e;
+  halted = ap (λ (c : HostContent K). c.halted) e;
+}
 
 module _ {F C J K : Type 0} (Told : Type 0) (tells tells_files tells_notes : Bool) (seen : Views K) (s0 s1 : HostState F C J) (c0 c1 : HostContent K) (before after : Option (Sight K)) where
   abbrev DoesSo : Request → Ending → Type 0
@@ -74,6 +104,24 @@ module _ {F C J K : Type 0} (Told : Type 0) (tells tells_files tells_notes : Boo
   status_unknown words ending (inl d) is = unknown_by words d.0 ending d.1 d.2 is
   status_unknown words ending (inr w) is = absurd (omega (arith, is, ap status_of w.0))
 
+  -- status 6 comes only with a rise of the count of standard output
+  printed_rise : (text : List ℕ) (ending : Ending) → PrintsTo tells s0 s1 c0 c1 text ending → status_of ending ≡ 6 → Rose s0.print_faults s1.print_faults
+  printed_rise text ending (to_whole p) is = absurd (omega (arith, is))
+  printed_rise text ending (to_part p rose) is = rose
+
+  rise_by : (r : Request) (ending : Ending) → DoesSo r ending → status_of ending ≡ 6 → Rose s0.print_faults s1.print_faults
+  rise_by (request.Serve o) ending does is =
+      let most = most_five does.ended in
+      let same : serve_status does.ended ≡ 6 = sym (ap status_of does.is) ∙ is in
+      absurd (omega (arith, most, same))
+  rise_by (request.Help text) ending does is = printed_rise (string_bytes text) ending does.prints is
+  rise_by (request.Version text) ending does is = printed_rise (string_bytes text) ending does.prints is
+  rise_by request.Unknown ending does is = absurd (omega (arith, is, ap status_of does.0))
+
+  pub status_rose : (words : Words) (ending : Ending) → ObeysSo words ending → status_of ending ≡ 6 → Rose s0.print_faults s1.print_faults
+  status_rose words ending (inl d) is = rise_by d.0 ending d.2 is
+  status_rose words ending (inr w) is = absurd (omega (arith, is, ap status_of w.0))
+
   -- and there always, but for want of memory
   known_by : (words : Words) (r : Request) (ending : Ending) → Excludes words → Asks words r → DoesSo r ending → IsUnknown words → status_of ending ≡ 1
   known_by words (request.Serve o) ending x asks does u = absurd (x.known o asks.0 asks.1 u)
@@ -98,75 +146,118 @@ module _ {F C J K : Type 0} (Told : Type 0) (tells tells_files tells_notes : Boo
   served_words words o ending x says range (inr w) = inr w
 
   -- what was printed
-  printed_by : (text : List ℕ) (ending : Ending) → IsTrue tells → PrintsTo tells s0 s1 c0 c1 text ending → IsPrinted text (status_of ending) c0.printed c1.printed s0.print_faults s1.print_faults
-  printed_by text ending told (to_whole p) = whole refl (ap (λ (c : HostContent K). c.printed) (p told))
-  printed_by text ending told (to_part p rose) = let q = p told in part q.0 refl (ap (λ (c : HostContent K). c.printed) q.1) rose
+  printed_by : (text : List ℕ) (ending : Ending) → PrintsTo tells s0 s1 c0 c1 text ending → IsPrinted tells text (status_of ending) c0.printed c1.printed s0.print_faults s1.print_faults
+  printed_by text ending (to_whole p) = whole refl (λ told. ap (λ (c : HostContent K). c.printed) (p told))
+  printed_by text ending (to_part p rose) = part refl (λ told. let q = p told in (q.0, ap (λ (c : HostContent K). c.printed) q.1)) rose
 
-  asked_by : (words : Words) (r : Request) (ending : Ending) → Excludes words → IsTrue tells → Asks words r → DoesSo r ending → IsAsked words (status_of ending) c0.printed c1.printed s0.print_faults s1.print_faults
-  asked_by words (request.Serve o) ending x told asks does = record { version = λ v. absurd (x.options_version o asks.0 v); help = λ h. absurd (x.options_help o asks.0 h) }
-  asked_by words (request.Help text) ending x told asks does = record {
+  asked_by : (words : Words) (r : Request) (ending : Ending) → Excludes words → Asks words r → DoesSo r ending → IsAsked tells words (status_of ending) c0.printed c1.printed s0.print_faults s1.print_faults
+  asked_by words (request.Serve o) ending x asks does = record { version = λ v. absurd (x.options_version o asks.0 v); help = λ h. absurd (x.options_help o asks.0 h) }
+  asked_by words (request.Help text) ending x asks does = record {
     version = λ v. absurd (x.help_version asks v);
-    help = λ _. record { text = string_bytes text; printed = printed_by (string_bytes text) ending told does.prints };
+    help = λ _. record { text = string_bytes text; printed = printed_by (string_bytes text) ending does.prints };
   }
-  asked_by words (request.Version text) ending x told asks does = record {
-    version = λ _. subst (λ t. IsPrinted t (status_of ending) c0.printed c1.printed s0.print_faults s1.print_faults) asks.1 (printed_by (string_bytes text) ending told does.prints);
+  asked_by words (request.Version text) ending x asks does = record {
+    version = λ _. subst (λ t. IsPrinted tells t (status_of ending) c0.printed c1.printed s0.print_faults s1.print_faults) asks.1 (printed_by (string_bytes text) ending does.prints);
     help = λ h. absurd (x.help_version h asks.0);
   }
-  asked_by words request.Unknown ending x told asks does = record { version = λ v. absurd (x.version_known v asks); help = λ h. absurd (x.help_known h asks) }
+  asked_by words request.Unknown ending x asks does = record { version = λ v. absurd (x.version_known v asks); help = λ h. absurd (x.help_known h asks) }
 
-  wanted_by : (words : Words) (ending : Ending) → ending ≡ Memory → DoesNothing tells s0 s1 c0 c1 → IsAsked words (status_of ending) c0.printed c1.printed s0.print_faults s1.print_faults
+  wanted_by : (words : Words) (ending : Ending) → ending ≡ Memory → DoesNothing tells s0 s1 c0 c1 → IsAsked tells words (status_of ending) c0.printed c1.printed s0.print_faults s1.print_faults
   wanted_by words ending is n =
       let same : c1.printed ≡ c0.printed = ap (λ (c : HostContent K). c.printed) n.content in
       record {
-        version = λ _. wants (ap status_of is) same;
-        help = λ _. record { text = []; printed = wants (ap status_of is) same };
+        version = λ _. wants (ap status_of is) (λ told. same);
+        help = λ _. record { text = []; printed = wants (ap status_of is) (λ told. same) };
       }
 
-  pub asked_words : (words : Words) (ending : Ending) → Excludes words → IsTrue tells → ObeysSo words ending → IsAsked words (status_of ending) c0.printed c1.printed s0.print_faults s1.print_faults
-  asked_words words ending x told (inl d) = asked_by words d.0 ending x told d.1 d.2
-  asked_words words ending x told (inr w) = wanted_by words ending w.0 w.1
+  pub asked_words : (words : Words) (ending : Ending) → Excludes words → ObeysSo words ending → IsAsked tells words (status_of ending) c0.printed c1.printed s0.print_faults s1.print_faults
+  asked_words words ending x (inl d) = asked_by words d.0 ending x d.1 d.2
+  asked_words words ending x (inr w) = wanted_by words ending w.0 w.1
 
-  -- words that say no options in their ranges leave the kit at home
-  nothing_stays : DoesNothing tells s0 s1 c0 c1 → StaysHome s0 s1 c0 c1
-  nothing_stays n = record {
-    kit = ap (λ (s : HostState F C J). s.kit) n.state;
-    starts = ap (λ (c : HostContent K). c.starts) n.content;
-    given = ap (λ (c : HostContent K). c.given) n.content;
-    back = ap (λ (c : HostContent K). c.back) n.content;
-  }
+  -- words that say no options in their ranges lead to no run
+  nothing_stays : (words : Words) (ending : Ending) → IsUnserved ending → DoesNothing tells s0 s1 c0 c1 → Unserved tells words ending s0 s1 c0 c1
+  nothing_stays words ending unserved n =
+      let count : s1.print_faults ≡ s0.print_faults = ap (λ (s : HostState F C J). s.print_faults) n.state in
+      let printed : c1.printed ≡ c0.printed = ap (λ (c : HostContent K). c.printed) n.content in
+      record {
+        unserved = unserved;
+        state = (omega (arith, count), subst (λ (s : HostState F C J). s ≡ record s0 { print_faults = s.print_faults }) (sym n.state) refl);
+        starts = λ told. ap (λ (c : HostContent K). c.starts) n.content;
+        lines = λ told. ap (λ (c : HostContent K). c.lines) n.content;
+        callers = λ told. printed_callers c0 c1 c0.printed n.content;
+        silent = λ unknown. (count, λ told. printed);
+      }
 
-  content_stays : s1.kit ≡ s0.kit → (printed : List ℕ) → c1 ≡ record c0 { printed = printed } → StaysHome s0 s1 c0 c1
-  content_stays kit printed e = record { kit = kit; starts = ap (λ (c : HostContent K). c.starts) e; given = ap (λ (c : HostContent K). c.given) e; back = ap (λ (c : HostContent K). c.back) e }
-
-  prints_stay : (text : List ℕ) (ending : Ending) → IsTrue tells → PrintsSo tells s0 s1 c0 c1 text ending → StaysHome s0 s1 c0 c1
-  prints_stay text ending told p = go p.prints
+  prints_stay : (words : Words) (text : List ℕ) (ending : Ending) → (IsUnknown words → ⊥) → PrintsSo tells s0 s1 c0 c1 text ending → Unserved tells words ending s0 s1 c0 c1
+  prints_stay words text ending known p = go p.prints
     where
-      kit : s1.kit ≡ s0.kit
-      kit = let state = p.state in ap (λ (s : HostState F C J). s.kit) state.1
+      go : {ending : Ending} → PrintsTo tells s0 s1 c0 c1 text ending → Unserved tells words ending s0 s1 c0 c1
+      go (to_whole q) = record {
+        unserved = tt;
+        state = p.state;
+        starts = λ told. ap (λ (c : HostContent K). c.starts) (q told);
+        lines = λ told. ap (λ (c : HostContent K). c.lines) (q told);
+        callers = λ told. printed_callers c0 c1 _ (q told);
+        silent = λ unknown. absurd (known unknown);
+      }
+      go (to_part q rose) = record {
+        unserved = tt;
+        state = p.state;
+        starts = λ told. let r = q told in ap (λ (c : HostContent K). c.starts) r.1;
+        lines = λ told. let r = q told in ap (λ (c : HostContent K). c.lines) r.1;
+        callers = λ told. let r = q told in printed_callers c0 c1 _ r.1;
+        silent = λ unknown. absurd (known unknown);
+      }
 
-      go : {ending : Ending} → PrintsTo tells s0 s1 c0 c1 text ending → StaysHome s0 s1 c0 c1
-      go (to_whole q) = content_stays kit _ (q told)
-      go (to_part q rose) = let r = q told in content_stays kit _ r.1
+  stays_by : (words : Words) (r : Request) (ending : Ending) → Excludes words → ((o : Options) → SaysOptions words o → IsInRange o → ⊥) → Asks words r → DoesSo r ending → Unserved tells words ending s0 s1 c0 c1
+  stays_by words (request.Serve o) ending x none asks does = absurd (none o asks.0 asks.1)
+  stays_by words (request.Help text) ending x none asks does = prints_stay words (string_bytes text) ending (x.help_known asks) does
+  stays_by words (request.Version text) ending x none asks does = prints_stay words (string_bytes text) ending (x.version_known asks.0) does
+  stays_by words request.Unknown ending x none asks does = nothing_stays words ending (subst (λ e. IsUnserved e) (sym does.0) tt) does.1
 
-  stays_by : (words : Words) (r : Request) (ending : Ending) → IsTrue tells → ((o : Options) → SaysOptions words o → IsInRange o → ⊥) → Asks words r → DoesSo r ending → StaysHome s0 s1 c0 c1
-  stays_by words (request.Serve o) ending told none asks does = absurd (none o asks.0 asks.1)
-  stays_by words (request.Help text) ending told none asks does = prints_stay (string_bytes text) ending told does
-  stays_by words (request.Version text) ending told none asks does = prints_stay (string_bytes text) ending told does
-  stays_by words request.Unknown ending told none asks does = nothing_stays does.1
-
-  pub stays_words : (words : Words) (ending : Ending) → IsTrue tells → ((o : Options) → SaysOptions words o → IsInRange o → ⊥) → ObeysSo words ending → StaysHome s0 s1 c0 c1
-  stays_words words ending told none (inl d) = stays_by words d.0 ending told none d.1 d.2
-  stays_words words ending told none (inr w) = nothing_stays w.1
+  pub stays_words : (words : Words) (ending : Ending) → Excludes words → ((o : Options) → SaysOptions words o → IsInRange o → ⊥) → ObeysSo words ending → Unserved tells words ending s0 s1 c0 c1
+  stays_words words ending x none (inl d) = stays_by words d.0 ending x none d.1 d.2
+  stays_words words ending x none (inr w) = nothing_stays words ending (subst (λ e. IsUnserved e) (sym w.0) tt) w.1
 
 -- a line was told behind
-module _ {F C J K : Type 0} (s0 s1 s2 : HostState F C J) (c0 c1 c2 : HostContent K) (told : OnlyTellFaults s1 s2) (keeps : KeepsAll c1 c2) where
-  pub asked_then : (words : Words) (status status' : ℕ) → status' ≡ status → IsAsked words status c0.printed c1.printed s0.print_faults s1.print_faults → IsAsked words status' c0.printed c2.printed s0.print_faults s2.print_faults
-  asked_then words status status' is a =
-      subst (λ n. IsAsked words n c0.printed c2.printed s0.print_faults s2.print_faults) (sym is)
-      (subst (λ p. IsAsked words status c0.printed p s0.print_faults s2.print_faults) (sym keeps.printed) (subst (λ n. IsAsked words status c0.printed c1.printed s0.print_faults n) (sym (ap (λ (s : HostState F C J). s.print_faults) told.1)) a))
+module _ {F C J K : Type 0} (tells : Bool) (s0 s1 s2 : HostState F C J) (c0 c1 c2 : HostContent K) (ending : Ending) (told : OnlyTellFaults s1 s2) (line : IsTrue tells → TellsLine (line_of ending) c1 c2 s1.tell_faults s2.tell_faults) where
+  print_same : s2.print_faults ≡ s1.print_faults
+  print_same = ap (λ (s : HostState F C J). s.print_faults) told.1
 
-  pub stays_then : StaysHome s0 s1 c0 c1 → StaysHome s0 s2 c0 c2
-  stays_then h = record { kit = ap (λ (s : HostState F C J). s.kit) told.1 ∙ h.kit; starts = keeps.starts ∙ h.starts; given = keeps.callers.given ∙ h.given; back = keeps.callers.back ∙ h.back }
+  keeps : IsTrue tells → KeepsAll c1 c2
+  keeps t = tells_keeps (line_of ending) c1 c2 s1.tell_faults s2.tell_faults (line t)
+
+  printed_same : IsTrue tells → c2.printed ≡ c1.printed
+  printed_same t = let k = keeps t in k.printed
+
+  pub rose_then : Rose s0.print_faults s1.print_faults → Rose s0.print_faults s2.print_faults
+  rose_then rose = subst (λ n. Rose s0.print_faults n) (sym print_same) rose
+
+  printed_then : (text : List ℕ) (status status' : ℕ) → status' ≡ status → IsPrinted tells text status c0.printed c1.printed s0.print_faults s1.print_faults → IsPrinted tells text status' c0.printed c2.printed s0.print_faults s2.print_faults
+  printed_then text status status' is (whole s p) = whole (is ∙ s) (λ t. printed_same t ∙ p t)
+  printed_then text status status' is (part s p rose) = part (is ∙ s) (λ t. let q = p t in (q.0, printed_same t ∙ q.1)) (rose_then rose)
+  printed_then text status status' is (wants s p) = wants (is ∙ s) (λ t. printed_same t ∙ p t)
+
+  pub asked_then : (words : Words) (status status' : ℕ) → status' ≡ status → IsAsked tells words status c0.printed c1.printed s0.print_faults s1.print_faults → IsAsked tells words status' c0.printed c2.printed s0.print_faults s2.print_faults
+  asked_then words status status' is a = record {
+    version = λ v. printed_then version_text status status' is (a.version v);
+    help = λ h. let p = a.help h in record { text = p.text; printed = printed_then p.text status status' is p.printed };
+  }
+
+  pub stays_then : (words : Words) (status : ℕ) → status ≡ status_of ending → Unserved tells words ending s0 s1 c0 c1 → StaysHome tells words status s0 s2 c0 c2
+  stays_then words status is h =
+      let state = h.state in
+      let tell : s1.tell_faults ≡ s0.tell_faults = ap (λ (s : HostState F C J). s.tell_faults) state.1 in
+      record {
+        ending = ending;
+        unserved = h.unserved;
+        is = is;
+        told = λ t. tells_told (line_of ending) c1 c2 c0.lines s0.tell_faults s1.tell_faults s2.tell_faults (h.lines t) (sym tell) (line t);
+        shows = told.1 ∙ ap {A = HostState F C J} (λ s. record s { tell_faults = s2.tell_faults }) state.1 ∙ ap (λ n. record s0 { print_faults = n; tell_faults = s2.tell_faults }) (sym print_same);
+        starts = λ t. let k = keeps t in k.starts ∙ h.starts t;
+        callers = λ t. let k = keeps t in no_caller_then c0 c1 c2 (h.callers t) k.callers;
+        silent = λ unknown. let q = h.silent unknown in (print_same ∙ q.0, λ t. printed_same t ∙ q.1 t);
+      }
 
 -- a plain run, by what the words ask for
 module _ {F C J K : Type 0} (notes : J → History) (files : F → Files) (coming : C → ℕ → ℕ) (faults : F → ℕ) (Told : Type 0) (tells tells_files tells_notes : Bool) (host_of : Told → IsTrue tells) (seen : Views K) (s0 s1 s2 : HostState F C J) (c0 c1 c2 : HostContent K)

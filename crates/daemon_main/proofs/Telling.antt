@@ -129,7 +129,6 @@ module _ {F C J K : Type 0} (notes : J → History) (files : F → Files) (comin
         → ServesSo Told tells tells_files tells_notes seen s0 s1 c0 c1 (sight_of notes files coming faults s0 c0) (sight_of notes files coming faults s1 c1) options ending
         → Both (sight_of notes files coming faults s0 c0) (sight_of notes files coming faults s2 c2) (IsPlainRun Told tells tells_files tells_notes seen options (status_of ending))
     plain_served ending line s =
-        let lines : IsTrue tells → c1.lines ≡ c0.lines = λ t. let a = s.asked t in a.lines in
         let count = s.faults in
         let status : status_of ending ≡ serve_status s.ended = ap status_of s.is in
         let keeps : IsTrue tells → KeepsAll c1 c2 = λ t. tells_keeps (line_of ending) c1 c2 s1.tell_faults s2.tell_faults (line t) in
@@ -141,7 +140,7 @@ module _ {F C J K : Type 0} (notes : J → History) (files : F → Files) (comin
           is = status;
           caused = cause x y h.0;
           complete = λ told_files told_notes bytes. completes_told s.ended tells_files tells_notes (files x.folder) (counts_of faults x.folder s0) (counts_of faults y.folder s2) told_files told_notes bytes (cause x y h.0);
-          told = λ t. subst (λ e. IsTold (line_of e) c0.lines c2.lines s0.tell_faults s2.tell_faults) s.is (tells_told (line_of ending) c1 c2 c0.lines s0.tell_faults s1.tell_faults s2.tell_faults (lines t) (sym count.tell) (line t));
+          told = λ t. subst (λ e. IsTold (line_of e) c0.lines c2.lines s0.tell_faults s2.tell_faults) s.is (tells_told (line_of ending) c1 c2 c0.lines s0.tell_faults s1.tell_faults s2.tell_faults (s.lines t) (sym count.tell) (line t));
           asked = λ t. let a = s.asked t in let k = keeps t in record {
             starts = subst (λ z. (z ≡ c0.starts) ⊎ (z ≡ c0.starts ++ start_of options ∷ [])) (sym k.starts) a.starts;
             where_given = λ given. k.starts ∙ a.where_given (λ same. given (k.callers.given ∙ same));

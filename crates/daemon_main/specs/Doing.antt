@@ -37,6 +37,7 @@ module _ {F C J K : Type 0} (Told : Type 0) (tells tells_files tells_notes : Boo
     pub ended : ServeEnd
     pub is : ending ≡ Served ended
     pub asked : IsTrue tells → HasAsked options (serve_status ended) old new
+    pub lines : IsTrue tells → new.lines ≡ old.lines
     pub faults : KeepsFaults host host'
     pub cause : Both before after (λ a b. IsCaused ended tells_files tells_notes a.files a.counts b.counts)
     pub runs : Told → Both before after (Runs seen options ended)

@@ -29,6 +29,14 @@ line_of BadOptions = Some (codes "nsqd: bad options")
 line_of OutputFault = Some (codes "nsqd: output fault")
 line_of Memory = Some (codes "nsqd: out of memory")
 
+-- it ended without having served
+abbrev pub IsUnserved : Ending → Type 0
+IsUnserved (Served ended) = ⊥
+IsUnserved Printed = Unit {0}
+IsUnserved BadOptions = Unit {0}
+IsUnserved OutputFault = Unit {0}
+IsUnserved Memory = Unit {0}
+
 -- the lines that were told grew by this one, or telling it failed and was counted; without a line none was told
 abbrev pub IsTold : Option (List ℕ) → (lines lines' : List (List ℕ)) → (tell tell' : ℕ) → Type 0
 IsTold None lines lines' tell tell' = lines' ≡ lines

@@ -1,6 +1,7 @@
 ghost use Rattle.std.specs.Prelude.{◌≡◌, ◌⊎◌, IsSome, IsTrue, map, string_bytes};
 ghost use Rattle.nsq_base.specs.Options.{IsInRange};
 ghost use Rattle.nsq_base.specs.declared.options.Options.{Options as SaidOptions};
+ghost use Rattle.nsq_outside.specs.Causes.{Rose};
 ghost use Rattle.nsq_outside.specs.Hosts.{OnlyTellFaults};
 ghost use Rattle.daemon_loop.specs.Served.{ListenersFailedLast};
 ghost use Rattle.daemon_run.specs.Sights.{Both};
@@ -44,8 +45,10 @@ pub fn nsqd_run<R: Wait, H: Host<Entry>>(
     ensures bad { IsUnknown (map string_bytes words.now) → (result ≡ 1) ⊎ (result ≡ 5) }
     ensures serves { (o : SaidOptions) → SaysOptions (map string_bytes words.now) o → IsInRange o
         → Both (⟦<H as Watched>⟧.sight host.old) (⟦<H as Watched>⟧.sight host.new) (IsPlainRun ⟦<H as Watched>⟧.told H.tells H.Folder.tells_files H.Journal.tells_notes ⟦<H as Watched>⟧.seen o result) }
-    ensures prints { IsTrue H.tells → IsAsked (map string_bytes words.now) result (H.content host.old).printed (H.content host.new).printed (H.state host.old).print_faults (H.state host.new).print_faults }
-    ensures stays { IsTrue H.tells → ((o : SaidOptions) → SaysOptions (map string_bytes words.now) o → IsInRange o → ⊥) → StaysHome (H.state host.old) (H.state host.new) (H.content host.old) (H.content host.new) }
+    ensures output { result ≡ 6 → Rose (H.state host.old).print_faults (H.state host.new).print_faults }
+    ensures prints { IsAsked H.tells (map string_bytes words.now) result (H.content host.old).printed (H.content host.new).printed (H.state host.old).print_faults (H.state host.new).print_faults }
+    ensures stays { ((o : SaidOptions) → SaysOptions (map string_bytes words.now) o → IsInRange o → ⊥)
+        → StaysHome H.tells (map string_bytes words.now) result (H.state host.old) (H.state host.new) (H.content host.old) (H.content host.new) }
     ensures listeners { IsTrue H.tells → result ≡ 4 → ListenersFailedLast H.state H.content host.old host.new }
 {
     // Laws: what words ask for excludes all else.

@@ -45,15 +45,17 @@ module _ {K : Type 0} (options : Options) where
     where_given = λ given. absurd (given (ap (λ (x : HostContent K). x.given) s));
     where_clean = λ is. absurd (d is);
     printed = ap (λ (x : HostContent K). x.printed) s;
-    lines = ap (λ (x : HostContent K). x.lines) s;
   }
   failed_asked status old new d (inr s) = record {
     starts = inl (ap (λ (x : HostContent K). x.starts) s);
     where_given = λ given. absurd (given (ap (λ (x : HostContent K). x.given) s));
     where_clean = λ is. absurd (d is);
     printed = ap (λ (x : HostContent K). x.printed) s;
-    lines = ap (λ (x : HostContent K). x.lines) s;
   }
+
+  pub failed_lines : (old new : HostContent K) → Starts old new options.tcp_address options.http_address options.data_path did.Failed → new.lines ≡ old.lines
+  failed_lines old new (inl s) = ap (λ (x : HostContent K). x.lines) s
+  failed_lines old new (inr s) = ap (λ (x : HostContent K). x.lines) s
 
   -- a start that was done
   pub done_keep : (old new : HostContent K) → Starts old new options.tcp_address options.http_address options.data_path did.Done → NoCaller old new
@@ -71,8 +73,10 @@ module _ {K : Type 0} (options : Options) where
         where_given = λ given. starts;
         where_clean = λ is. starts;
         printed = ap (λ (x : HostContent K). x.printed) restore ∙ work.printed ∙ ap (λ (x : HostContent K). x.printed) lend ∙ ap (λ (x : HostContent K). x.printed) s;
-        lines = ap (λ (x : HostContent K). x.lines) restore ∙ work.lines ∙ ap (λ (x : HostContent K). x.lines) lend ∙ ap (λ (x : HostContent K). x.lines) s;
       }
+
+  pub done_lines : (c0 c1 c2 c3 c4 : HostContent K) → Starts c0 c1 options.tcp_address options.http_address options.data_path did.Done → c2 ≡ c1 → OnlyCallersChange c2 c3 → c4 ≡ c3 → c4.lines ≡ c0.lines
+  done_lines c0 c1 c2 c3 c4 s lend work restore = ap (λ (x : HostContent K). x.lines) restore ∙ work.lines ∙ ap (λ (x : HostContent K). x.lines) lend ∙ ap (λ (x : HostContent K). x.lines) s
 
 -- from an earlier value of the host to a later one, between which nobody more was given or handed back
 pub failed_wider : {H F C J K : Type 0} (state : H → HostState F C J) (content : H → HostContent K) (a b c d : H) → (state a).accept_faults ≤ (state b).accept_faults → ListenersFailedLast state content b c

@@ -69,6 +69,13 @@ refused_unfailed why.EpochSpent P e = not_same _ _ P (λ x. absurd (omega (arith
 refused_unfailed why.Fault P e = not_same _ _ P (λ x. absurd (omega (arith, x))) e
 refused_unfailed why.Memory P e = not_same _ _ P (λ x. absurd (omega (arith, x))) e
 
+-- the loop ended neither by listeners that failed nor for want of memory
+abbrev pub EndsWell : LoopEnd → Type 0
+EndsWell loop.Halted = Unit {0}
+EndsWell loop.Stopped = Unit {0}
+EndsWell loop.Failed = ⊥
+EndsWell loop.Memory = ⊥
+
 -- what an ending of a run that served tells of its parts
 module _ (looped : LoopEnd) (stopped : Bool) (shutting : ShutEnd) (ended : ServeEnd) (is : ended ≡ ending_of looped stopped shutting) where
   pub record Parts : Type 0 where
@@ -77,6 +84,7 @@ module _ (looped : LoopEnd) (stopped : Bool) (shutting : ShutEnd) (ended : Serve
     pub shut_fault : ended ≡ end.StopFault → shutting ≡ shut.Fault
     pub loop_failed : ended ≡ end.AcceptFailed → looped ≡ loop.Failed
     pub loop_wants : looped ≡ loop.Memory → ended ≡ end.Memory
+    pub loop_well : ended ≡ end.Clean → EndsWell looped
 
   from_shut : (a : ServeEnd) (P : Type 0) → ended ≡ a → end_number a ≢ 0 → end_number a ≢ 5 → IsShut ended → P
   from_shut a P e d f (inl s) = absurd (d (ap end_number (sym e ∙ s)))
@@ -101,6 +109,7 @@ module _ (looped : LoopEnd) (stopped : Bool) (shutting : ShutEnd) (ended : Serve
     shut_fault = off end.Memory end.StopFault _ e (λ x. absurd (omega (arith, x)));
     loop_failed = off end.Memory end.AcceptFailed _ e (λ x. absurd (omega (arith, x)));
     loop_wants = λ _. e;
+    loop_well = off end.Memory end.Clean _ e (λ x. absurd (omega (arith, x)));
   }
 
   faults : ended ≡ end.StopFault → stopped ≡ true → shutting ≡ shut.Fault → looped ≢ loop.Memory → Parts
@@ -110,6 +119,7 @@ module _ (looped : LoopEnd) (stopped : Bool) (shutting : ShutEnd) (ended : Serve
     shut_fault = λ _. f;
     loop_failed = off end.StopFault end.AcceptFailed _ e (λ x. absurd (omega (arith, x)));
     loop_wants = λ w. absurd (d w);
+    loop_well = off end.StopFault end.Clean _ e (λ x. absurd (omega (arith, x)));
   }
 
   fails : ended ≡ end.AcceptFailed → stopped ≡ true → shutting ≡ shut.Clean → looped ≡ loop.Failed → Parts
@@ -119,15 +129,17 @@ module _ (looped : LoopEnd) (stopped : Bool) (shutting : ShutEnd) (ended : Serve
     shut_fault = off end.AcceptFailed end.StopFault _ e (λ x. absurd (omega (arith, x)));
     loop_failed = λ _. l;
     loop_wants = λ w. not_loop loop.Failed loop.Memory _ (λ x. absurd (omega (arith, x))) (sym l ∙ w);
+    loop_well = off end.AcceptFailed end.Clean _ e (λ x. absurd (omega (arith, x)));
   }
 
-  cleans : ended ≡ end.Clean → stopped ≡ true → shutting ≡ shut.Clean → looped ≢ loop.Memory → Parts
-  cleans e holds_so f d = record {
+  cleans : ended ≡ end.Clean → stopped ≡ true → shutting ≡ shut.Clean → EndsWell looped → Parts
+  cleans e holds_so f well = record {
     stop_noted = λ _. holds_so;
     shut_clean = λ _. f;
     shut_fault = off end.Clean end.StopFault _ e (λ x. absurd (omega (arith, x)));
     loop_failed = off end.Clean end.AcceptFailed _ e (λ x. absurd (omega (arith, x)));
-    loop_wants = λ w. absurd (d w);
+    loop_wants = λ w. absurd (subst (λ x. EndsWell x) w well);
+    loop_well = λ _. well;
   }
 
   parts_by : (l : LoopEnd) (s : Bool) (h : ShutEnd) → looped ≡ l → stopped ≡ s → shutting ≡ h → ended ≡ ending_of l s h → Parts
@@ -140,8 +152,8 @@ module _ (looped : LoopEnd) (stopped : Bool) (shutting : ShutEnd) (ended : Serve
   parts_by loop.Failed true shut.Fault ls ss hs e = faults e ss hs (λ w. not_loop loop.Failed loop.Memory _ (λ x. absurd (omega (arith, x))) (sym ls ∙ w))
   parts_by loop.Stopped true shut.Fault ls ss hs e = faults e ss hs (λ w. not_loop loop.Stopped loop.Memory _ (λ x. absurd (omega (arith, x))) (sym ls ∙ w))
   parts_by loop.Failed true shut.Clean ls ss hs e = fails e ss hs ls
-  parts_by loop.Halted true shut.Clean ls ss hs e = cleans e ss hs (λ w. not_loop loop.Halted loop.Memory _ (λ x. absurd (omega (arith, x))) (sym ls ∙ w))
-  parts_by loop.Stopped true shut.Clean ls ss hs e = cleans e ss hs (λ w. not_loop loop.Stopped loop.Memory _ (λ x. absurd (omega (arith, x))) (sym ls ∙ w))
+  parts_by loop.Halted true shut.Clean ls ss hs e = cleans e ss hs (subst (λ x. EndsWell x) (sym ls) tt)
+  parts_by loop.Stopped true shut.Clean ls ss hs e = cleans e ss hs (subst (λ x. EndsWell x) (sym ls) tt)
 
   pub parts : Parts
   parts = parts_by looped stopped shutting refl refl refl is

@@ -28,7 +28,7 @@ use Rattle.floor_turns.specs.Scenes.{Scene, Stands}
 use Rattle.path_opening.specs.Opening.{HaveBytes, OnlyOpeningFiles}
 use Rattle.path_closing.specs.Closings.{Leaves}
 use Rattle.daemon_loop.specs.Going.{Went}
-use Rattle.daemon_loop.specs.Rounds.{WhyOver}
+use Rattle.daemon_loop.specs.Rounds.{IsHalted, WhyOver}
 use Rattle.daemon_loop.specs.Served.{HasServed, Views, ticks_of}
 use Rattle.daemon_loop.specs.declared.callers.LoopEnd.{LoopEnd}
 use Rattle.daemon_loop.specs.declared.callers.LoopEnd.TheVariants as loop
@@ -38,11 +38,11 @@ use Rattle.daemon_loop.proofs.Handing.{daemon_served}
 use Rattle.daemon_run.specs.Callers.{DaemonStops, HasStopCause, ServesAll, StopsAreCaused, failed, halted, one_to, wants}
 use Rattle.daemon_run.specs.Endings.{FindsNames, IsCaused}
 use Rattle.daemon_run.specs.Parts.{RunsOn}
-use Rattle.daemon_run.specs.Runs.{HasRun, TellsHistory, limits_of}
+use Rattle.daemon_run.specs.Runs.{HasRun, IsShut, TellsHistory, limits_of}
 use Rattle.daemon_run.specs.Sights.{Sight}
 use Rattle.daemon_run.specs.declared.ending.ServeEnd.{ServeEnd}
 use Rattle.daemon_run.specs.declared.ending.ServeEnd.TheVariants as end
-use Rattle.daemon_run.proofs.Causes.{at_clean, at_fault, parts, rose_wider, served_ends}
+use Rattle.daemon_run.proofs.Causes.{EndsWell, at_clean, at_fault, parts, rose_wider, served_ends}
 use Rattle.daemon_run.proofs.Numbering.{handed, numbered}
 
 -- rises of counts
@@ -75,11 +75,18 @@ module _ {K : Type 0} (ended : ServeEnd) (number accept accept' : ℕ) (content 
   daemon_stops e d (inl common) is = absurd (false≢true (sym (common_act e.0.act common) ∙ is))
   daemon_stops e d (inr names) is = subst (λ n. HasStopCause ended number accept accept' content n) (sym names) d
 
-  stop_cause : (l : LoopEnd) → WhyOver l number accept accept' content → (l ≡ loop.Memory → ended ≡ end.Memory) → DaemonStops ended number accept accept' content
-  stop_cause loop.Halted why wanting = halted why
-  stop_cause loop.Failed why wanting = failed why
-  stop_cause loop.Stopped why wanting = absurd why
-  stop_cause loop.Memory why wanting = wants (wanting refl)
+  stop_cause : (l : LoopEnd) → WhyOver l number accept accept' content → (l ≡ loop.Memory → ended ≡ end.Memory) → (ended ≡ end.Clean → EndsWell l) → DaemonStops ended number accept accept' content
+  stop_cause loop.Halted why wanting well = halted why
+  stop_cause loop.Failed why wanting well = failed (λ clean. well clean) why
+  stop_cause loop.Stopped why wanting well = absurd why
+  stop_cause loop.Memory why wanting well = wants (wanting refl)
+
+  -- a loop that ended well ended since nobody will call any more
+  well_halted : (l : LoopEnd) → WhyOver l number accept accept' content → EndsWell l → IsHalted number content
+  well_halted loop.Halted why well = why
+  well_halted loop.Failed why well = absurd well
+  well_halted loop.Stopped why well = absurd why
+  well_halted loop.Memory why well = absurd well
 
   stops_caused : (h h' added : History) → h' ≡ h ++ added → stops_of h ≡ 0 → AllByRecursion (IsOf 0) added → DaemonStops ended number accept accept' content → StopsAreCaused ended number accept accept' content h'
   stops_caused h h' added whole none of d =
@@ -206,8 +213,10 @@ module _ {K : Type 0} (Told : Type 0) (told : Told) (tells_host tells_notes tell
           there = λ other. subst (λ h. has_stop h ≡ true) (sym r.same_notes) (r.noted (p.stop_noted other) notes_told);
           caused = subst (λ n. StopsAreCaused ended n old.counts.accept new.counts.accept new.content new.notes) (sym count)
               (stops_caused ended r.number old.counts.accept new.counts.accept new.content r.middle.notes new.notes daemons now_whole (r.rounds.no_stop told) turns_daemons
-              (stop_cause ended r.number old.counts.accept new.counts.accept new.content r.looped (r.why told) p.loop_wants));
+              (stop_cause ended r.number old.counts.accept new.counts.accept new.content r.looped (r.why told) p.loop_wants p.loop_well));
+          clean = λ is. subst (λ n. IsHalted n new.content) (sym count) (well_halted ended r.number old.counts.accept new.counts.accept new.content r.looped (r.why told) (p.loop_well is));
         };
+        ends = served_ends r.looped r.stopped r.shutting ended r.ended_is (λ e. IsShut e ⊎ ((e ≡ end.StopFault) ⊎ (e ≡ end.Memory))) (inl (inl refl)) (inr (inl refl)) (inl (inr refl)) (inr (inr refl));
         left = λ shut. at_clean r.shutting (Leaves led.to new.files) (p.shut_clean shut) (r.left files_told led.to led.stands.holds);
         others = only_files;
       }

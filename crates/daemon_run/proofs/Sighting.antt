@@ -56,7 +56,7 @@ module _ {K : Type 0} (ended : ServeEnd) (number a a0 a1 a2 : ℕ) (c d : HostCo
 
   stops_between : DaemonStops ended number a0 a1 c → DaemonStops ended number a a2 d
   stops_between (halted h) = halted (halted_between h)
-  stops_between (failed r) = failed (rose_wider a a0 a1 a2 low high r)
+  stops_between (failed unclean r) = failed unclean (rose_wider a a0 a1 a2 low high r)
   stops_between (wants w) = wants w
 
   cause_between : (n : ℕ) → HasStopCause ended number a0 a1 c n → HasStopCause ended number a a2 d n
@@ -114,7 +114,11 @@ module _ {K : Type 0} (seen : Views K) (options : Options) (ended : ServeEnd) (a
           once = let t = r.stops in subst (λ x. stops_of x ≤ 1) (sym q.notes) t.once;
           there = λ other. let t = r.stops in subst (λ x. has_stop x ≡ true) (sym q.notes) (t.there other);
           caused = let t = r.stops in caused_between (length s.callers) t.caused;
+          clean = λ is.
+              let t = r.stops in
+              halted_between ended (length s.callers) a.counts.accept b.counts.accept c.counts.accept d.counts.accept c.content d.content p.counts.accept q.counts.accept q.callers.halted (t.clean is);
         };
+        ends = r.ends;
         left = λ shut. subst (λ f. Leaves r.to f) (sym q.files) (r.left shut);
         others = λ file not_names not_temp none. ap (λ (f : Files). f file) q.files ∙ r.others file not_names not_temp none ∙ ap (λ (f : Files). f file) p.files;
       }

@@ -12,10 +12,9 @@ abbrev pub StartsOnce : {K : Type 0} → Options → (old new : HostContent K) �
 StartsOnce options old new = new.starts ≡ old.starts ++ start_of options ∷ []
 
 -- the host was started once at most, with the addresses and the data path of the options; and it was where a caller was given or the status is 0. Nothing was
--- printed, and no line told
+-- printed
 pub record HasAsked {K : Type 0} (options : Options) (status : ℕ) (old new : HostContent K) : Type 0 where
   pub starts : (new.starts ≡ old.starts) ⊎ StartsOnce options old new
   pub where_given : new.given ≢ old.given → StartsOnce options old new
   pub where_clean : status ≡ 0 → StartsOnce options old new
   pub printed : new.printed ≡ old.printed
-  pub lines : new.lines ≡ old.lines

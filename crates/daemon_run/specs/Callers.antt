@@ -1,5 +1,5 @@
 -- What a run says of its callers, and of its Stop.
-use Rattle.std.specs.Prelude.{◌≡◌, ◌⊎◌, ℕ, zero, suc, ◌+◌, ◌≤◌, nat_lt, true, List, [], ◌∷◌, ◌++◌, length, map, filter, IsPermutation}
+use Rattle.std.specs.Prelude.{◌≡◌, ◌≢◌, ◌⊎◌, ℕ, zero, suc, ◌+◌, ◌≤◌, nat_lt, true, List, [], ◌∷◌, ◌++◌, length, map, filter, IsPermutation}
 use Rattle.std.specs.List.{AllByRecursion}
 use Rattle.nsq_outside.specs.Causes.{Rose}
 use Rattle.nsq_outside.specs.Hosts.{HostContent}
@@ -47,10 +47,10 @@ pub record ServesAll {K : Type 0} (seen : Views K) (limits : Limits) (h : Histor
   pub no_other : UpTo (length callers) h
   pub ticks : length callers ≤ ticks_of h
 
--- why the daemon stops: nobody will call any more, or as many called as there are numbers; the listeners failed; memory was wanting
+-- why the daemon stops: nobody will call any more, or as many called as there are numbers; the listeners failed, and the run doesn't end cleanly; memory was wanting
 pub data DaemonStops {K : Type 0} (ended : ServeEnd) (number accept accept' : ℕ) (new : HostContent K) : Type 0 where
   halted : IsHalted number new → DaemonStops ended number accept accept' new
-  failed : Rose accept accept' → DaemonStops ended number accept accept' new
+  failed : ended ≢ end.Clean → Rose accept accept' → DaemonStops ended number accept accept' new
   wants : ended ≡ end.Memory → DaemonStops ended number accept accept' new
 
 -- a Stop of this number has its cause: the daemon's own, where it stops. No connection can ask for one: there is no such command, and HTTP isn't served

@@ -12,6 +12,7 @@ use Rattle.broker_history.specs.State.{State}
 use Rattle.turn_laws.specs.Laws.{RoseBy}
 use Rattle.path_opening.specs.Opening.{FindsAgain, HaveBytes, OnlyOpeningFiles}
 use Rattle.path_closing.specs.Closings.{Leaves}
+use Rattle.daemon_loop.specs.Rounds.{IsHalted}
 use Rattle.daemon_loop.specs.Served.{Views}
 use Rattle.daemon_run.specs.Asked.{StartsOnce}
 use Rattle.daemon_run.specs.Callers.{ServesAll, StopsAreCaused, numbers_of, one_to}
@@ -48,17 +49,19 @@ pub record CountsFaults {K : Type 0} (ended : ServeEnd) (old new : Sight K) : Ty
   pub all : RoseBy (faults_of new.notes) old.counts.folder new.counts.folder
   pub at_stop : ended ≡ end.StopFault → RoseBy (faults_apart new.notes + 1) old.counts.folder new.counts.folder
 
--- the history has one Stop at most, and one but where memory was wanting; it has its cause
+-- the history has one Stop at most, and one but where memory was wanting; it has its cause. A clean end comes only where nobody will call any more, or as many
+-- called as there are numbers
 pub record Stops {K : Type 0} (ended : ServeEnd) (number : ℕ) (old new : Sight K) : Type 0 where
   pub once : stops_of new.notes ≤ 1
   pub there : ended ≢ end.Memory → has_stop new.notes ≡ true
   pub caused : StopsAreCaused ended number old.counts.accept new.counts.accept new.content new.notes
+  pub clean : ended ≡ end.Clean → IsHalted number new.content
 
 -- the floor was shut cleanly
 abbrev pub IsShut : ServeEnd → Type 0
 IsShut ended = (ended ≡ end.Clean) ⊎ (ended ≡ end.AcceptFailed)
 
--- callers were served at a floor that was opened
+-- callers were served at a floor that was opened: it was shut cleanly, or the folder failed at the stop, or memory was wanting
 pub record HasRun {K : Type 0} (seen : Views K) (options : Options) (ended : ServeEnd) (old new : Sight K) : Type 0 where
   pub to : State
   pub history : TellsHistory options old new to
@@ -66,6 +69,7 @@ pub record HasRun {K : Type 0} (seen : Views K) (options : Options) (ended : Ser
   pub in_turn : numbers_of callers.back ≡ one_to (length callers.callers)
   pub faults : CountsFaults ended old new
   pub stops : Stops ended (length callers.callers) old new
+  pub ends : IsShut ended ⊎ ((ended ≡ end.StopFault) ⊎ (ended ≡ end.Memory))
   pub left : IsShut ended → Leaves to new.files
   pub others : OnlyOpeningFiles old.files new.files
 

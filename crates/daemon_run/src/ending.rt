@@ -25,7 +25,7 @@ pub enum ServeEnd {
 }
 
 /// How a run ends: of want of memory, a fault of the folder at the stop and a fault of the listeners the first counts.
-pub fn ending_after(looped: LoopEnd, stopped: bool, shutting: ShutEnd) -> ServeEnd
+pub(crate) fn ending_after(looped: LoopEnd, stopped: bool, shutting: ShutEnd) -> ServeEnd
     ensures { result ≡ ending_of looped stopped shutting }
 {
     if !stopped {

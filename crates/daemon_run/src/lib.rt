@@ -8,6 +8,6 @@ mod ending;
 mod run;
 mod watched;
 
-pub use ending::{ServeEnd, ending_after};
+pub use ending::ServeEnd;
 pub use run::serve;
 pub use watched::Watched;

@@ -42,6 +42,7 @@ pub fn serve<R: Wait, H: Host<Entry>>(
     requires options { IsInRange options.now }
     ensures home { IsSome (H.state host.new).kit }
     ensures asked { IsTrue H.tells → HasAsked options.now (status_of result) (H.content host.old) (H.content host.new) }
+    ensures lines { IsTrue H.tells → (H.content host.new).lines ≡ (H.content host.old).lines }
     ensures faults { KeepsFaults (H.state host.old) (H.state host.new) }
     ensures cause { Both (⟦<H as Watched>⟧.sight host.old) (⟦<H as Watched>⟧.sight host.new) (λ old new. IsCaused result H.Folder.tells_files H.Journal.tells_notes old.files old.counts new.counts) }
     ensures complete { IsTrue H.Folder.tells_files → IsTrue H.Journal.tells_notes → Both (⟦<H as Watched>⟧.sight host.old) (⟦<H as Watched>⟧.sight host.new) (λ old new. HaveBytes old.files → IsComplete result old.files old.counts new.counts) }

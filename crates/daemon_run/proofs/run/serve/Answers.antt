@@ -5,13 +5,16 @@ use Rattle.daemon_run.specs.Endings.{IsCaused, IsComplete}
 use Rattle.daemon_run.specs.Runs.{Runs}
 use Rattle.daemon_run.specs.Sights.{sight_of}
 use Rattle.daemon_run.specs.declared.ending.ServeEnd.TheVariants.{AcceptFailed}
-use Rattle.daemon_run.proofs.Asking.{starts_keep, failed_asked, done_keep, done_starts, done_asked, failed_wider}
+use Rattle.daemon_run.proofs.Asking.{starts_keep, failed_asked, failed_lines, done_keep, done_starts, done_asked, done_lines, failed_wider}
 use Rattle.daemon_run.proofs.Causes.{completes_told}
 use Rattle.daemon_run.proofs.Sighting.{both_same, both_then, kept_faults, lent_caused, lent_faults, lent_runs}
 use Rattle.daemon_run.proofs.run.serve.Goals as goal
 
 pub returns-in-Failed-clause-asked : goal.returns-in-Failed-clause-asked
 returns-in-Failed-clause-asked g c = λ told. failed_asked c.args.options.now 4 (g.H.Host.content c.args.host.now) (g.H.Host.content c.start.new.host) (λ is. absurd (omega (arith, is))) (c.in-Failed.ensures.content told)
+
+pub returns-in-Failed-clause-lines : goal.returns-in-Failed-clause-lines
+returns-in-Failed-clause-lines g c = λ told. failed_lines c.args.options.now (g.H.Host.content c.args.host.now) (g.H.Host.content c.start.new.host) (c.in-Failed.ensures.content told)
 
 pub returns-in-Failed-clause-listeners : goal.returns-in-Failed-clause-listeners
 returns-in-Failed-clause-listeners g c = λ told is.
@@ -21,6 +24,11 @@ returns-in-Failed-clause-listeners g c = λ told is.
 pub returns-in-Done-clause-asked : goal.returns-in-Done-clause-asked
 returns-in-Done-clause-asked g c = λ told.
     done_asked c.args.options.now _ (g.H.Host.content c.args.host.now) (g.H.Host.content c.start.new.host) (g.H.Host.content c.lend-kit.new.self) (g.H.Host.content c.work-ending.new.host) (g.H.Host.content c.restore.new.self)
+    (c.in-Done.ensures.content told) c.lend-kit.ensures.content (c.work-ending.ensures.rest told) c.restore.ensures.content
+
+pub returns-in-Done-clause-lines : goal.returns-in-Done-clause-lines
+returns-in-Done-clause-lines g c = λ told.
+    done_lines c.args.options.now (g.H.Host.content c.args.host.now) (g.H.Host.content c.start.new.host) (g.H.Host.content c.lend-kit.new.self) (g.H.Host.content c.work-ending.new.host) (g.H.Host.content c.restore.new.self)
     (c.in-Done.ensures.content told) c.lend-kit.ensures.content (c.work-ending.ensures.rest told) c.restore.ensures.content
 
 pub returns-in-Done-clause-listeners : goal.returns-in-Done-clause-listeners

@@ -1,16 +1,16 @@
 use Rattle.std.proofs.Common.{◌++◌, ◌∙◌, ap, subst}
 use Rattle.broker_history.specs.Talk.{bytes_of}
 use Rattle.daemon_loop.specs.Served.{Talks}
-use Rattle.daemon_loop.proofs.Handing.{cause_allows, tcp_served}
-use Rattle.daemon_loop.proofs.serving.serve_caller.Goals as goal
+use Rattle.daemon_loop.proofs.Handing.{cause_allows}
+use Rattle.daemon_loop.proofs.serving.serve_tcp.Goals as goal
 
-pub returns-in-Tcp-clause-served : goal.returns-in-Tcp-clause-served
-returns-in-Tcp-clause-served g c = λ pieces written tells fresh.
-    let done = c.serve_tcp-ended in
-    tcp_served _ c.args.limits (g.T.Turner.notes done.new.floor) c.args.number c.args.kind (g.K.Source.left c.args.conn.now) done.new.conn c.in-Tcp.is (record {
+pub returns-clause-served : goal.returns-clause-served
+returns-clause-served g c = λ pieces written tells fresh.
+    let done = c.converse-ended in
+    record {
       ended = done.result;
       talks = subst (λ n. Talks c.args.limits c.args.number (g.T.Turner.notes done.new.floor) (g.K.Source.pieces done.new.conn) (g.K.Sink.written done.new.conn) n (g.K.Sink.write_faults done.new.conn) done.result) fresh.no_write_fault
           (done.ensures.talks pieces written tells fresh.nothing_read fresh.nothing_written);
       cause = cause_allows done.result _ _ _ _ _ fresh.no_read_fault fresh.no_write_fault done.ensures.cause;
       stream = done.ensures.stream pieces ∙ ap (λ x. bytes_of x ++ g.K.Source.left c.args.conn.now) fresh.nothing_read;
-    })
+    }

@@ -3,3 +3,4 @@ pub mod Callers
 pub mod Counting
 pub mod Left
 pub mod Hosts
+pub mod Drills

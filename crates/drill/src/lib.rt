@@ -6,9 +6,11 @@ mod counting;
 mod draws;
 mod host;
 mod left;
+mod run;
 
 pub use callers::{consumer, publisher};
 pub use counting::{finished_in, published_in, sent_in};
 pub use draws::{Publish, draw};
 pub use host::{drill_options, host_of};
 pub use left::left_in;
+pub use run::{Drilled, drill};

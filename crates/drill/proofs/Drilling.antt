@@ -1,6 +1,8 @@
 -- What a drill's run did, from what is said of any run.
 use Rattle.std.proofs.Common.{◌≡◌, ◌≢◌, ◌⊎◌, ℕ, ◌+◌, ◌<◌, Bool, true, false, List, [], Option, Some, None, IfOk, IfSome, IsSome, Result, Ok, Err, option_map, ap, sym, subst, ◌∙◌, refl, inl, inr, arith}
+use Rattle.std.proofs.lemmas.Bool.{false≢true}
 use Rattle.std.proofs.lemmas.Option.{none-some, same_Some}
+use Rattle.nsq_base.specs.declared.options.Options.{Options}
 use Rattle.nsq_outside.specs.Files.{Files}
 use Rattle.nsq_outside.specs.Hosts.{HostContent, HostState}
 use Rattle.nsq_fakes.specs.MemClocks.{coming_of}
@@ -19,7 +21,7 @@ use Rattle.broker_history.specs.declared.entry.Entry.{Entry}
 use Rattle.daemon_run.specs.Asked.{StartsOnce}
 use Rattle.daemon_run.specs.Parts.{KeepsFaults}
 use Rattle.daemon_run.specs.Runs.{HasRun, HasWorked, IsRefused, Runs, StayedHome}
-use Rattle.daemon_run.specs.Sights.{Both, Sight, sight_of}
+use Rattle.daemon_run.specs.Sights.{Both, Sight, sight, sight_of}
 use Rattle.daemon_run.specs.declared.ending.ServeEnd.{ServeEnd}
 use Rattle.daemon_run.specs.declared.ending.ServeEnd.TheVariants as end
 use Rattle.daemon_run.specs.Endings.{status_of}
@@ -40,7 +42,7 @@ at_home (Some x) k f P e h = subst (λ (y : MemKit). P (f y)) (same_Some x k e) 
 
 -- both kits are at home, so this holds of what is seen with them
 both_home : (s t : HostState MemFolder MemClock (MemJournal Entry)) (c d : HostContent MemConn) (j k : MemKit) (P : Sight MemConn → Sight MemConn → Type 0) → s.kit ≡ Some j → t.kit ≡ Some k → Both (seen_of s c) (seen_of t d) P
-    → P (Rattle.daemon_run.specs.Sights.sight notes_of files_in coming_of faults_of j s c) (Rattle.daemon_run.specs.Sights.sight notes_of files_in coming_of faults_of k t d)
+    → P (sight notes_of files_in coming_of faults_of j s c) (sight notes_of files_in coming_of faults_of k t d)
 both_home s t c d j k P e f h =
     at_home t.kit k _ (λ b. P _ b) f (at_home s.kit j _ (λ a. IfSome (seen_of t d) (λ b. P a b)) e h)
 
@@ -94,6 +96,18 @@ has_run all host f kit ended clean keeps home accept folder both =
       run = done.1;
     }
 
+-- the same, where the kit is at home, for options that are a drill's
+pub has_run_home : (all : List Publish) (first host : MemHost Entry) (options : Options) (ended : ServeEnd) → IsDrillHost all first → options ≡ drill_options → ended ≡ end.Clean → KeepsFaults (state_of first) (state_of host)
+    → IsSome (state_of host).kit → (state_of host).accept_faults ≡ 0 → IfSome (state_of host).kit (λ kit. faults_of kit.folder ≡ 0)
+    → Both (seen_of (state_of first) (content_of first)) (seen_of (state_of host) (content_of host)) (Runs seen options ended) → HasRunDrill all host
+has_run_home all first host options ended is_first same clean keeps home accept folder both = go (state_of host).kit refl
+  where
+    go : (o : Option MemKit) → (state_of host).kit ≡ o → HasRunDrill all host
+    go None e = absurd (false≢true (subst (λ (x : Option MemKit). IsSome x) e home))
+    go (Some kit) e =
+        has_run all host (first, is_first) kit ended clean keeps e accept (subst (λ (x : Option MemKit). IfSome x (λ k. faults_of k.folder ≡ 0)) e folder)
+        (subst (λ (o : Options). Both (seen_of (state_of first) (content_of first)) (seen_of (state_of host) (content_of host)) (Runs seen o ended)) same both)
+
 -- the epoch that is found in an empty folder
 abbrev IsFirst : Finding → Type 0
 IsFirst BadData = Unit {0}
@@ -119,9 +133,6 @@ finds_names all host r =
 -- the same, of the kit that is at home
 pub home_names : (all : List Publish) (host : MemHost Entry) → HasRunDrill all host → IfSome (state_of host).kit HasNames
 home_names all host r = subst (λ (s : HostState MemFolder MemClock (MemJournal Entry)). IfSome s.kit HasNames) (sym r.faultless.state) (finds_names all host r)
-
-pub is_home : (all : List Publish) (host : MemHost Entry) → HasRunDrill all host → IsSome (state_of host).kit
-is_home all host r = subst (λ (s : HostState MemFolder MemClock (MemJournal Entry)). IsSome s.kit) (sym r.faultless.state) tt
 
 -- a drill that ran and was counted
 drilled_of : (seed count : ℕ) (host : MemHost Entry) (d : Drilled) (r : HasRunDrill (publishes seed count) d.host) → HasCounted r.kit d → HasDrilled seed count d

@@ -1,5 +1,5 @@
 -- What a drill did.
-use Rattle.std.specs.Prelude.{◌≡◌, ◌×◌, ℕ, false, List, IfSome, Some}
+use Rattle.std.specs.Prelude.{◌≡◌, ℕ, false, List, Some}
 use Rattle.nsq_fakes.specs.MemClocks.{coming_of}
 use Rattle.nsq_fakes.specs.MemConns.{has_ended, left_of, pieces_of, read_faults_of, write_faults_of, written_of}
 use Rattle.nsq_fakes.specs.MemFolders.{faults_of, files_in}

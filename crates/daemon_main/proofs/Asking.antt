@@ -14,14 +14,14 @@ use Rattle.daemon_run.specs.Sights.{Both, Sight, sight_of}
 use Rattle.daemon_run.specs.declared.ending.ServeEnd.{ServeEnd}
 use Rattle.daemon_run.specs.declared.ending.ServeEnd.TheVariants as end
 use Rattle.daemon_run.proofs.Asking.{no_caller_then}
-use Rattle.daemon_main.specs.Doing.{Does, DoesNothing, Obeys, PrintsSo, PrintsTo, ServesSo, part as to_part, whole as to_whole}
+use Rattle.daemon_main.specs.Doing.{Does, DoesNothing, DrillsSo, Obeys, PrintsSo, PrintsTo, ServesSo, part as to_part, whole as to_whole}
 use Rattle.daemon_main.specs.Endings.{IsUnserved, TellsLine, line_of, status_of}
-use Rattle.daemon_main.specs.Programs.{IsAsked, IsPlainRun, IsPrinted, StaysHome, part, version_text, wants, whole}
+use Rattle.daemon_main.specs.Programs.{IsAsked, IsPlainRun, IsPrinted, PrintsDrill, StaysHome, part, shown, unshown, version_text, wants, whole}
 use Rattle.daemon_main.specs.declared.ending.Ending.{Ending}
 use Rattle.daemon_main.specs.declared.ending.Ending.TheVariants.{Memory}
 use Rattle.daemon_main.proofs.Telling.{KeepsAll, plain_served, plain_wanting, tells_keeps, tells_told}
 use Rattle.nsqd_words.specs.Command.{Words}
-use Rattle.nsqd_words.specs.Requests.{Asks, AsksHelp, AsksVersion, IsUnknown, SaysOptions}
+use Rattle.nsqd_words.specs.Requests.{Asks, AsksDrill, AsksHelp, AsksVersion, IsUnknown, SaysOptions}
 use Rattle.nsqd_words.specs.declared.request.Request.{Request}
 use Rattle.nsqd_words.specs.declared.request.Request.TheVariants as request
 
@@ -29,10 +29,15 @@ use Rattle.nsqd_words.specs.declared.request.Request.TheVariants as request
 pub record Excludes (words : Words) : Type 0 where
   pub one : (o p : Options) → SaysOptions words o → SaysOptions words p → o ≡ p
   pub known : (o : Options) → SaysOptions words o → IsInRange o → IsUnknown words → ⊥
+  pub drill_known : (seed count : ℕ) → AsksDrill words seed count → IsUnknown words → ⊥
+  pub drills : (seed count seed' count' : ℕ) → AsksDrill words seed count → AsksDrill words seed' count' → (seed ≡ seed') × (count ≡ count')
   pub help_known : AsksHelp words → IsUnknown words → ⊥
   pub version_known : AsksVersion words → IsUnknown words → ⊥
+  pub options_drill : (o : Options) (seed count : ℕ) → SaysOptions words o → AsksDrill words seed count → ⊥
   pub options_help : (o : Options) → SaysOptions words o → AsksHelp words → ⊥
   pub options_version : (o : Options) → SaysOptions words o → AsksVersion words → ⊥
+  pub drill_help : (seed count : ℕ) → AsksDrill words seed count → AsksHelp words → ⊥
+  pub drill_version : (seed count : ℕ) → AsksDrill words seed count → AsksVersion words → ⊥
   pub help_version : AsksHelp words → AsksVersion words → ⊥
 
 not_one : (e : ServeEnd) → serve_status e ≡ 1 → ⊥
@@ -93,9 +98,19 @@ module _ {F C J K : Type 0} (Told : Type 0) (tells tells_files tells_notes : Boo
   pub printed_unserved : (text : List ℕ) (ending : Ending) → PrintsTo tells s0 s1 c0 c1 text ending → status_of ending ≡ 4 → ⊥
   printed_unserved text ending p is = printed_not 4 text ending (λ x. absurd (omega (arith, x))) (λ x. absurd (omega (arith, x))) p is
 
+  abbrev Drills : (seed count : ℕ) → Ending → Type 0
+  Drills seed count ending = DrillsSo tells s0 s1 c0 c1 seed count ending
+
+  -- what was done for a drill has status 0, 5 or 6
+  drill_not : (n seed count : ℕ) (ending : Ending) → n ≢ 0 → n ≢ 6 → n ≢ 5 → Drills seed count ending → status_of ending ≡ n → ⊥
+  drill_not n seed count ending d f w (inl p) is = let done = p.2 in printed_not n p.0 ending d f done.prints is
+  drill_not n seed count ending d f w (inr q) is = w (sym is ∙ ap status_of q.0)
+
   -- status 1 comes only where the words aren't right
   unknown_by : (words : Words) (r : Request) (ending : Ending) → Asks words r → DoesSo r ending → status_of ending ≡ 1 → IsUnknown words
   unknown_by words (request.Serve o) ending asks does is = absurd (not_one does.ended (sym (ap status_of does.is) ∙ is))
+  unknown_by words (request.Drill seed count) ending asks does is =
+      absurd (drill_not 1 seed count ending (λ x. absurd (omega (arith, x))) (λ x. absurd (omega (arith, x))) (λ x. absurd (omega (arith, x))) does is)
   unknown_by words (request.Help text) ending asks does is = absurd (printed_not 1 (string_bytes text) ending (λ x. absurd (omega (arith, x))) (λ x. absurd (omega (arith, x))) does.prints is)
   unknown_by words (request.Version text) ending asks does is = absurd (printed_not 1 (string_bytes text) ending (λ x. absurd (omega (arith, x))) (λ x. absurd (omega (arith, x))) does.prints is)
   unknown_by words request.Unknown ending asks does is = asks
@@ -109,11 +124,16 @@ module _ {F C J K : Type 0} (Told : Type 0) (tells tells_files tells_notes : Boo
   printed_rise text ending (to_whole p) is = absurd (omega (arith, is))
   printed_rise text ending (to_part p rose) is = rose
 
+  rise_drill : (seed count : ℕ) (ending : Ending) → Drills seed count ending → status_of ending ≡ 6 → Rose s0.print_faults s1.print_faults
+  rise_drill seed count ending (inl p) is = let done = p.2 in printed_rise p.0 ending done.prints is
+  rise_drill seed count ending (inr q) is = absurd (omega (arith, is, ap status_of q.0))
+
   rise_by : (r : Request) (ending : Ending) → DoesSo r ending → status_of ending ≡ 6 → Rose s0.print_faults s1.print_faults
   rise_by (request.Serve o) ending does is =
       let most = most_five does.ended in
       let same : serve_status does.ended ≡ 6 = sym (ap status_of does.is) ∙ is in
       absurd (omega (arith, most, same))
+  rise_by (request.Drill seed count) ending does is = rise_drill seed count ending does is
   rise_by (request.Help text) ending does is = printed_rise (string_bytes text) ending does.prints is
   rise_by (request.Version text) ending does is = printed_rise (string_bytes text) ending does.prints is
   rise_by request.Unknown ending does is = absurd (omega (arith, is, ap status_of does.0))
@@ -125,6 +145,7 @@ module _ {F C J K : Type 0} (Told : Type 0) (tells tells_files tells_notes : Boo
   -- and there always, but for want of memory
   known_by : (words : Words) (r : Request) (ending : Ending) → Excludes words → Asks words r → DoesSo r ending → IsUnknown words → status_of ending ≡ 1
   known_by words (request.Serve o) ending x asks does u = absurd (x.known o asks.0 asks.1 u)
+  known_by words (request.Drill seed count) ending x asks does u = absurd (x.drill_known seed count asks u)
   known_by words (request.Help text) ending x asks does u = absurd (x.help_known asks u)
   known_by words (request.Version text) ending x asks does u = absurd (x.version_known asks.0 u)
   known_by words request.Unknown ending x asks does u = ap status_of does.0
@@ -136,6 +157,7 @@ module _ {F C J K : Type 0} (Told : Type 0) (tells tells_files tells_notes : Boo
   -- words that say options in their ranges were served with these, or memory was wanting
   serves_by : (words : Words) (o : Options) (r : Request) (ending : Ending) → Excludes words → SaysOptions words o → IsInRange o → Asks words r → DoesSo r ending → ServesSo Told tells tells_files tells_notes seen s0 s1 c0 c1 before after o ending
   serves_by words o (request.Serve p) ending x says range asks does = subst (λ q. ServesSo Told tells tells_files tells_notes seen s0 s1 c0 c1 before after q ending) (x.one p o asks.0 says) does
+  serves_by words o (request.Drill seed count) ending x says range asks does = absurd (x.options_drill o seed count says asks)
   serves_by words o (request.Help text) ending x says range asks does = absurd (x.options_help o says asks)
   serves_by words o (request.Version text) ending x says range asks does = absurd (x.options_version o says asks.0)
   serves_by words o request.Unknown ending x says range asks does = absurd (x.known o says range asks)
@@ -150,17 +172,32 @@ module _ {F C J K : Type 0} (Told : Type 0) (tells tells_files tells_notes : Boo
   printed_by text ending (to_whole p) = whole refl (λ told. ap (λ (c : HostContent K). c.printed) (p told))
   printed_by text ending (to_part p rose) = part refl (λ told. let q = p told in (q.0, ap (λ (c : HostContent K). c.printed) q.1)) rose
 
+  drilled_by : (seed count : ℕ) (ending : Ending) → Drills seed count ending → PrintsDrill tells seed count (status_of ending) c0.printed c1.printed s0.print_faults s1.print_faults
+  drilled_by seed count ending (inl p) = let done = p.2 in shown p.0 p.1 (printed_by p.0 ending done.prints)
+  drilled_by seed count ending (inr q) =
+      let n = q.1 in unshown (ap status_of q.0) (ap (λ (s : HostState F C J). s.print_faults) n.state) (λ told. ap (λ (c : HostContent K). c.printed) n.content)
+
+  same_drill : (seed count seed' count' : ℕ) (ending : Ending) → (seed ≡ seed') × (count ≡ count') → Drills seed count ending → Drills seed' count' ending
+  same_drill seed count seed' count' ending e d = subst (λ n. Drills seed' n ending) e.1 (subst (λ n. Drills n count ending) e.0 d)
+
   asked_by : (words : Words) (r : Request) (ending : Ending) → Excludes words → Asks words r → DoesSo r ending → IsAsked tells words (status_of ending) c0.printed c1.printed s0.print_faults s1.print_faults
-  asked_by words (request.Serve o) ending x asks does = record { version = λ v. absurd (x.options_version o asks.0 v); help = λ h. absurd (x.options_help o asks.0 h) }
+  asked_by words (request.Serve o) ending x asks does = record { version = λ v. absurd (x.options_version o asks.0 v); help = λ h. absurd (x.options_help o asks.0 h); drill = λ seed count d. absurd (x.options_drill o seed count asks.0 d) }
+  asked_by words (request.Drill seed count) ending x asks does = record {
+    version = λ v. absurd (x.drill_version seed count asks v);
+    help = λ h. absurd (x.drill_help seed count asks h);
+    drill = λ seed' count' d. drilled_by seed' count' ending (same_drill seed count seed' count' ending (x.drills seed count seed' count' asks d) does);
+  }
   asked_by words (request.Help text) ending x asks does = record {
     version = λ v. absurd (x.help_version asks v);
     help = λ _. record { text = string_bytes text; printed = printed_by (string_bytes text) ending does.prints };
+    drill = λ seed count d. absurd (x.drill_help seed count d asks);
   }
   asked_by words (request.Version text) ending x asks does = record {
     version = λ _. subst (λ t. IsPrinted tells t (status_of ending) c0.printed c1.printed s0.print_faults s1.print_faults) asks.1 (printed_by (string_bytes text) ending does.prints);
     help = λ h. absurd (x.help_version h asks.0);
+    drill = λ seed count d. absurd (x.drill_version seed count d asks.0);
   }
-  asked_by words request.Unknown ending x asks does = record { version = λ v. absurd (x.version_known v asks); help = λ h. absurd (x.help_known h asks) }
+  asked_by words request.Unknown ending x asks does = record { version = λ v. absurd (x.version_known v asks); help = λ h. absurd (x.help_known h asks); drill = λ seed count d. absurd (x.drill_known seed count d asks) }
 
   wanted_by : (words : Words) (ending : Ending) → ending ≡ Memory → DoesNothing tells s0 s1 c0 c1 → IsAsked tells words (status_of ending) c0.printed c1.printed s0.print_faults s1.print_faults
   wanted_by words ending is n =
@@ -168,6 +205,7 @@ module _ {F C J K : Type 0} (Told : Type 0) (tells tells_files tells_notes : Boo
       record {
         version = λ _. wants (ap status_of is) (λ told. same);
         help = λ _. record { text = []; printed = wants (ap status_of is) (λ told. same) };
+        drill = λ seed count d. unshown (ap status_of is) (ap (λ (s : HostState F C J). s.print_faults) n.state) (λ told. same);
       }
 
   pub asked_words : (words : Words) (ending : Ending) → Excludes words → ObeysSo words ending → IsAsked tells words (status_of ending) c0.printed c1.printed s0.print_faults s1.print_faults
@@ -209,8 +247,13 @@ module _ {F C J K : Type 0} (Told : Type 0) (tells tells_files tells_notes : Boo
         silent = λ unknown. absurd (known unknown);
       }
 
+  drill_stays : (words : Words) (seed count : ℕ) (ending : Ending) → (IsUnknown words → ⊥) → Drills seed count ending → Unserved tells words ending s0 s1 c0 c1
+  drill_stays words seed count ending known (inl p) = prints_stay words p.0 ending known p.2
+  drill_stays words seed count ending known (inr q) = nothing_stays words ending (subst (λ e. IsUnserved e) (sym q.0) tt) q.1
+
   stays_by : (words : Words) (r : Request) (ending : Ending) → Excludes words → ((o : Options) → SaysOptions words o → IsInRange o → ⊥) → Asks words r → DoesSo r ending → Unserved tells words ending s0 s1 c0 c1
   stays_by words (request.Serve o) ending x none asks does = absurd (none o asks.0 asks.1)
+  stays_by words (request.Drill seed count) ending x none asks does = drill_stays words seed count ending (x.drill_known seed count asks) does
   stays_by words (request.Help text) ending x none asks does = prints_stay words (string_bytes text) ending (x.help_known asks) does
   stays_by words (request.Version text) ending x none asks does = prints_stay words (string_bytes text) ending (x.version_known asks.0) does
   stays_by words request.Unknown ending x none asks does = nothing_stays words ending (subst (λ e. IsUnserved e) (sym does.0) tt) does.1
@@ -238,10 +281,15 @@ module _ {F C J K : Type 0} (tells : Bool) (s0 s1 s2 : HostState F C J) (c0 c1 c
   printed_then text status status' is (part s p rose) = part (is ∙ s) (λ t. let q = p t in (q.0, printed_same t ∙ q.1)) (rose_then rose)
   printed_then text status status' is (wants s p) = wants (is ∙ s) (λ t. printed_same t ∙ p t)
 
+  drilled_then : (seed count status status' : ℕ) → status' ≡ status → PrintsDrill tells seed count status c0.printed c1.printed s0.print_faults s1.print_faults → PrintsDrill tells seed count status' c0.printed c2.printed s0.print_faults s2.print_faults
+  drilled_then seed count status status' is (shown text shows p) = shown text shows (printed_then text status status' is p)
+  drilled_then seed count status status' is (unshown s same p) = unshown (is ∙ s) (print_same ∙ same) (λ t. printed_same t ∙ p t)
+
   pub asked_then : (words : Words) (status status' : ℕ) → status' ≡ status → IsAsked tells words status c0.printed c1.printed s0.print_faults s1.print_faults → IsAsked tells words status' c0.printed c2.printed s0.print_faults s2.print_faults
   asked_then words status status' is a = record {
     version = λ v. printed_then version_text status status' is (a.version v);
     help = λ h. let p = a.help h in record { text = p.text; printed = printed_then p.text status status' is p.printed };
+    drill = λ seed count d. drilled_then seed count status status' is (a.drill seed count d);
   }
 
   pub stays_then : (words : Words) (status : ℕ) → status ≡ status_of ending → Unserved tells words ending s0 s1 c0 c1 → StaysHome tells words status s0 s2 c0 c2

@@ -1,5 +1,5 @@
 -- What the parts of the program do.
-use Rattle.std.specs.Prelude.{◌≡◌, ◌⊎◌, ℕ, Bool, IsTrue, List, ◌++◌, take, Option, string_bytes}
+use Rattle.std.specs.Prelude.{◌≡◌, ◌⊎◌, ◌^◌, ◌≤◌, ℕ, Bool, IsTrue, List, ◌++◌, take, Option, string_bytes}
 use Rattle.nsq_base.specs.Options.{IsInRange}
 use Rattle.nsq_base.specs.declared.options.Options.{Options}
 use Rattle.nsq_outside.specs.Causes.{Rose}
@@ -11,6 +11,7 @@ use Rattle.daemon_run.specs.Parts.{KeepsFaults}
 use Rattle.daemon_run.specs.Runs.{Runs}
 use Rattle.daemon_run.specs.Sights.{Both, Sight}
 use Rattle.daemon_run.specs.declared.ending.ServeEnd.{ServeEnd}
+use Rattle.daemon_main.specs.Drills.{ShowsDrill}
 use Rattle.daemon_main.specs.declared.ending.Ending.{Ending}
 use Rattle.daemon_main.specs.declared.ending.Ending.TheVariants.{BadOptions, Memory, OutputFault, Printed, Served}
 use Rattle.nsqd_words.specs.declared.request.Request.{Request}
@@ -31,6 +32,10 @@ module _ {F C J K : Type 0} (tells : Bool) (host host' : HostState F C J) (old n
     pub state : host' ≡ host
     pub content : new ≡ old
 
+  -- the numbers of a drill were printed so, or memory was wanting for it
+  abbrev pub DrillsSo : (seed count : ℕ) → Ending → Type 0
+  DrillsSo seed count ending = ((text : List ℕ) × ShowsDrill seed count text × PrintsSo text ending) ⊎ ((ending ≡ Memory) × DoesNothing)
+
 module _ {F C J K : Type 0} (Told : Type 0) (tells tells_files tells_notes : Bool) (seen : Views K) (host host' : HostState F C J) (old new : HostContent K) (before after : Option (Sight K)) where
   -- it served with these options, and ended so
   pub record ServesSo (options : Options) (ending : Ending) : Type 0 where
@@ -45,6 +50,7 @@ module _ {F C J K : Type 0} (Told : Type 0) (tells tells_files tells_notes : Boo
   -- what was asked for was done, and ended so
   abbrev pub Does : Request → Ending → Type 0
   Does (request.Serve options) ending = ServesSo options ending
+  Does (request.Drill seed count) ending = DrillsSo tells host host' old new seed count ending
   Does (request.Help text) ending = PrintsSo tells host host' old new (string_bytes text) ending
   Does (request.Version text) ending = PrintsSo tells host host' old new (string_bytes text) ending
   Does request.Unknown ending = (ending ≡ BadOptions) × DoesNothing tells host host' old new
@@ -53,7 +59,8 @@ module _ {F C J K : Type 0} (Told : Type 0) (tells tells_files tells_notes : Boo
   abbrev pub Obeys : (Request → Type 0) → Ending → Type 0
   Obeys Asked ending = ((request : Request) × Asked request × Does request ending) ⊎ ((ending ≡ Memory) × DoesNothing tells host host' old new)
 
--- the request can be carried out: its options are in their ranges
+-- the request can be carried out: its options are in their ranges, and so are a drill's numbers
 abbrev pub CanDo : Request → Type 0
 CanDo (request.Serve options) = IsInRange options
+CanDo (request.Drill seed count) = (seed ≤ 2 ^ 59) × (count ≤ 100000)
 CanDo asked = Unit {0}

@@ -1,3 +1,4 @@
+pub mod Drills
 pub mod Endings
 pub mod Programs
 pub mod Doing

@@ -10,11 +10,12 @@ use Rattle.daemon_run.specs.Endings.{IsCaused, IsComplete, status_of as serve_st
 use Rattle.daemon_run.specs.Runs.{NoCaller, Runs}
 use Rattle.daemon_run.specs.Sights.{Sight}
 use Rattle.daemon_run.specs.declared.ending.ServeEnd.{ServeEnd}
+use Rattle.daemon_main.specs.Drills.{ShowsDrill}
 use Rattle.daemon_main.specs.Endings.{IsTold, IsUnserved, line_of, status_of}
 use Rattle.daemon_main.specs.declared.ending.Ending.{Ending}
 use Rattle.daemon_main.specs.declared.ending.Ending.TheVariants.{Served}
 use Rattle.nsqd_words.specs.Command.{Words}
-use Rattle.nsqd_words.specs.Requests.{AsksHelp, AsksVersion, IsUnknown}
+use Rattle.nsqd_words.specs.Requests.{AsksDrill, AsksHelp, AsksVersion, IsUnknown}
 
 -- a plain run with these options: its status is that of an ending that had its cause and whose line was told; where no count rose the ending is that of what was found,
 -- or want of memory; and it did what a run that serves does
@@ -43,6 +44,11 @@ pub record PrintsSome (tells : Bool) (status : ℕ) (old new : List ℕ) (print 
   pub text : List ℕ
   pub printed : IsPrinted tells text status old new print print'
 
+-- the numbers of the drill of this seed with so many publishes were printed so; or nothing, for want of memory
+pub data PrintsDrill (tells : Bool) (seed count status : ℕ) (old new : List ℕ) (print print' : ℕ) : Type 0 where
+  shown : (text : List ℕ) → ShowsDrill seed count text → IsPrinted tells text status old new print print' → PrintsDrill tells seed count status old new print print'
+  unshown : status ≡ 5 → print' ≡ print → (IsTrue tells → new ≡ old) → PrintsDrill tells seed count status old new print print'
+
 -- nothing was served: the status is that of an ending without a run, and its line was told; of what the host shows at most the counts of standard output and standard
 -- error changed; it was not started, and no caller came. Where the words aren't right nothing was printed. What the host tells is said where it tells
 pub record StaysHome {F C J K : Type 0} (tells : Bool) (words : Words) (status : ℕ) (state state' : HostState F C J) (old new : HostContent K) : Type 0 where
@@ -59,3 +65,4 @@ pub record StaysHome {F C J K : Type 0} (tells : Bool) (words : Words) (status :
 pub record IsAsked (tells : Bool) (words : Words) (status : ℕ) (old new : List ℕ) (print print' : ℕ) : Type 0 where
   pub version : AsksVersion words → IsPrinted tells version_text status old new print print'
   pub help : AsksHelp words → PrintsSome tells status old new print print'
+  pub drill : (seed count : ℕ) → AsksDrill words seed count → PrintsDrill tells seed count status old new print print'

@@ -15,7 +15,7 @@ pub enum Ending {
     BadOptions,
     /// Standard output failed.
     OutputFault,
-    /// Want of memory before it served.
+    /// Want of memory before it served, or in a drill.
     Memory,
 }
 

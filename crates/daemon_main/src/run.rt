@@ -1,11 +1,12 @@
-ghost use Rattle.std.specs.Prelude.{◌≡◌, ◌⊎◌, IsSome, IsTrue, map, string_bytes};
+ghost use Rattle.std.specs.Prelude.{◌≡◌, ◌⊎◌, ◌≤◌, ◌^◌, IfOk, IsSome, IsTrue, map, string_bytes};
 ghost use Rattle.nsq_base.specs.Options.{IsInRange};
 ghost use Rattle.nsq_base.specs.declared.options.Options.{Options as SaidOptions};
 ghost use Rattle.nsq_outside.specs.Causes.{Rose};
-ghost use Rattle.nsq_outside.specs.Hosts.{OnlyTellFaults};
+ghost use Rattle.nsq_outside.specs.Hosts.{OnlyPrintFaults, OnlyTellFaults};
 ghost use Rattle.daemon_loop.specs.Served.{ListenersFailedLast};
 ghost use Rattle.daemon_run.specs.Sights.{Both};
-ghost use Rattle.daemon_main.specs.Doing.{CanDo, Does, Obeys, PrintsSo};
+ghost use Rattle.daemon_main.specs.Doing.{CanDo, Does, DrillsSo, Obeys, PrintsSo};
+ghost use Rattle.daemon_main.specs.Drills.{ShowsDrill, drill_text};
 ghost use Rattle.daemon_main.specs.Endings.{TellsLine, line_of, status_of};
 ghost use Rattle.daemon_main.specs.Programs.{IsAsked, IsPlainRun, StaysHome};
 ghost use Rattle.nsqd_words.specs.Requests.{Asks, IsUnknown, SaysOptions};
@@ -13,6 +14,8 @@ ghost use Rattle.nsqd_words.specs.Requests.{Asks, IsUnknown, SaysOptions};
 use crate::ending::{Ending, line, status};
 use broker_history::Entry;
 use daemon_run::{Watched, serve};
+use drill::{Drilled, drill};
+use nsq_base::Memory;
 use nsq_outside::{Did, Host};
 use nsqd_words::{
     Request, options_are_known, options_are_one, other_requests_are_known, read_words,
@@ -90,6 +93,7 @@ fn carry_out<R: Wait, H: Host<Entry>>(
 {
     match request {
         Request::Serve(options) => Ending::Served(serve(rt, alloc, &options, host)),
+        Request::Drill(seed, count) => print_drill(rt, alloc, seed, count, host),
         Request::Help(text) => print(rt, host, text.as_bytes()),
         Request::Version(text) => print(rt, host, text.as_bytes()),
         Request::Unknown => Ending::BadOptions,
@@ -105,6 +109,46 @@ fn print<R: Wait, H: Host<Entry>>(rt: &R, host: &mut H, text: &[u8]) -> Ending
         Did::Done => Ending::Printed,
         Did::Failed => Ending::OutputFault,
     }
+}
+
+/// Runs a drill and prints what it counted.
+fn print_drill<R: Wait, H: Host<Entry>>(
+    rt: &R,
+    alloc: Global,
+    seed: u64,
+    count: u64,
+    host: &mut H,
+) -> Ending
+    requires seed { seed ≤ 2 ^ 59 }
+    requires count { count ≤ 100000 }
+    ensures drills { DrillsSo H.tells (H.state host.old) (H.state host.new) (H.content host.old) (H.content host.new) seed count result }
+    ensures state { OnlyPrintFaults (H.state host.old) (H.state host.new) }
+    ensures unserved { status_of result ≡ 4 → ⊥ }
+{
+    match drilled_text(rt, alloc, seed, count) {
+        Ok(text) => print(rt, host, text.as_bytes()),
+        Err(_) => Ending::Memory,
+    }
+}
+
+/// What a drill counted, as it is printed.
+fn drilled_text<R: Wait>(rt: &R, alloc: Global, seed: u64, count: u64) -> Result<String, Memory>
+    requires seed { seed ≤ 2 ^ 59 }
+    requires count { count ≤ 100000 }
+    ensures { IfOk result (λ text. ShowsDrill seed count (string_bytes text)) }
+{
+    let drilled = drill(rt, alloc, seed, count)?;
+    text_of(alloc, &drilled)
+}
+
+/// The four numbers of a drill, each on a line.
+fn text_of(alloc: Global, drilled: &Drilled) -> Result<String, Memory>
+    ensures { IfOk result (λ text. string_bytes text ≡ drill_text drilled.now) }
+{
+    Ok(format!(in alloc;
+        "published {}\nsent {}\nfinished {}\nleft {}\n",
+        drilled.published, drilled.sent, drilled.finished, drilled.left
+    )?)
 }
 
 /// Tells the line of an ending, where one is, and returns its status.

@@ -1,6 +1,9 @@
 -- What the words say, from what clap finds in them.
-use Rattle.std.proofs.Common.{◌≡◌, ℕ, List, [], ◌∷◌, Option, None, Some, refl, sym, ap, subst, ◌∙◌, inl, inr, true}
-use Rattle.std.specs.Prelude.{◌⊎◌, MatchOption, SomeIff}
+use Rattle.std.proofs.Common.{◌≡◌, ℕ, ◌<◌, List, [], ◌∷◌, Option, None, Some, refl, sym, ap, subst, ◌∙◌, inl, inr, Bool, true, map, zero, suc, length, get_or, arith, ◌≤◌}
+use Rattle.std.specs.Prelude.{◌⊎◌, ◌↔◌, IsTrue, MatchOption, SomeIff, option_map, slice_get}
+use Rattle.std.specs.Str.{bytes_eq}
+use Rattle.std.proofs.lemmas.Option.{none-some, same_Some, slice_get-map, slice_get_past}
+use Rattle.std.proofs.lemmas.Slice.Eq.{bytes_eq-Decides}
 use Rattle.std.specs.Str.Parse.{digits_value}
 use Rattle.clap.specs.Faults.{fault_of, is_simple_and_free}
 use Rattle.clap.specs.Kinds.{HasKind, IsAmong, Kinds}
@@ -20,7 +23,7 @@ use Rattle.nsqd_words.specs.Command.{HasOneAtMost, Words, found_in, nsqd_app, re
 use Rattle.nsqd_words.specs.Durations.{IsDuration}
 use Rattle.nsqd_words.specs.Numbers.{AreDigits, FindsBelow, IsNumber}
 use Rattle.nsqd_words.specs.Parts.{AsksByFound, AsksByKind, AsksClap, FindsOptions, with_sizes, with_texts, with_times}
-use Rattle.nsqd_words.specs.Requests.{Asks, AsksHelp, AsksVersion, SaysOptions, IsUnknown, bad_value, refused}
+use Rattle.nsqd_words.specs.Requests.{Asks, AsksDrill, AsksHelp, AsksVersion, SaysOptions, IsForClap, IsUnknown, bad_drill, bad_value, refused}
 use Rattle.nsqd_words.specs.Saying.{IsSameText, IsValue, SaysSizes, SaysTexts, SaysTimes, SaysValues}
 use Rattle.nsqd_words.specs.declared.options.Sizes.{Sizes}
 use Rattle.nsqd_words.specs.declared.options.Texts.{Texts}
@@ -136,6 +139,7 @@ only_kind (k ∷ l ∷ more) why one h = absurd one
 -- what is asked for by clap's error
 pub asked_by_kind : (kinds : Kinds) (rows : List Row) (why : ErrorKind) (r : Request) → HasOneAtMost kinds → (why ≡ kind.OutOfMemory) ⊎ IsAmong why kinds → AsksByKind why r → AsksClap kinds rows r
 asked_by_kind kinds rows why (request.Serve o) one h a = absurd a
+asked_by_kind kinds rows why (request.Drill seed count) one h a = absurd a
 asked_by_kind kinds rows why (request.Help text) one (inl e) a = absurd (cc)
 asked_by_kind kinds rows why (request.Help text) one (inr h) a = only_kind kinds why one h ∙ ap (λ (x : ErrorKind). x ∷ []) a
 asked_by_kind kinds rows why (request.Version text) one (inl e) a = let f : why ≡ kind.DisplayVersion = a.0 in absurd (cc)
@@ -146,19 +150,43 @@ asked_by_kind kinds rows why request.Unknown one (inr h) a = inr (why, only_kind
 -- what is asked for by clap's matches
 pub asked_by_found : (kinds : Kinds) (rows found : List Row) (r : Request) → kinds ≡ [] → found ≡ rows → AsksByFound found r → AsksClap kinds rows r
 asked_by_found kinds rows found (request.Serve o) e f a = (e, subst (λ (xs : List Row). SaysValues xs o) f a.0, a.1)
+asked_by_found kinds rows found (request.Drill seed count) e f a = absurd a
 asked_by_found kinds rows found (request.Help text) e f a = absurd a
 asked_by_found kinds rows found (request.Version text) e f a = absurd a
 asked_by_found kinds rows found request.Unknown e f a = inl (e, λ o s i. a o (subst (λ (xs : List Row). SaysValues xs o) (sym f) s) i)
 
--- what the words ask for
-pub asked_of_clap : (words : Words) (r : Request) → AsksClap (refusal_of words) (found_in words) r → Asks words r
-asked_of_clap words (request.Serve o) h = (record { taken = h.0; values = h.1 }, h.2)
-asked_of_clap words (request.Help text) h = record { asked = h }
-asked_of_clap words (request.Version text) h = (record { asked = h.0 }, h.1)
-asked_of_clap words request.Unknown (inl h) = bad_value (record { taken = h.0; bad = h.1 })
-asked_of_clap words request.Unknown (inr h) = refused (record { why = h.0; refused = h.1; no_help = h.2; no_version = h.3 })
+-- what clap's words ask for
+pub asked_of_clap : (words : Words) (r : Request) → IsForClap words → AsksClap (refusal_of words) (found_in words) r → Asks words r
+asked_of_clap words (request.Serve o) for_clap h = (record { for_clap = for_clap; taken = h.0; values = h.1 }, h.2)
+asked_of_clap words (request.Drill seed count) for_clap h = absurd h
+asked_of_clap words (request.Help text) for_clap h = record { for_clap = for_clap; asked = h }
+asked_of_clap words (request.Version text) for_clap h = (record { for_clap = for_clap; asked = h.0 }, h.1)
+asked_of_clap words request.Unknown for_clap (inl h) = bad_value (record { for_clap = for_clap; taken = h.0; bad = h.1 })
+asked_of_clap words request.Unknown for_clap (inr h) = refused (record { for_clap = for_clap; why = h.0; refused = h.1; no_help = h.2; no_version = h.3 })
 
--- ---- what is known and unknown
+-- words of a drill aren't unknown
+pub drills_known : (words : Words) (seed count : ℕ) → AsksDrill words seed count → IsUnknown words → ⊥
+drills_known words seed count a (bad_drill b) = b.bad seed count a
+drills_known words seed count a (refused b) = b.for_clap (ap (λ (w : Words). slice_get w 1) a.words_are)
+drills_known words seed count a (bad_value b) = b.for_clap (ap (λ (w : Words). slice_get w 1) a.words_are)
+
+-- ---- a drill's first word
+
+word_at : {X : Type 0} (xs : List X) (k : ℕ) (x : X) → k < length xs → x ≡ get_or xs k x → slice_get xs k ≡ Some x
+word_at {X} [] k x l e = absurd (omega arith)
+word_at {X} (y ∷ ys) zero x l e = ap (λ (z : X). Some z) (sym e)
+word_at {X} (y ∷ ys) (suc k) x l e = word_at ys k x (omega arith) e
+
+-- whether a word is this text
+pub is_word : {X : Type 0} (text : X → Text) (xs : List X) (k : ℕ) (x : X) (d : Text) (b : Bool) → k < length xs → x ≡ get_or xs k x → b ≡ bytes_eq (text x) d → IsTrue b ↔ (slice_get (map text xs) k ≡ Some d)
+is_word text xs k x d b l e f =
+    let there : slice_get (map text xs) k ≡ Some (text x) = slice_get-map text xs k ∙ ap (option_map text) (word_at xs k x l e) in
+    let same = bytes_eq-Decides (text x) d in
+    (λ t. there ∙ ap (λ (y : Text). Some y) (same.0 (sym f ∙ t)), λ h. f ∙ same.1 (same_Some (text x) d (sym there ∙ h)))
+
+-- no word is, where there are too few
+pub no_word : {X : Type 0} (text : X → Text) (xs : List X) (k : ℕ) (d : Text) → length xs ≤ k → slice_get (map text xs) k ≡ Some d → ⊥
+no_word text xs k d l e = none-some d (sym (slice_get-map text xs k ∙ ap (option_map text) (slice_get_past xs k l)) ∙ e)
 
 nil_or_one : (k : ErrorKind) → [] ≡ k ∷ [] → ⊥
 nil_or_one k e = cc
@@ -168,22 +196,26 @@ same_kind k l e = cc
 
 -- words that say options in their ranges aren't unknown
 options_known : (words : Words) (o : Options) → SaysOptions words o → IsInRange o → IsUnknown words → ⊥
+options_known words o s i (bad_drill b) = s.for_clap b.begins
 options_known words o s i (refused b) = absurd (nil_or_one b.why (sym s.taken ∙ b.refused))
 options_known words o s i (bad_value b) = b.bad o s.values i
 
 -- words that ask for help aren't
 help_known : (words : Words) → AsksHelp words → IsUnknown words → ⊥
+help_known words h (bad_drill b) = h.for_clap b.begins
 help_known words h (refused b) = b.no_help (same_kind b.why kind.DisplayHelp (sym b.refused ∙ h.asked))
 help_known words h (bad_value b) = nil_or_one kind.DisplayHelp (sym b.taken ∙ h.asked)
 
 -- nor those that ask for the version
 version_known : (words : Words) → AsksVersion words → IsUnknown words → ⊥
+version_known words h (bad_drill b) = h.for_clap b.begins
 version_known words h (refused b) = b.no_version (same_kind b.why kind.DisplayVersion (sym b.refused ∙ h.asked))
 version_known words h (bad_value b) = nil_or_one kind.DisplayVersion (sym b.taken ∙ h.asked)
 
 -- so what unknown words ask for is Unknown
 pub unknown_is_unknown : (words : Words) (asked : Request) → Asks words asked → IsUnknown words → asked ≡ request.Unknown
 unknown_is_unknown words (request.Serve o) h u = absurd (options_known words o h.0 h.1 u)
+unknown_is_unknown words (request.Drill seed count) h u = absurd (drills_known words seed count h u)
 unknown_is_unknown words (request.Help text) h u = absurd (help_known words h u)
 unknown_is_unknown words (request.Version text) h u = absurd (version_known words h.0 u)
 unknown_is_unknown words request.Unknown h u = refl

@@ -143,10 +143,11 @@ AsksByKind why (request.Version text) = (why ≡ kind.DisplayVersion) × (string
 AsksByKind why request.Unknown = (why ≢ kind.OutOfMemory) × (why ≢ kind.DisplayHelp) × (why ≢ kind.DisplayVersion)
 AsksByKind why _ = ⊥
 
--- what the words ask for, over the kinds of its refusal and what it found
+-- what clap's words ask for, over the kinds of its refusal and what it found
 abbrev pub AsksClap : Kinds → List Row → Request → Type 0
 AsksClap kinds rows (request.Serve o) = (kinds ≡ []) × SaysValues rows o × IsInRange o
 AsksClap kinds rows request.Unknown = ((kinds ≡ []) × ((o : Options) → SaysValues rows o → IsInRange o → ⊥))
     ⊎ ((why : ErrorKind) × (kinds ≡ why ∷ []) × (why ≢ kind.DisplayHelp) × (why ≢ kind.DisplayVersion))
 AsksClap kinds rows (request.Help text) = kinds ≡ kind.DisplayHelp ∷ []
 AsksClap kinds rows (request.Version text) = (kinds ≡ kind.DisplayVersion ∷ []) × (string_bytes text ≡ codes "nsqd 1.0.0" ++ 10 ∷ [])
+AsksClap kinds rows _ = ⊥

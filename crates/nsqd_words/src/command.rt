@@ -20,7 +20,7 @@ fn bare_command<'a>(alloc: Global) -> Command<'a>
     ensures { app_of result ≡ bare_app }
 {
     Command::new(alloc, "nsqd").version("1.0.0").about(
-        "The NSQ daemon: it takes messages, and delivers them to those who subscribed.",
+        "The NSQ daemon: it takes messages, and delivers them to those who subscribed. `nsqd drill SEED COUNT` runs a drill.",
     )
 }
 

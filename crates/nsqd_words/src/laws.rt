@@ -1,9 +1,9 @@
-ghost use Rattle.std.specs.Prelude.{◌≡◌};
+ghost use Rattle.std.specs.Prelude.{◌≡◌, ℕ};
 ghost use Rattle.nsq_base.specs.Options.{IsInRange};
 ghost use Rattle.nsq_base.specs.declared.options.Options.{Options};
 ghost use Rattle.nsqd_words.specs.Command.{HasOneAtMost, Words, refusal_of};
 ghost use Rattle.nsqd_words.specs.Plain.{HelpIsAsked, NothingIsFound, OneIsFound, TwiceIsRefused, VersionIsAsked};
-ghost use Rattle.nsqd_words.specs.Requests.{Asks, AsksHelp, AsksVersion, IsUnknown, SaysOptions};
+ghost use Rattle.nsqd_words.specs.Requests.{Asks, AsksDrill, AsksHelp, AsksVersion, IsUnknown, SaysOptions};
 ghost use Rattle.nsqd_words.specs.declared.request.Request.{Request};
 ghost use Rattle.nsqd_words.specs.declared.request.Request.TheVariants as request;
 
@@ -17,17 +17,25 @@ pub fn options_are_one()
     ensures { (words : Words) (o p : Options) → SaysOptions words o → SaysOptions words p → o ≡ p }
 {}
 
-/// Words that ask for help or for the version aren't unknown. A law, with nothing to run.
+/// Words that ask for a drill, for help or for the version aren't unknown, and words ask for one drill at most. A law, with
+/// nothing to run.
 pub fn other_requests_are_known()
+    ensures drill { (words : Words) (seed count : ℕ) → AsksDrill words seed count → IsUnknown words → ⊥ }
+    ensures drills { (words : Words) (seed count seed' count' : ℕ) → AsksDrill words seed count
+        → AsksDrill words seed' count' → (seed ≡ seed') × (count ≡ count') }
     ensures help { (words : Words) → AsksHelp words → IsUnknown words → ⊥ }
     ensures version { (words : Words) → AsksVersion words → IsUnknown words → ⊥ }
 {}
 
-/// Words that say options ask for no help and no version, and of those two they ask for one at most. A law, with nothing to
-/// run.
+/// Words that say options ask for no drill, no help and no version, and of those three they ask for one at most. A law,
+/// with nothing to run.
 pub fn requests_exclude_each_other()
+    ensures options_drill { (words : Words) (o : Options) (seed count : ℕ) → SaysOptions words o
+        → AsksDrill words seed count → ⊥ }
     ensures options_help { (words : Words) (o : Options) → SaysOptions words o → AsksHelp words → ⊥ }
     ensures options_version { (words : Words) (o : Options) → SaysOptions words o → AsksVersion words → ⊥ }
+    ensures drill_help { (words : Words) (seed count : ℕ) → AsksDrill words seed count → AsksHelp words → ⊥ }
+    ensures drill_version { (words : Words) (seed count : ℕ) → AsksDrill words seed count → AsksVersion words → ⊥ }
     ensures help_version { (words : Words) → AsksHelp words → AsksVersion words → ⊥ }
 {}
 

@@ -1,6 +1,6 @@
 //! The words of the command line of `nsqd`, read into what they ask for.
 //!
-//! `specs/Requests.antt` says what words ask for, over `clap`'s own functions of the words.
+//! `specs/Requests.antt` says what words ask for: of words that aren't a drill, over `clap`'s own functions of the words.
 #![tactic(auto)]
 
 mod command;

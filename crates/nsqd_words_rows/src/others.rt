@@ -43,9 +43,6 @@ pub const WRONG: &str = "\
     nsqd mem-queue-size=5 => unknown\n\
     nsqd -- stray => unknown\n\
     nsqd help => unknown\n\
-    nsqd --drill => unknown\n\
-    nsqd --drill 7 10 => unknown\n\
-    nsqd drill 7 10 => unknown\n\
     nsqd --sync-every => unknown\n\
     nsqd --sync-every --version => unknown\n\
     nsqd --sync-every --mem-queue-size=5 => unknown\n\

@@ -1,12 +1,14 @@
 //! All tables together.
 
 use crate::held::wrong_row;
-use crate::{durations, numbers, others, texts};
+use crate::{drills, durations, numbers, others, texts};
 use nsq_base::Memory;
 use std::alloc::Global;
 
 // The tables.
-static TABLES: [&'static str; 12] = [
+static TABLES: [&'static str; 14] = [
+    drills::RIGHT,
+    drills::WRONG,
     numbers::SAID,
     numbers::BEYOND,
     numbers::NO_NUMBERS,

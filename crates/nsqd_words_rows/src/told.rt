@@ -5,11 +5,12 @@ use nsq_base::{Memory, Options};
 use nsqd_words::Request;
 use std::alloc::Global;
 
-/// A request as a text: `help`, `version`, `unknown`, or `serve` and behind it each option that isn't at its default, as
-/// `NAME=VALUE`, durations in nanoseconds.
+/// A request as a text: `drill SEED COUNT`, `help`, `version`, `unknown`, or `serve` and behind it each option that isn't at
+/// its default, as `NAME=VALUE`, durations in nanoseconds.
 pub fn told(alloc: Global, request: Request) -> Result<Vec<u8>, Memory> {
     match request {
         Request::Serve(options) => serve(alloc, &options),
+        Request::Drill(seed, count) => drill(alloc, seed, count),
         Request::Help(text) => help(alloc, text.as_str()),
         Request::Version(text) => version(alloc, text.as_str()),
         Request::Unknown => word(alloc, "unknown"),
@@ -18,6 +19,13 @@ pub fn told(alloc: Global, request: Request) -> Result<Vec<u8>, Memory> {
 
 fn word(alloc: Global, text: &str) -> Result<Vec<u8>, Memory> {
     Ok(Vec::from_slice(alloc, text.as_bytes())?)
+}
+
+fn drill(alloc: Global, seed: u64, count: u64) -> Result<Vec<u8>, Memory> {
+    let mut text = word(alloc, "drill")?;
+    append_number(&mut text, " ", seed)?;
+    append_number(&mut text, " ", count)?;
+    Ok(text)
 }
 
 // Help has to speak of each option.

@@ -15,10 +15,15 @@ returns-clause-serves g c = λ o says range.
     = record {
       one = c.options_are_one.ensures (map string_bytes c.args.words.now);
       known = c.options_are_known.ensures (map string_bytes c.args.words.now);
+      drill_known = c.other_requests_are_known.ensures.drill (map string_bytes c.args.words.now);
+      drills = c.other_requests_are_known.ensures.drills (map string_bytes c.args.words.now);
       help_known = c.other_requests_are_known.ensures.help (map string_bytes c.args.words.now);
       version_known = c.other_requests_are_known.ensures.version (map string_bytes c.args.words.now);
+      options_drill = c.requests_exclude_each_other.ensures.options_drill (map string_bytes c.args.words.now);
       options_help = c.requests_exclude_each_other.ensures.options_help (map string_bytes c.args.words.now);
       options_version = c.requests_exclude_each_other.ensures.options_version (map string_bytes c.args.words.now);
+      drill_help = c.requests_exclude_each_other.ensures.drill_help (map string_bytes c.args.words.now);
+      drill_version = c.requests_exclude_each_other.ensures.drill_version (map string_bytes c.args.words.now);
       help_version = c.requests_exclude_each_other.ensures.help_version (map string_bytes c.args.words.now);
     } in
     plain_words g.H.Journal.Journal.notes g.H.Folder.Folder.files g.H.Clock.Clock.coming g.H.Folder.Folder.folder_faults _ g.H.Dialer.tells g.H.Folder.Folder.tells_files g.H.Journal.Journal.tells_notes (λ told. told.host) _
@@ -36,10 +41,15 @@ returns-clause-prints g c =
     = record {
       one = c.options_are_one.ensures (map string_bytes c.args.words.now);
       known = c.options_are_known.ensures (map string_bytes c.args.words.now);
+      drill_known = c.other_requests_are_known.ensures.drill (map string_bytes c.args.words.now);
+      drills = c.other_requests_are_known.ensures.drills (map string_bytes c.args.words.now);
       help_known = c.other_requests_are_known.ensures.help (map string_bytes c.args.words.now);
       version_known = c.other_requests_are_known.ensures.version (map string_bytes c.args.words.now);
+      options_drill = c.requests_exclude_each_other.ensures.options_drill (map string_bytes c.args.words.now);
       options_help = c.requests_exclude_each_other.ensures.options_help (map string_bytes c.args.words.now);
       options_version = c.requests_exclude_each_other.ensures.options_version (map string_bytes c.args.words.now);
+      drill_help = c.requests_exclude_each_other.ensures.drill_help (map string_bytes c.args.words.now);
+      drill_version = c.requests_exclude_each_other.ensures.drill_version (map string_bytes c.args.words.now);
       help_version = c.requests_exclude_each_other.ensures.help_version (map string_bytes c.args.words.now);
     } in
     asked_then g.H.Dialer.tells (g.H.Host.state c.args.host.now) (g.H.Host.state c.obey-ending.new.host) (g.H.Host.state c.close.new.host) (g.H.Host.content c.args.host.now) (g.H.Host.content c.obey-ending.new.host) (g.H.Host.content c.close.new.host) c.obey-ending.result c.close.ensures.state c.close.ensures.content (map string_bytes c.args.words.now) _ _ c.close.ensures.status
@@ -51,10 +61,15 @@ returns-clause-stays g c = λ none.
     = record {
       one = c.options_are_one.ensures (map string_bytes c.args.words.now);
       known = c.options_are_known.ensures (map string_bytes c.args.words.now);
+      drill_known = c.other_requests_are_known.ensures.drill (map string_bytes c.args.words.now);
+      drills = c.other_requests_are_known.ensures.drills (map string_bytes c.args.words.now);
       help_known = c.other_requests_are_known.ensures.help (map string_bytes c.args.words.now);
       version_known = c.other_requests_are_known.ensures.version (map string_bytes c.args.words.now);
+      options_drill = c.requests_exclude_each_other.ensures.options_drill (map string_bytes c.args.words.now);
       options_help = c.requests_exclude_each_other.ensures.options_help (map string_bytes c.args.words.now);
       options_version = c.requests_exclude_each_other.ensures.options_version (map string_bytes c.args.words.now);
+      drill_help = c.requests_exclude_each_other.ensures.drill_help (map string_bytes c.args.words.now);
+      drill_version = c.requests_exclude_each_other.ensures.drill_version (map string_bytes c.args.words.now);
       help_version = c.requests_exclude_each_other.ensures.help_version (map string_bytes c.args.words.now);
     } in
     stays_then g.H.Dialer.tells (g.H.Host.state c.args.host.now) (g.H.Host.state c.obey-ending.new.host) (g.H.Host.state c.close.new.host) (g.H.Host.content c.args.host.now) (g.H.Host.content c.obey-ending.new.host) (g.H.Host.content c.close.new.host) c.obey-ending.result c.close.ensures.state c.close.ensures.content (map string_bytes c.args.words.now) c.close.result c.close.ensures.status

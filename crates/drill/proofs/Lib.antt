@@ -1,0 +1,5 @@
+pub mod Lists
+pub mod Lefts
+pub mod Hosting
+pub mod Epochs
+pub mod Drilling

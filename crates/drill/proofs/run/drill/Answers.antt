@@ -1,0 +1,13 @@
+use Rattle.std.proofs.Common.{◌≡◌, subst, ◌∙◌}
+use Rattle.drill.specs.Draws.{publishes}
+use Rattle.drill.specs.Drills.{HasRunDrill}
+use Rattle.drill.proofs.Drilling.{has_drilled, home_names}
+use Rattle.drill.proofs.run.drill.Goals as goal
+
+pub conclude-requires-clause-names : goal.conclude-requires-clause-names
+conclude-requires-clause-names g c = home_names c.deref.result.now c.in_ok-host.host c.in_ok-host.ensures
+
+pub returns : goal.returns
+returns g c =
+    let drawn : c.deref.result.now ≡ publishes c.args.seed c.args.count = c.deref.ensures.value ∙ c.in_ok-publishes.ensures in
+    has_drilled c.args.seed c.args.count c.in_ok-host.host c.conclude.result (subst (λ all. HasRunDrill all c.in_ok-host.host) drawn c.in_ok-host.ensures) c.conclude.ensures.host c.conclude.ensures.counts

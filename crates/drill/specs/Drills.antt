@@ -1,0 +1,64 @@
+-- What a drill did.
+use Rattle.std.specs.Prelude.{◌≡◌, ℕ, false, List, Some}
+use Rattle.nsq_fakes.specs.MemClocks.{coming_of}
+use Rattle.nsq_fakes.specs.MemConns.{has_ended, left_of, pieces_of, read_faults_of, write_faults_of, written_of}
+use Rattle.nsq_fakes.specs.MemFolders.{faults_of, files_in}
+use Rattle.nsq_fakes.specs.MemHosts.{content_of, state_of}
+use Rattle.nsq_fakes.specs.MemJournals.{notes_of}
+use Rattle.nsq_fakes.specs.declared.conn.MemConn.{MemConn}
+use Rattle.nsq_fakes.specs.declared.host.MemHost.{MemHost}
+use Rattle.path_image.specs.Found.{Found, IsFound, Names}
+use Rattle.broker_history.specs.declared.entry.Entry.{Entry}
+use Rattle.daemon_loop.specs.Served.{Views, views}
+use Rattle.daemon_run.specs.Asked.{StartsOnce}
+use Rattle.daemon_run.specs.Runs.{HasRun}
+use Rattle.daemon_run.specs.Sights.{Sight, sight}
+use Rattle.daemon_run.specs.declared.ending.ServeEnd.TheVariants as end
+use Rattle.drill.specs.Counting.{finished_in, published_in, sent_in}
+use Rattle.drill.specs.Draws.{publishes}
+use Rattle.drill.specs.Hosts.{IsDrillHost, MemKit, drill_options}
+use Rattle.drill.specs.Left.{CountsAll, FindsMessages}
+use Rattle.drill.specs.declared.draws.Publish.{Publish}
+use Rattle.drill.specs.declared.run.Drilled.{Drilled}
+
+-- what is seen of a connection in memory
+abbrev pub seen : Views MemConn
+seen = views pieces_of left_of has_ended written_of read_faults_of write_faults_of
+
+-- what is seen of a host in memory with this kit
+abbrev pub seen_with : MemKit → MemHost Entry → Sight MemConn
+seen_with kit host = sight notes_of files_in coming_of faults_of kit (state_of host) (content_of host)
+
+-- no count of a host in memory with this kit rose, from 0 on: neither the folder's nor those of the listeners, of standard output and of standard error
+pub record IsFaultless (kit : MemKit) (host : MemHost Entry) : Type 0 where
+  pub state : state_of host ≡ record { kit = Some kit; beside = false; accept_faults = 0; print_faults = 0; tell_faults = 0 }
+  pub folder : faults_of kit.folder ≡ 0
+
+-- a new host with the callers of a drill ran cleanly with its options, no count of it rose, and this is the host as the run left it
+pub record HasRunDrill (all : List Publish) (host : MemHost Entry) : Type 0 where
+  pub first : MemHost Entry
+  pub is_first : IsDrillHost all first
+  pub kit : MemKit
+  pub faultless : IsFaultless kit host
+  pub started : StartsOnce drill_options (content_of first) (content_of host)
+  pub run : HasRun seen drill_options end.Clean (seen_with is_first.kit first) (seen_with kit host)
+
+-- the numbers are those of what was noted in this kit's journal, and of what its folder has
+pub record HasCounted (kit : MemKit) (drilled : Drilled) : Type 0 where
+  pub published : drilled.published ≡ published_in (notes_of kit.journal)
+  pub sent : drilled.sent ≡ sent_in (notes_of kit.journal)
+  pub finished : drilled.finished ≡ finished_in (notes_of kit.journal)
+  pub left : CountsAll (files_in kit.folder) drilled.left
+
+-- an opening finds names in this kit's folder
+abbrev pub HasNames : MemKit → Type 0
+HasNames kit = (found : Found) × IsFound (files_in kit.folder) (Names found)
+
+-- the drill of this seed with so many publishes was run, and these are its host and its numbers: how many messages were accepted, how many were sent and how many
+-- FINs succeeded in its history, and how many messages an opening of its folder finds
+pub record HasDrilled (seed count : ℕ) (drilled : Drilled) : Type 0 where
+  pub ran : HasRunDrill (publishes seed count) drilled.host
+  pub published : drilled.published ≡ published_in (notes_of ran.kit.journal)
+  pub sent : drilled.sent ≡ sent_in (notes_of ran.kit.journal)
+  pub finished : drilled.finished ≡ finished_in (notes_of ran.kit.journal)
+  pub left : FindsMessages (files_in ran.kit.folder) drilled.left

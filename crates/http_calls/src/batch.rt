@@ -1,6 +1,6 @@
-ghost use Rattle.std.specs.Prelude.{◌≡◌, ◌<◌, ◌≤◌, IfOk, MatchOption, length, drop, option_map};
+ghost use Rattle.std.specs.Prelude.{◌≡◌, ◌+◌, ◌<◌, ◌≤◌, IfOk, MatchOption, length, drop, option_map};
 ghost use Rattle.std.specs.Result.{result_err};
-ghost use Rattle.http_calls.specs.Messages.{message_in, lines_in, batch_in, is_binary, message_size_in, size_at, messages_of};
+ghost use Rattle.http_calls.specs.Messages.{message_in, lines_in, batch_in, messages_in, is_binary, message_size_in, size_at, messages_of};
 
 use crate::Refusal;
 use crate::argument::argument;
@@ -71,24 +71,36 @@ fn lines_in(alloc: Global, most: u32, body: &[u8]) -> Result<Result<Bodies, Refu
 fn batch_in(alloc: Global, most: u32, body: &[u8]) -> Result<Result<Bodies, Refusal>, Memory>
     ensures { IfOk result (λ messages. messages ≡ batch_in most body.now) }
 {
-    let Some((count, _)) = size_of(body) else {
+    let Some((count, rest)) = size_of(body) else {
         return Ok(Err(Refusal::BadBody));
     };
     if count == 0 {
         return Ok(Err(Refusal::BadBody));
     }
-    let count = count as usize;
+    messages_in(alloc, most, count as usize, rest)
+}
+
+/// So many messages, each behind its size, and nothing behind them.
+fn messages_in(
+    alloc: Global,
+    most: u32,
+    count: usize,
+    bytes: &[u8],
+) -> Result<Result<Bodies, Refusal>, Memory>
+    ensures { IfOk result (λ messages. messages ≡ messages_in most count bytes.now) }
+{
     let mut messages = Bodies::new(alloc);
-    let mut at = 4;
+    let mut at = 0;
     'messages: while messages.count() < count {
-        let size = match message_size(most, &body[at..]) {
+        let size = match message_size(most, &bytes[at..]) {
             Ok(size) => size,
             Err(refusal) => return Ok(Err(refusal)),
         };
-        messages.push(Body::copy(alloc, &body[at + 4..at + 4 + size])?)?;
+        let message = Body::copy(alloc, &bytes[at + 4..at + 4 + size])?;
+        messages.push(message)?;
         at += 4 + size;
     }
-    if at < body.len() {
+    if at < bytes.len() {
         return Ok(Err(Refusal::BadBody));
     }
     Ok(Ok(messages))
@@ -96,7 +108,8 @@ fn batch_in(alloc: Global, most: u32, body: &[u8]) -> Result<Result<Bodies, Refu
 
 /// The size of the message at the front of the bytes, which is whole there.
 fn message_size(most: u32, bytes: &[u8]) -> Result<usize, Refusal>
-    ensures { result ≡ message_size_in most bytes.now }
+    ensures value { result ≡ message_size_in most bytes.now }
+    ensures whole { IfOk result (λ size. 4 + size ≤ length bytes.now) }
 {
     let Some((size, rest)) = size_of(bytes) else {
         return Err(Refusal::BadBody);

@@ -6,6 +6,7 @@
 #![tactic(auto)]
 
 mod answer;
+mod append;
 mod argument;
 mod batch;
 mod call;

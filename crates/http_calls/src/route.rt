@@ -1,5 +1,6 @@
-ghost use Rattle.std.specs.Prelude.{◌≡◌};
-ghost use Rattle.http_calls.specs.Routes.{route_at, method_of};
+ghost use Rattle.std.specs.Prelude.{◌≡◌, ◌≢◌, MatchOption};
+ghost use Rattle.http_calls.specs.Routes.{path_of, route_at, method_of};
+ghost use Rattle.http_calls.specs.declared.route.Route.{Route};
 
 /// What is done to a topic or to a channel.
 #[derive(Clone, Copy)]
@@ -40,6 +41,13 @@ pub(crate) enum Route {
 /// The call that the path names, or None exactly where it names none.
 pub(crate) fn route_of(path: &[u8]) -> Option<Route>
     ensures { result ≡ route_at path.now }
+{
+    named(path)
+}
+
+/// The call of this path, or None exactly where no call has it.
+fn named(path: &[u8]) -> Option<Route>
+    ensures { MatchOption result ((route : Route) → path.now ≢ path_of route) (λ route. path.now ≡ path_of route) }
 {
     match path {
         b"/ping" => Some(Route::Ping),

@@ -1,5 +1,5 @@
 -- Lemmas on arguments and names.
-use Rattle.std.proofs.Common.{◌≡◌, ◌≢◌, ℕ, Bool, true, false, cond, nat_lt, nat_le, ◌&&◌, List, [], ◌∷◌, ◌++◌, length, Option, Some, None, Result, Ok, Err, refl, sym, ap, ◌∙◌, subst, option_map}
+use Rattle.std.proofs.Common.{◌≡◌, ◌≢◌, ℕ, Bool, true, false, cond, nat_lt, nat_le, List, [], ◌∷◌, ◌++◌, length, Option, Some, None, Ok, Err, refl, sym, ap, ◌∙◌, option_map}
 use Rattle.std.specs.Borrow.{Bor}
 use Rattle.std.specs.Bool.{Decides}
 use Rattle.std.specs.Option.{SomeIff, MatchOption}

@@ -1,8 +1,7 @@
 -- Lemmas on the lines of a body.
-use Rattle.std.proofs.Common.{◌≡◌, ℕ, zero, suc, ◌<◌, ◌==◌, nat_le, not, Bool, true, false, cond, List, [], ◌∷◌, ◌++◌, length, get_or, filter, Result, Ok, Err, refl, sym, ap, ◌∙◌, arith}
+use Rattle.std.proofs.Common.{◌≡◌, ℕ, zero, suc, ◌<◌, ◌==◌, nat_le, not, Bool, true, false, cond, List, [], ◌∷◌, ◌++◌, length, get_or, filter, Ok, Err, refl, sym, ap, ◌∙◌, arith}
 use Rattle.std.specs.List.{list_all, slice_split}
 use Rattle.std.proofs.lemmas.Bool.{and_left, and_right, and_from, and_parts, cond-true, cond-false, ne_eqb}
-use Rattle.http_calls.specs.declared.refusal.Refusal.{Refusal}
 use Rattle.http_calls.specs.declared.refusal.Refusal.TheVariants.{MsgEmpty, MsgTooBig}
 use Rattle.http_calls.specs.Messages.{lines_of, lines_in}
 

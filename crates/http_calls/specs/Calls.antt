@@ -1,12 +1,11 @@
 -- What a request is by itself: the table of the calls.
-use Rattle.std.specs.Prelude.{ℕ, not, if◌then◌else◌, Bool, true, false, List, [], ◌∷◌, Option, Some, None, Result, Ok, Err, codes}
+use Rattle.std.specs.Prelude.{ℕ, not, if◌then◌else◌, Bool, true, List, [], ◌∷◌, Option, Some, None, Result, Ok, Err, codes}
 use Rattle.std.specs.Str.{bytes_eq}
 use Rattle.nsq_base.specs.declared.options.Options.{Options}
 use Rattle.broker_history.specs.declared.ask.Ask.{Ask}
 use Rattle.broker_history.specs.declared.ask.Ask.TheVariants as ask
 use Rattle.http_wire.specs.declared.request.Request.{Request}
 use Rattle.desk.specs.Calls.{CanAsk}
-use Rattle.http_calls.specs.declared.answer.HttpAnswer.{HttpAnswer}
 use Rattle.http_calls.specs.declared.call.HttpCall.{HttpCall}
 use Rattle.http_calls.specs.declared.call.HttpCall.TheVariants as call
 use Rattle.http_calls.specs.declared.refusal.Refusal.{Refusal}
@@ -15,19 +14,12 @@ use Rattle.http_calls.specs.declared.route.Route.{Route}
 use Rattle.http_calls.specs.declared.route.Route.TheVariants as route
 use Rattle.http_calls.specs.declared.route.Verb.{Verb}
 use Rattle.http_calls.specs.declared.route.Verb.TheVariants as verb
+use Rattle.http_calls.specs.Answers.{text_answer, json_answer}
 use Rattle.http_calls.specs.Arguments.{unless, argument_of, topic_in, names_in, optional_names_in}
 use Rattle.http_calls.specs.Delay.{delay_in}
 use Rattle.http_calls.specs.Messages.{message_in, messages_of}
 use Rattle.http_calls.specs.Info.{info_text}
 use Rattle.http_calls.specs.Routes.{route_at, method_of}
-
--- an answer 200 in plain text
-abbrev pub text_answer : List ℕ → HttpAnswer
-text_answer text = record { status = 200; json = false; body = text }
-
--- an answer 200 in JSON
-abbrev pub json_answer : List ℕ → HttpAnswer
-json_answer text = record { status = 200; json = true; body = text }
 
 -- the format of the statistics has to be given, and is JSON
 abbrev pub format_in : Option (List ℕ) → Result (List ℕ) Refusal

@@ -18,7 +18,7 @@ mod refusal;
 mod route;
 mod verbs;
 
-pub use answer::HttpAnswer;
+pub use answer::{HttpAnswer, answer_to, publishes, stop_answer};
 pub use call::HttpCall;
 pub use calls::call_of;
 pub use refusal::{Refusal, refusal_of};

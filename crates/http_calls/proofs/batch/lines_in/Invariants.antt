@@ -1,4 +1,4 @@
-use Rattle.std.proofs.Common.{◌≡◌, ℕ, List, Bool, true, map}
+use Rattle.std.proofs.Common.{◌≡◌, true, map}
 use Rattle.std.specs.List.{list_all}
 use Rattle.http_calls.proofs.LineLemmas.{is_short, some_of}
 use Rattle.http_calls.proofs.batch.lines_in.Given as goal

@@ -1,4 +1,4 @@
-use Rattle.std.proofs.Common.{◌≡◌, ℕ, ◌+◌, ◌-◌, ◌≤◌, List, [], ◌∷◌, ◌++◌, length, take, drop, sym, ap, ◌∙◌, subst, arith, length-drop, length-append}
+use Rattle.std.proofs.Common.{◌≡◌, ℕ, ◌+◌, ◌-◌, ◌≤◌, List, [], ◌∷◌, ◌++◌, length, take, drop, sym, ap, ◌∙◌, arith, length-drop, length-append}
 use Rattle.v2_frame.proofs.PlaceLemmas.{behind_place}
 use Rattle.http_calls.specs.Messages.{messages_in}
 use Rattle.http_calls.proofs.BatchLemmas.{behind, refused_here, one_more, all_read, left_over}

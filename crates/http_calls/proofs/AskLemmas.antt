@@ -1,5 +1,5 @@
 -- What a request asks can be asked.
-use Rattle.std.proofs.Common.{◌≡◌, ℕ, zero, suc, ◌+◌, ◌*◌, ◌<◌, ◌≤◌, ◌==◌, ◌||◌, nat_lt, nat_le, Bool, true, false, cond, List, [], ◌∷◌, length, drop, codes, Option, Some, None, Result, Ok, Err, IfOk, refl, sym, ap, subst, arith, length-take}
+use Rattle.std.proofs.Common.{◌≡◌, ℕ, zero, suc, ◌+◌, ◌*◌, ◌<◌, ◌≤◌, ◌==◌, ◌||◌, nat_lt, nat_le, Bool, true, false, cond, List, [], ◌∷◌, length, drop, codes, Option, Some, None, Result, Ok, Err, IfOk, refl, sym, ap, subst, arith, length-take, inl}
 use Rattle.std.specs.Prelude.{ℤ, pos, negsuc}
 use Rattle.std.specs.List.{AllByRecursion, list_all}
 use Rattle.std.proofs.lemmas.Bool.{leb-true, and_parts, or_parts}
@@ -20,7 +20,7 @@ use Rattle.http_calls.specs.declared.route.Verb.TheVariants as verb
 use Rattle.http_calls.specs.Arguments.{unless, argument_of, topic_in, names_in, optional_names_in}
 use Rattle.http_calls.specs.Delay.{delay_by, delay_in, number_in}
 use Rattle.http_calls.specs.Messages.{message_in, lines_of, lines_in, size_at, message_size_in, messages_in, batch_in, is_binary, messages_of}
-use Rattle.http_calls.specs.Calls.{ask_of, asks, format_in, stats_in, publish_in, publish_many_in, on_topic_in, on_channel_in, called, CanBeAsked}
+use Rattle.http_calls.specs.Calls.{ask_of, asks, format_in, stats_in, publish_in, publish_many_in, on_topic_in, on_channel_in, called, CanBeAsked, HasStatus}
 
 -- what the judgements give, where they refuse nothing
 given : {X Y : Type 0} (P : X → Type 0) (Q : Y → Type 0) (found : Result X Refusal) (next : X → Result Y Refusal) → IfOk found P → ((x : X) → P x → IfOk (next x) Q) → IfOk (unless found next) Q
@@ -183,3 +183,22 @@ called_can o ir began r route.Stop = tt
 pub all_can : {E : Type 0} (o : Options) → IsInRange o → (began : ℕ) (r : Request) (named : Route) (found : Result HttpCall E) → IfOk found (λ call. call ≡ called o began r named) → IfOk found CanBeAsked
 all_can o ir began r named (Ok call) is = subst CanBeAsked (sym is) (called_can o ir began r named)
 all_can o ir began r named (Err e) is = tt
+
+asks_status : (found : Result Ask Refusal) → HasStatus (asks found)
+asks_status (Ok a) = tt
+asks_status (Err refusal) = tt
+
+called_status : (o : Options) (began : ℕ) (r : Request) (named : Route) → HasStatus (called o began r named)
+called_status o began r route.Ping = inl refl
+called_status o began r route.Info = inl refl
+called_status o began r route.Stats = asks_status (stats_in r)
+called_status o began r route.Publish = asks_status (publish_in o r)
+called_status o began r route.PublishMany = asks_status (publish_many_in o r)
+called_status o began r (route.OnTopic v) = asks_status (on_topic_in v r)
+called_status o began r (route.OnChannel v) = asks_status (on_channel_in v r)
+called_status o began r route.Stop = tt
+
+-- what a call that is served is answered at once has a status
+pub all_status : {E : Type 0} (o : Options) (began : ℕ) (r : Request) (named : Route) (found : Result HttpCall E) → IfOk found (λ call. call ≡ called o began r named) → IfOk found HasStatus
+all_status o began r named (Ok call) is = subst HasStatus (sym is) (called_status o began r named)
+all_status o began r named (Err e) is = tt

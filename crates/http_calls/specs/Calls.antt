@@ -4,6 +4,7 @@ use Rattle.std.specs.Str.{bytes_eq}
 use Rattle.nsq_base.specs.declared.options.Options.{Options}
 use Rattle.broker_history.specs.declared.ask.Ask.{Ask}
 use Rattle.broker_history.specs.declared.ask.Ask.TheVariants as ask
+use Rattle.http_wire.specs.Answer.{IsStatus}
 use Rattle.http_wire.specs.declared.request.Request.{Request}
 use Rattle.desk.specs.Calls.{CanAsk}
 use Rattle.http_calls.specs.declared.call.HttpCall.{HttpCall}
@@ -101,3 +102,8 @@ call_for o began r = judged o began r (route_at r.path)
 abbrev pub CanBeAsked : HttpCall → Type 0
 CanBeAsked (call.Asks a) = CanAsk a
 CanBeAsked _ = Unit {0}
+
+-- an answer that is given at once has a status that answers have
+abbrev pub HasStatus : HttpCall → Type 0
+HasStatus (call.Answered answer) = IsStatus answer.status
+HasStatus _ = Unit {0}

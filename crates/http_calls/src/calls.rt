@@ -1,6 +1,6 @@
 ghost use Rattle.std.specs.Prelude.{◌≡◌, IfOk};
 ghost use Rattle.nsq_base.specs.Options.{IsInRange};
-ghost use Rattle.http_calls.specs.Calls.{asks, is_served, called, call_for, CanBeAsked};
+ghost use Rattle.http_calls.specs.Calls.{asks, is_served, called, call_for, CanBeAsked, HasStatus};
 
 use crate::answer::{json_answer, text_answer};
 use crate::info::info_text;
@@ -25,6 +25,7 @@ pub fn call_of(
     requires { IsInRange options.now }
     ensures value { IfOk result (λ call. call ≡ call_for options.now began request) }
     ensures can_be_asked { IfOk result CanBeAsked }
+    ensures status { IfOk result HasStatus }
 {
     let Some(route) = route_of(request.path.bytes()) else {
         return Ok(HttpCall::Refused(Refusal::NotFound));

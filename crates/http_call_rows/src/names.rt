@@ -36,7 +36,11 @@ static TOPICS: [Row; 11] = [
     Row {
         name: "64 bytes",
         bytes: b"POST /topic/create?topic=aaaaaaaaaaaaaaaaaaaaaaaaaaaaaaaaaaaaaaaaaaaaaaaaaaaaaaaaaaaaaaaa HTTP/1.1\r\n\r\n",
-        wanted: Wanted::On(Act::Create, b"aaaaaaaaaaaaaaaaaaaaaaaaaaaaaaaaaaaaaaaaaaaaaaaaaaaaaaaaaaaaaaaa", None),
+        wanted: Wanted::On(
+            Act::Create,
+            b"aaaaaaaaaaaaaaaaaaaaaaaaaaaaaaaaaaaaaaaaaaaaaaaaaaaaaaaaaaaaaaaa",
+            None,
+        ),
     },
     Row {
         name: "an ephemeral topic",

@@ -80,7 +80,10 @@ static STOPS: [Row; 9] = [
     Row {
         name: "what the daemon tells of itself",
         bytes: b"GET /info HTTP/1.1\r\n\r\n",
-        wanted: Wanted::Answered(true, b"{\"broadcast_address\":\"127.0.0.1\",\"hostname\":\"127.0.0.1\",\"http_port\":4151,\"start_time\":3,\"tcp_port\":4150,\"version\":\"1.0.0\"}"),
+        wanted: Wanted::Answered(
+            true,
+            b"{\"broadcast_address\":\"127.0.0.1\",\"hostname\":\"127.0.0.1\",\"http_port\":4151,\"start_time\":3,\"tcp_port\":4150,\"version\":\"1.0.0\"}",
+        ),
     },
     Row {
         name: "no head",

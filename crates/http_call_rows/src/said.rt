@@ -99,23 +99,32 @@ fn others_hold(alloc: Global) -> Result<bool, Memory> {
     let stop = stop_answer(alloc)?;
     let memory = Refusal::OutOfMemory.answer(alloc)?;
     let stopping = Refusal::Stopping.answer(alloc)?;
-    Ok(is_answer(&stop, Wanted::Answered(false, b"OK"))
-        && is_answer(
-            &memory,
-            Wanted::Refused(503, b"{\"message\":\"OUT_OF_MEMORY\"}"),
-        )
-        && is_answer(
-            &stopping,
-            Wanted::Refused(503, b"{\"message\":\"STOPPING\"}"),
-        ))
+    Ok(
+        is_answer(&stop, Wanted::Answered(false, b"OK"))
+            && is_answer(
+                &memory,
+                Wanted::Refused(503, b"{\"message\":\"OUT_OF_MEMORY\"}"),
+            )
+            && is_answer(
+                &stopping,
+                Wanted::Refused(503, b"{\"message\":\"STOPPING\"}"),
+            ),
+    )
 }
 
 /// Whether a refusal is written so.
 fn is_written(alloc: Global) -> Result<bool, Memory> {
     let answer = Refusal::MissingTopic.answer(alloc)?;
     let mut out = Vec::new(alloc);
-    write_answer(alloc, answer.status, answer.json, answer.body.bytes(), &mut out)?;
-    let wanted: &[u8] = b"HTTP/1.1 400 Bad Request\r\nContent-Type: application/json; charset=utf-8\r\nContent-Length: 31\r\nConnection: close\r\n\r\n{\"message\":\"MISSING_ARG_TOPIC\"}";
+    write_answer(
+        alloc,
+        answer.status,
+        answer.json,
+        answer.body.bytes(),
+        &mut out,
+    )?;
+    let wanted: &[u8] =
+        b"HTTP/1.1 400 Bad Request\r\nContent-Type: application/json; charset=utf-8\r\nContent-Length: 31\r\nConnection: close\r\n\r\n{\"message\":\"MISSING_ARG_TOPIC\"}";
     Ok(&out[..] == wanted)
 }
 

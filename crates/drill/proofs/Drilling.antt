@@ -51,7 +51,7 @@ state_is : (s : HostState MemFolder MemClock (MemJournal Entry)) (kit : MemKit) 
     → s ≡ record { kit = Some kit; beside = false; accept_faults = 0; print_faults = 0; tell_faults = 0 }
 state_is s kit a b c d e =
     let S : Option MemKit → Bool → ℕ → ℕ → ℕ → HostState MemFolder MemClock (MemJournal Entry)
-      = λ v w x y z. record { kit = v; beside = w; accept_faults = x; print_faults = y; tell_faults = z } in
+    = λ v w x y z. record { kit = v; beside = w; accept_faults = x; print_faults = y; tell_faults = z } in
     ap (λ v. S v s.beside s.accept_faults s.print_faults s.tell_faults) a ∙ ap (λ w. S (Some kit) w s.accept_faults s.print_faults s.tell_faults) b
     ∙ ap (λ x. S (Some kit) false x s.print_faults s.tell_faults) c ∙ ap (λ y. S (Some kit) false 0 y s.tell_faults) d ∙ ap (λ z. S (Some kit) false 0 0 z) e
 
@@ -80,7 +80,7 @@ has_run all host f kit ended clean keeps home accept folder both =
     let is_first : IsDrillHost all first = f.1 in
     let home_first : (state_of first).kit ≡ Some is_first.kit = ap (λ (s : HostState MemFolder MemClock (MemJournal Entry)). s.kit) is_first.state in
     let runs : Runs seen drill_options end.Clean (seen_with is_first.kit first) (seen_with kit host)
-      = subst (λ e. Runs seen drill_options e (seen_with is_first.kit first) (seen_with kit host)) clean
+    = subst (λ e. Runs seen drill_options e (seen_with is_first.kit first) (seen_with kit host)) clean
     (both_home (state_of first) (state_of host) (content_of first) (content_of host) is_first.kit kit (Runs seen drill_options ended) home_first home both) in
     let done = clean_run (seen_with is_first.kit first) (seen_with kit host) (runs (λ name bytes e. absurd (no_bytes is_first.kit is_first.is_new.files name bytes e))) in
     record {

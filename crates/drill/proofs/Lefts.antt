@@ -93,7 +93,7 @@ module _ (files : Files) where
   topic_counts kept name channels own theirs n a b c d e found f =
       let mine : own ≡ length found.messages = c found.messages (subst (λ q. HasMessages files q found.messages) a f.messages) in
       let rest : theirs ≡ messages_within found.channels
-        = d found.channels (subst (λ q. Pairwise (FindsChannel files q) channels found.channels) a (subst (λ ks. Pairwise (FindsChannel files kept.name) ks found.channels) b f.channels)) in
+      = d found.channels (subst (λ q. Pairwise (FindsChannel files q) channels found.channels) a (subst (λ ks. Pairwise (FindsChannel files kept.name) ks found.channels) b f.channels)) in
       e ∙ rw (mine, rest) refl
 
   pub topic_none : (kept : KeptTopic) (name : List ℕ) → kept.name ≡ name → HasNoList files name → (found : FoundTopic) → FindsTopic files kept found → ⊥

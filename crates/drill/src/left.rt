@@ -108,12 +108,7 @@ fn in_queue(alloc: Global, folder: &MemFolder, name: &str) -> Result<Option<u64>
 }
 
 // How many records the files of a queue have between the positions, without those of bad files. The numbers of the files are few.
-fn walk(
-    alloc: Global,
-    folder: &MemFolder,
-    name: &str,
-    positions: Positions,
-) -> Result<u64, Memory>
+fn walk(alloc: Global, folder: &MemFolder, name: &str, positions: Positions) -> Result<u64, Memory>
     requires order { IsOrdered positions }
     requires range { IsInRange positions }
     ensures { IfOk result (WalksOver positions (content (files_in folder.now) name.now) (positions.write_file + 1)) }
@@ -140,12 +135,7 @@ fn content_of<'a>(folder: &'a MemFolder, name: &str) -> &'a [u8]
 }
 
 // How many records the file of this number gives; none where it is bad.
-fn in_file(
-    alloc: Global,
-    bytes: &[u8],
-    positions: &Positions,
-    number: u64,
-) -> Result<u64, Memory>
+fn in_file(alloc: Global, bytes: &[u8], positions: &Positions, number: u64) -> Result<u64, Memory>
     requires { IsOrdered positions.now }
     ensures { IfOk result (GivesSo positions.now number bytes.now) }
 {
@@ -155,7 +145,12 @@ fn in_file(
     if start > len || end > len {
         return Ok(0);
     }
-    match records_of(alloc, &bytes[start as usize..end as usize], LEAST_RECORD, LONGEST_RECORD)? {
+    match records_of(
+        alloc,
+        &bytes[start as usize..end as usize],
+        LEAST_RECORD,
+        LONGEST_RECORD,
+    )? {
         Row::Whole(bodies) => Ok(bodies.count() as u64),
         Row::Damaged { .. } => Ok(0),
     }

@@ -121,7 +121,16 @@ fn is_talk(
         pieces.push(Body::copy(alloc, piece)?)?;
     }
     let out = conn.bytes_written();
-    is_talk_in(alloc, LIMITS, number, entries, 0, &pieces, out, Ended::EndOfInput)
+    is_talk_in(
+        alloc,
+        LIMITS,
+        number,
+        entries,
+        0,
+        &pieces,
+        out,
+        Ended::EndOfInput,
+    )
 }
 
 fn are_talks(
@@ -179,7 +188,13 @@ fn judged_drills(rt: HostRuntime) -> Result<(), Fail> {
             continue;
         }
         let wrong = row_wrong(&rt, rt.alloc(), row)?;
-        assert!(rt; wrong.is_none(), "drill {} {}: {}", row.seed, row.count, wrong.unwrap_or(""));
+        assert!(rt;
+            wrong.is_none(),
+            "drill {} {}: {}",
+            row.seed,
+            row.count,
+            wrong.unwrap_or("")
+        );
     }
     Ok(())
 }

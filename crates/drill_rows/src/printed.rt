@@ -138,12 +138,10 @@ fn rows_wrong<R: Wait>(
     alloc: Global,
     rows: &[Row],
 ) -> Result<Option<(usize, &'static str)>, Memory> {
-    let mut place = 0;
-    for row in rows {
+    for (place, row) in rows.iter().enumerate() {
         if let Some(wrong) = row_wrong(rt, alloc, row)? {
             return Ok(Some((place, wrong)));
         }
-        place += 1;
     }
     Ok(None)
 }

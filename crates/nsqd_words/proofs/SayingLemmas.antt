@@ -1,30 +1,32 @@
 -- What the words say, from what clap finds in them.
 use Rattle.std.proofs.Common.{◌≡◌, ℕ, ◌<◌, List, [], ◌∷◌, Option, None, Some, refl, sym, ap, subst, ◌∙◌, inl, inr, Bool, true, map, zero, suc, length, get_or, arith, ◌≤◌}
-use Rattle.std.specs.Prelude.{◌⊎◌, ◌↔◌, IsTrue, MatchOption, SomeIff, option_map, slice_get}
+use Rattle.std.specs.Prelude.{◌⊎◌, ◌↔◌, IsTrue, MatchOption, SomeIff, find, option_and_then, option_map, slice_get}
 use Rattle.std.specs.Str.{bytes_eq}
 use Rattle.std.proofs.lemmas.Option.{none-some, same_Some, slice_get-map, slice_get_past}
 use Rattle.std.proofs.lemmas.Slice.Eq.{bytes_eq-Decides}
 use Rattle.std.specs.Str.Parse.{digits_value}
 use Rattle.clap.specs.Faults.{fault_of, is_simple_and_free}
 use Rattle.clap.specs.Kinds.{HasKind, IsAmong, Kinds}
-use Rattle.clap.specs.Matches.{first_value, found_of}
+use Rattle.clap.specs.Facts.{Entry}
+use Rattle.clap.specs.Matches.{first_value, found_of, matched_of}
 use Rattle.clap.specs.Simple.{App, HasMatchesOf, is_simple, matches_of}
-use Rattle.clap.specs.Walk.{Row, Text, rows_of}
+use Rattle.clap.specs.Walk.{Row, Text, row_of, rows_of}
 use Rattle.clap.specs.declared.error.Error.{Error}
 use Rattle.clap.specs.declared.error.kind.ErrorKind.{ErrorKind}
 use Rattle.clap.specs.declared.error.kind.ErrorKind.TheVariants as kind
 use Rattle.clap.specs.declared.parser.matches.ArgMatches.{ArgMatches}
 use Rattle.clap.specs.declared.parser.matches.Found.{Found}
+use Rattle.clap.specs.declared.parser.matches.MatchedArg.{MatchedArg}
 use Rattle.clap.proofs.OnLiterals.{clap_on_literals}
-use Rattle.clap.proofs.WalkLemmas.{first_value-rows}
+use Rattle.clap.proofs.WalkLemmas.{find_row, first_value-rows}
 use Rattle.nsq_base.specs.Options.{IsInRange, default_options}
 use Rattle.nsq_base.specs.declared.options.Options.{Options}
-use Rattle.nsqd_words.specs.Command.{HasOneAtMost, Words, found_in, nsqd_app, refusal_of, value_in}
+use Rattle.nsqd_words.specs.Command.{HasOneAtMost, Words, found_in, nsqd_app, refusal_of, source_in, stop_flag, value_in}
 use Rattle.nsqd_words.specs.Durations.{IsDuration}
 use Rattle.nsqd_words.specs.Numbers.{AreDigits, FindsBelow, IsNumber}
-use Rattle.nsqd_words.specs.Parts.{AsksByFound, AsksByKind, AsksClap, FindsOptions, with_sizes, with_texts, with_times}
+use Rattle.nsqd_words.specs.Parts.{AsksByFound, AsksByKind, AsksClap, FindsOptions, with_sizes, with_stop, with_texts, with_times}
 use Rattle.nsqd_words.specs.Requests.{Asks, AsksDrill, AsksHelp, AsksVersion, SaysOptions, IsForClap, IsUnknown, bad_drill, bad_value, refused}
-use Rattle.nsqd_words.specs.Saying.{IsSameText, IsValue, SaysSizes, SaysTexts, SaysTimes, SaysValues}
+use Rattle.nsqd_words.specs.Saying.{IsSameText, IsValue, SaysFlag, SaysSizes, SaysTexts, SaysTimes, SaysValues}
 use Rattle.nsqd_words.specs.declared.options.Sizes.{Sizes}
 use Rattle.nsqd_words.specs.declared.options.Texts.{Texts}
 use Rattle.nsqd_words.specs.declared.options.Times.{Times}
@@ -50,6 +52,14 @@ finds_value Reads default f id text limit found e h =
 pub finds_number : (text : Text) (limit : ℕ) (found : Option ℕ) → SomeIff found (AreDigits 18 text) (digits_value 10 text) → FindsBelow limit (IsNumber text) found
 finds_number text limit None h = λ n small p. h p.digits
 finds_number text limit (Some n) h = record { digits = h.0; value = h.1 }
+
+-- where the value came from that was found
+pub source-rows : (f : Found) (id : Text) → option_and_then (λ a. a.source) (matched_of f id) ≡ source_in (rows_of f) id
+source-rows f id = go (find (λ e. bytes_eq e.0.now id) f.entries.items) ∙ ap (option_and_then (λ (r : Row). r.source)) (sym (find_row f.entries.items id))
+  where
+    go : (o : Option Entry) → option_and_then (λ (a : MatchedArg). a.source) (option_map (λ e. e.1) o) ≡ option_and_then (λ (r : Row). r.source) (option_map row_of o)
+    go None = refl
+    go (Some e) = refl
 
 -- ---- one record of options
 
@@ -93,16 +103,17 @@ values_one rows o p s t =
     (duration _ _ _ _ s.times.max_req_timeout t.times.max_req_timeout)
     (number _ _ _ _ s.sizes.max_rdy_count t.sizes.max_rdy_count)
     (duration _ _ _ _ s.times.max_heartbeat_interval t.times.max_heartbeat_interval)
-    (s.texts.http_stop ∙ sym t.texts.http_stop)
+    (s.http_stop ∙ sym t.http_stop)
 
 -- the parts say the whole
-pub says_all : (rows : List Row) (texts : Texts) (sizes : Sizes) (times : Times) → SaysTexts rows (with_texts default_options texts) → SaysSizes rows (with_sizes default_options sizes) → SaysTimes rows (with_times default_options times)
-    → SaysValues rows (with_times (with_sizes (with_texts default_options texts) sizes) times)
-says_all rows texts sizes times a b c =
+pub says_all : (rows : List Row) (texts : Texts) (sizes : Sizes) (times : Times) (http_stop : Bool) → SaysTexts rows (with_texts default_options texts) → SaysSizes rows (with_sizes default_options sizes) → SaysTimes rows (with_times default_options times) → SaysFlag rows stop_flag http_stop
+    → SaysValues rows (with_stop (with_times (with_sizes (with_texts default_options texts) sizes) times) http_stop)
+says_all rows texts sizes times http_stop a b c d =
     record {
-      texts = record { tcp_address = a.tcp_address; http_address = a.http_address; broadcast_address = a.broadcast_address; data_path = a.data_path; lookupd_tcp_address = a.lookupd_tcp_address; http_stop = a.http_stop };
+      texts = record { tcp_address = a.tcp_address; http_address = a.http_address; broadcast_address = a.broadcast_address; data_path = a.data_path; lookupd_tcp_address = a.lookupd_tcp_address };
       sizes = record { mem_queue_size = b.mem_queue_size; max_bytes_per_file = b.max_bytes_per_file; sync_every = b.sync_every; max_msg_size = b.max_msg_size; max_body_size = b.max_body_size; max_rdy_count = b.max_rdy_count };
       times = record { sync_timeout = c.sync_timeout; msg_timeout = c.msg_timeout; max_msg_timeout = c.max_msg_timeout; max_req_timeout = c.max_req_timeout; max_heartbeat_interval = c.max_heartbeat_interval };
+      http_stop = d;
     }
 
 -- the options that are said are found where they are in their ranges

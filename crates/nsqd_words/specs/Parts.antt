@@ -1,5 +1,5 @@
 -- What the parts of the readers answer. No public clause cites this module.
-use Rattle.std.specs.Prelude.{ℕ, ◌≡◌, ◌≢◌, ◌<◌, ◌≤◌, ◌+◌, false, List, [], ◌∷◌, ◌++◌, Option, Some, None, length, take, drop, slice_get, MatchOption, ◌⊎◌, codes, fold, string_bytes}
+use Rattle.std.specs.Prelude.{ℕ, ◌≡◌, ◌≢◌, ◌<◌, ◌≤◌, ◌+◌, Bool, false, List, [], ◌∷◌, ◌++◌, Option, Some, None, length, take, drop, slice_get, MatchOption, ◌⊎◌, codes, fold, string_bytes}
 use Rattle.std.specs.Char.{is_ascii_digit}
 use Rattle.std.specs.List.{AllByRecursion, AllPass}
 use Rattle.clap.specs.Kinds.{Kinds}
@@ -96,6 +96,10 @@ with_times o times = record o {
   max_req_timeout = times.max_req_timeout;
   max_heartbeat_interval = times.max_heartbeat_interval;
 }
+
+-- options with this flag
+abbrev pub with_stop : Options → Bool → Options
+with_stop o http_stop = record o { http_stop = http_stop }
 
 -- the sizes and counts that are said; none where those that are said aren't in their ranges
 abbrev pub FindsSizes : List Row → Option Sizes → Type 0

@@ -1,9 +1,9 @@
 -- The options that the words say.
-use Rattle.std.specs.Prelude.{ℕ, ◌≡◌, List, Option, Some, None, codes}
+use Rattle.std.specs.Prelude.{ℕ, ◌≡◌, Bool, List, Option, Some, None, codes}
 use Rattle.clap.specs.Walk.{Row, Text}
 use Rattle.nsq_base.specs.Options.{default_options}
 use Rattle.nsq_base.specs.declared.options.Options.{Options}
-use Rattle.nsqd_words.specs.Command.{value_in}
+use Rattle.nsqd_words.specs.Command.{is_given_in, stop_flag, value_in}
 use Rattle.nsqd_words.specs.Durations.{IsDuration}
 use Rattle.nsqd_words.specs.Numbers.{IsNumber}
 
@@ -27,6 +27,10 @@ module _ (rows : List Row) (name : Text) where
   abbrev pub SaysDuration : ℕ → ℕ → Type 0
   SaysDuration default n = IsValue IsDuration default (value_in rows name) n
 
+  -- a flag is on where the words give it
+  abbrev pub SaysFlag : Bool → Type 0
+  SaysFlag on = on ≡ is_given_in rows name
+
 -- the texts of the options, and what no word says yet
 pub record SaysTexts (rows : List Row) (o : Options) : Type 0 where
   pub tcp_address : SaysText rows (codes "tcp-address") default_options.tcp_address o.tcp_address
@@ -34,7 +38,6 @@ pub record SaysTexts (rows : List Row) (o : Options) : Type 0 where
   pub broadcast_address : SaysText rows (codes "broadcast-address") default_options.broadcast_address o.broadcast_address
   pub data_path : SaysText rows (codes "data-path") default_options.data_path o.data_path
   pub lookupd_tcp_address : o.lookupd_tcp_address ≡ default_options.lookupd_tcp_address
-  pub http_stop : o.http_stop ≡ default_options.http_stop
 
 -- the sizes and counts of the options
 pub record SaysSizes (rows : List Row) (o : Options) : Type 0 where
@@ -58,3 +61,4 @@ pub record SaysValues (rows : List Row) (o : Options) : Type 0 where
   pub texts : SaysTexts rows o
   pub sizes : SaysSizes rows o
   pub times : SaysTimes rows o
+  pub http_stop : SaysFlag rows stop_flag o.http_stop

@@ -1,18 +1,19 @@
 ghost use Rattle.std.specs.Prelude.{◌≡◌, IfOk};
 ghost use Rattle.clap.specs.Words.{app_of};
-ghost use Rattle.nsqd_words.specs.Command.{bare_app, nsqd_app, with_option};
+ghost use Rattle.nsqd_words.specs.Command.{bare_app, nsqd_app, stop_flag, with_flag, with_option};
 ghost use Rattle.nsqd_words.specs.Parts.{with_size_options, with_text_options, with_time_options};
 
 use clap::{Arg, ArgAction, Command};
 use std::alloc::{AllocError, Global};
 
-/// The command `nsqd`, with all its options.
+/// The command `nsqd`, with all its options and its flag.
 pub(crate) fn nsqd_command<'a>(alloc: Global) -> Result<Command<'a>, AllocError>
     ensures { IfOk result (λ command. app_of command ≡ nsqd_app) }
 {
     let command = with_texts(alloc, bare_command(alloc))?;
     let command = with_sizes(alloc, command)?;
-    with_times(alloc, command)
+    let command = with_times(alloc, command)?;
+    with_stop(alloc, command)
 }
 
 // The command without an option.
@@ -132,6 +133,18 @@ fn with_times<'a>(alloc: Global, command: Command<'a>) -> Result<Command<'a>, Al
     )
 }
 
+// The command with its flag.
+fn with_stop<'a>(alloc: Global, command: Command<'a>) -> Result<Command<'a>, AllocError>
+    ensures { IfOk result (λ grown. app_of grown ≡ with_flag (app_of command.entry) stop_flag) }
+{
+    add_flag(
+        alloc,
+        command,
+        "http-stop",
+        "POST /stop over HTTP stops the daemon [default: off]",
+    )
+}
+
 // The command with one option more, which takes one value.
 fn add<'a>(
     alloc: Global,
@@ -146,4 +159,20 @@ fn add<'a>(
         .action(ArgAction::Set)
         .help(help);
     command.arg(option)
+}
+
+// The command with one flag more, which takes no value.
+fn add_flag<'a>(
+    alloc: Global,
+    command: Command<'a>,
+    name: &'a str,
+    help: &'a str,
+) -> Result<Command<'a>, AllocError>
+    ensures { IfOk result (λ grown. app_of grown ≡ with_flag (app_of command.entry) name.entry.now) }
+{
+    let flag = Arg::new(alloc, name)
+        .long(name)
+        .action(ArgAction::SetTrue)
+        .help(help);
+    command.arg(flag)
 }

@@ -2,7 +2,7 @@ ghost use Rattle.std.specs.Prelude.{◌≡◌, ℕ};
 ghost use Rattle.nsq_base.specs.Options.{IsInRange};
 ghost use Rattle.nsq_base.specs.declared.options.Options.{Options};
 ghost use Rattle.nsqd_words.specs.Command.{HasOneAtMost, Words, refusal_of};
-ghost use Rattle.nsqd_words.specs.Plain.{HelpIsAsked, NothingIsFound, OneIsFound, TwiceIsRefused, VersionIsAsked};
+ghost use Rattle.nsqd_words.specs.Plain.{FlagIsFound, FlagValueIsRefused, HelpIsAsked, NothingIsFound, OneIsFound, SecondFlagIsRefused, TwiceIsRefused, VersionIsAsked, WordBehindFlagIsRefused};
 ghost use Rattle.nsqd_words.specs.Requests.{Asks, AsksDrill, AsksHelp, AsksVersion, IsUnknown, SaysOptions};
 ghost use Rattle.nsqd_words.specs.declared.request.Request.{Request};
 ghost use Rattle.nsqd_words.specs.declared.request.Request.TheVariants as request;
@@ -44,12 +44,17 @@ pub fn refusals_are_one()
     ensures { (words : Words) → HasOneAtMost (refusal_of words) }
 {}
 
-/// What plain words ask of clap: an option as one word says its value, twice it is refused, and `--help` and `--version` in
-/// front are asked for whatever follows. A law, with nothing to run.
+/// What plain words ask of clap: an option as one word says its value, and twice it is refused; the flag is found where it is
+/// given, and it is refused twice and with a value; and `--help` and `--version` in front are asked for whatever follows. A
+/// law, with nothing to run.
 pub fn plain_words_say_their_values()
     ensures nothing { NothingIsFound }
     ensures one { OneIsFound }
+    ensures flag { FlagIsFound }
     ensures twice { TwiceIsRefused }
+    ensures second_flag { SecondFlagIsRefused }
+    ensures flag_value { FlagValueIsRefused }
+    ensures word_behind_flag { WordBehindFlagIsRefused }
     ensures help { HelpIsAsked }
     ensures version { VersionIsAsked }
 {}

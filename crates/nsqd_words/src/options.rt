@@ -1,12 +1,14 @@
 ghost use Rattle.std.specs.Prelude.{◌≡◌, ◌^◌, IfOk, MatchOption};
 ghost use Rattle.clap.specs.Words.{found_of, rows_of};
 ghost use Rattle.nsq_base.specs.Options.{IsInRange, default_options};
+ghost use Rattle.nsqd_words.specs.Command.{is_from_words};
 ghost use Rattle.nsqd_words.specs.Numbers.{FindsBelow};
-ghost use Rattle.nsqd_words.specs.Parts.{FindsOptions, FindsSizes, FindsTimes, with_sizes, with_texts, with_times};
-ghost use Rattle.nsqd_words.specs.Saying.{SaysDuration, SaysNumber, SaysText, SaysTexts};
+ghost use Rattle.nsqd_words.specs.Parts.{FindsOptions, FindsSizes, FindsTimes, with_sizes, with_stop, with_texts, with_times};
+ghost use Rattle.nsqd_words.specs.Saying.{SaysDuration, SaysFlag, SaysNumber, SaysText, SaysTexts};
 
 use crate::{read_duration, read_number};
 use clap::ArgMatches;
+use clap::parser::ValueSource;
 use nsq_base::time::{HOUR, MINUTE, SECOND};
 use nsq_base::{Bodies, Body, Memory, Options};
 use std::alloc::Global;
@@ -55,12 +57,13 @@ pub(crate) fn read_options(
         return Ok(None);
     };
     let texts = read_texts(alloc, matches)?;
-    Ok(in_range(put_together(alloc, texts, sizes, times)))
+    let http_stop = flag(matches, "http-stop");
+    Ok(in_range(put_together(alloc, texts, sizes, times, http_stop)))
 }
 
 // Options of these parts.
-fn put_together(alloc: Global, texts: Texts, sizes: Sizes, times: Times) -> Options
-    ensures { result ≡ with_times (with_sizes (with_texts default_options texts) sizes) times }
+fn put_together(alloc: Global, texts: Texts, sizes: Sizes, times: Times, http_stop: bool) -> Options
+    ensures { result ≡ with_stop (with_times (with_sizes (with_texts default_options texts) sizes) times) http_stop }
 {
     Options {
         tcp_address: texts.tcp_address,
@@ -79,7 +82,7 @@ fn put_together(alloc: Global, texts: Texts, sizes: Sizes, times: Times) -> Opti
         max_req_timeout: times.max_req_timeout,
         max_rdy_count: sizes.max_rdy_count,
         max_heartbeat_interval: times.max_heartbeat_interval,
-        http_stop: false,
+        http_stop,
     }
 }
 
@@ -204,5 +207,22 @@ fn duration(matches: &ArgMatches<'_>, name: &str, default: u64) -> Option<u64>
     match matches.get_str(name) {
         Some(text) => read_duration(text.as_bytes()),
         None => Some(default),
+    }
+}
+
+// Whether the words give a flag.
+fn flag(matches: &ArgMatches<'_>, name: &str) -> bool
+    ensures { SaysFlag (rows_of (found_of matches.now)) name.now result }
+{
+    is_from_words(matches.value_source(name))
+}
+
+// Whether a value came from the words, and is no default.
+fn is_from_words(source: Option<ValueSource>) -> bool
+    ensures { result ≡ is_from_words source }
+{
+    match source {
+        Some(ValueSource::CommandLine) => true,
+        Some(ValueSource::DefaultValue) | None => false,
     }
 }

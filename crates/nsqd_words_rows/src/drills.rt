@@ -27,5 +27,7 @@ pub const WRONG: &str = "\
     nsqd drill --help => unknown\n\
     nsqd drill 7 10 --sync-every=5 => unknown\n\
     nsqd --sync-every=5 drill 7 10 => unknown\n\
+    nsqd drill 7 10 --http-stop => unknown\n\
+    nsqd --http-stop drill 7 10 => unknown\n\
     nsqd Drill 7 10 => unknown\n\
     drill 7 10 => unknown";

@@ -24,10 +24,38 @@ pub const REPEATED: &str = "\
     nsqd --msg-timeout=1m --msg-timeout=1m => unknown\n\
     nsqd --data-path=a --data-path=a => unknown";
 
+/// The flag.
+pub const FLAG: &str = "\
+    nsqd --http-stop => serve http-stop\n\
+    nsqd --http-stop --sync-every=3 => serve sync-every=3 http-stop\n\
+    nsqd --sync-every 3 --http-stop => serve sync-every=3 http-stop\n\
+    nsqd --sync-every 3 --http-stop --data-path d => serve data-path=d sync-every=3 http-stop\n\
+    nsqd --tcp-address=:1 --http-stop --http-address :2 => serve tcp-address=:1 http-address=:2 http-stop\n\
+    nsqd --http-stop -- => serve http-stop\n\
+    nsqd --data-path=--http-stop => serve data-path=--http-stop\n\
+    nsqd --sync-every=3 => serve sync-every=3\n\
+    nsqd --http-stop --help => help\n\
+    nsqd --http-stop --version => version\n\
+    nsqd --http-stop --sync-every=0 => unknown\n\
+    nsqd --http-stop --http-stop => unknown\n\
+    nsqd --http-stop --sync-every=3 --http-stop => unknown\n\
+    nsqd --http-stop=true => unknown\n\
+    nsqd --http-stop=false => unknown\n\
+    nsqd --http-stop= => unknown\n\
+    nsqd --http-stop true => unknown\n\
+    nsqd --http-stop false => unknown\n\
+    nsqd --http-stop  => unknown\n\
+    nsqd --http-stop --sync-every=3 false => unknown\n\
+    nsqd --data-path --http-stop => unknown\n\
+    nsqd -- --http-stop => unknown";
+
 /// Words that nothing is known of.
 pub const WRONG: &str = "\
-    nsqd --http-stop => unknown\n\
-    nsqd --http-stop=true => unknown\n\
+    nsqd --no-http-stop => unknown\n\
+    nsqd --http_stop => unknown\n\
+    nsqd --http-sto => unknown\n\
+    nsqd --Http-Stop => unknown\n\
+    nsqd http-stop => unknown\n\
     nsqd --lookupd-tcp-address=127.0.0.1:4160 => unknown\n\
     nsqd --lookupd-tcp-address 127.0.0.1:4160 => unknown\n\
     nsqd --unknown => unknown\n\

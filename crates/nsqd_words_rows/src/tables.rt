@@ -6,7 +6,7 @@ use nsq_base::Memory;
 use std::alloc::Global;
 
 // The tables.
-static TABLES: [&'static str; 14] = [
+static TABLES: [&'static str; 15] = [
     drills::RIGHT,
     drills::WRONG,
     numbers::SAID,
@@ -20,6 +20,7 @@ static TABLES: [&'static str; 14] = [
     texts::WRONG,
     others::RIGHT,
     others::REPEATED,
+    others::FLAG,
     others::WRONG,
 ];
 

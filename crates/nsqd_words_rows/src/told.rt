@@ -6,7 +6,7 @@ use nsqd_words::Request;
 use std::alloc::Global;
 
 /// A request as a text: `drill SEED COUNT`, `help`, `version`, `unknown`, or `serve` and behind it each option that isn't at
-/// its default, as `NAME=VALUE`, durations in nanoseconds.
+/// its default, as `NAME=VALUE`, durations in nanoseconds, and the flag as its name.
 pub fn told(alloc: Global, request: Request) -> Result<Vec<u8>, Memory> {
     match request {
         Request::Serve(options) => serve(alloc, &options),
@@ -28,9 +28,14 @@ fn drill(alloc: Global, seed: u64, count: u64) -> Result<Vec<u8>, Memory> {
     Ok(text)
 }
 
-// Help has to speak of each option.
+// Help has to speak of each option, and of the flag.
 fn help(alloc: Global, text: &str) -> Result<Vec<u8>, Memory> {
-    if text.contains("Usage: nsqd") && names_sizes(text) && names_times(text) && names_texts(text) {
+    if text.contains("Usage: nsqd")
+        && names_sizes(text)
+        && names_times(text)
+        && names_texts(text)
+        && text.contains("--http-stop")
+    {
         word(alloc, "help")
     } else {
         word(alloc, "another help")
@@ -182,11 +187,12 @@ fn append_times(text: &mut Vec<u8>, options: &Options, defaults: &Options) -> Re
     )
 }
 
-// What no word says yet.
+// The flag, and what no word says yet.
 fn append_rest(text: &mut Vec<u8>, options: &Options, defaults: &Options) -> Result<(), Memory> {
-    if options.lookupd_tcp_address != defaults.lookupd_tcp_address
-        || options.http_stop != defaults.http_stop
-    {
+    if options.http_stop {
+        text.extend_from_slice(b" http-stop")?;
+    }
+    if options.lookupd_tcp_address != defaults.lookupd_tcp_address {
         text.extend_from_slice(b" rest")?;
     }
     Ok(())

@@ -6,6 +6,7 @@ use Rattle.nsq_base.specs.declared.options.Options.{Options}
 use Rattle.nsq_outside.specs.declared.journal.End.{End}
 use Rattle.broker_history.specs.declared.entry.Entry.{Entry}
 use Rattle.broker_history.specs.Entries.{History, is_own, is_stop, own}
+use Rattle.broker_history.specs.Talk.{bytes_of}
 use Rattle.broker_history.proofs.Own.{own-append}
 use Rattle.http_exchange.specs.declared.ended.EndedHttp.{EndedHttp}
 use Rattle.http_exchange.specs.Exchange.{HasCause, IsExchange, IsExchangeIn, before_stop, is_listed}
@@ -52,3 +53,7 @@ exchange_stays o began k h es pieces out ended none x = record {
 -- an ending's cause, of a connection that had no fault before
 pub cause_from_0 : (ended : EndedHttp) (at_end : Bool) (r r' w w' : ℕ) → r ≡ 0 → w ≡ 0 → HasCause ended at_end r r' w w' → HasCause ended at_end 0 r' 0 w'
 cause_from_0 ended at_end r r' w w' no_r no_w c = subst (λ n. HasCause ended at_end 0 r' n w') no_w (subst (λ n. HasCause ended at_end n r' w w') no_r c)
+
+-- what was read and what is left of a connection that was new are the bytes that it had
+pub stream_whole : (pieces pieces' : List (List ℕ)) (left left' : List ℕ) → pieces ≡ [] → bytes_of pieces' ++ left' ≡ bytes_of pieces ++ left → bytes_of pieces' ++ left' ≡ left
+stream_whole pieces pieces' left left' none same = same ∙ ap (λ x. bytes_of x ++ left) none

@@ -1,6 +1,4 @@
-use Rattle.std.proofs.Common.{◌++◌, ◌∙◌, ap}
-use Rattle.broker_history.specs.Talk.{bytes_of}
-use Rattle.daemon_loop.proofs.Exchanges.{cause_from_0}
+use Rattle.daemon_loop.proofs.Exchanges.{cause_from_0, stream_whole}
 use Rattle.daemon_loop.proofs.exchanging.serve_http_caller.Goals as goal
 
 pub returns-clause-served : goal.returns-clause-served
@@ -10,5 +8,5 @@ returns-clause-served g c = λ pieces written tells fresh.
       ended = done.result;
       exchange = done.ensures.exchange pieces written tells fresh.nothing_read fresh.nothing_written;
       cause = cause_from_0 done.result _ _ _ _ _ fresh.no_read_fault fresh.no_write_fault done.ensures.cause;
-      stream = done.ensures.stream pieces ∙ ap (λ x. bytes_of x ++ g.K.Source.left c.args.conn.now) fresh.nothing_read;
+      stream = stream_whole _ (g.K.Source.pieces done.new.conn) (g.K.Source.left c.args.conn.now) (g.K.Source.left done.new.conn) fresh.nothing_read (done.ensures.stream pieces);
     }

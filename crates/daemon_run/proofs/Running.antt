@@ -160,11 +160,11 @@ module _ {K : Type 0} (Told : Type 0) (told : Told) (tells_host tells_notes tell
       r.changes files_told file not_names not_temp (λ name named its. none name named (own_file its))
       ∙ went.files files_told file not_names not_temp (λ name named its. none name named (own_file its)) ∙ o.files file not_names not_temp none
 
-  abbrev began : ℕ
-  began = moment_of old.coming 1
+  abbrev opened_at : ℕ
+  opened_at = moment_of old.coming 1
 
-  abbrev served : HasServed seen options began r.number new.notes old.content new.content
-  served = daemon_served seen options began r.number r.middle.notes new.notes daemons old.content new.content (r.rounds.served told) now_whole turns_daemons
+  abbrev served : HasServed seen options opened_at r.number new.notes old.content new.content
+  served = daemon_served seen options opened_at r.number r.middle.notes new.notes daemons old.content new.content (r.rounds.served told) now_whole turns_daemons
 
   count : length served.callers ≡ r.number
   count = served.count
@@ -172,7 +172,7 @@ module _ {K : Type 0} (Told : Type 0) (told : Told) (tells_host tells_notes tell
   up_to : UpTo (length served.callers) new.notes
   up_to = up_to_more r.number (length served.callers) 0 r.middle.notes new.notes daemons now_whole (omega (arith, count)) (omega arith) (r.rounds.up_to notes_told) turns_daemons
 
-  abbrev callers : ServesAll seen options began new.notes old.content new.content
+  abbrev callers : ServesAll seen options opened_at new.notes old.content new.content
   callers =
       let grown : ticks_of new.notes ≡ ticks_of r.middle.notes + ticks_of daemons = ap ticks_of now_whole ∙ ticks-append r.middle.notes daemons in
       let before = r.rounds.ticks notes_told in
@@ -182,8 +182,8 @@ module _ {K : Type 0} (Told : Type 0) (told : Told) (tells_host tells_notes tell
         came = served.came;
         given = served.given;
         returned = served.returned;
-        once = subst (λ ns. IsPermutation ns (one_to (length served.callers))) (sym (numbered seen options began new.notes served.callers served.back served.served)) (IsPermutation-refl (one_to (length served.callers)));
-        served = handed seen options began new.notes served.callers served.back served.served;
+        once = subst (λ ns. IsPermutation ns (one_to (length served.callers))) (sym (numbered seen options opened_at new.notes served.callers served.back served.served)) (IsPermutation-refl (one_to (length served.callers)));
+        served = handed seen options opened_at new.notes served.callers served.back served.served;
         no_other = up_to;
         ticks = omega (arith, count, grown, before);
       }
@@ -212,12 +212,12 @@ module _ {K : Type 0} (Told : Type 0) (told : Told) (tells_host tells_notes tell
         to = led.to;
         history = history;
         callers = callers;
-        in_turn = numbered seen options began new.notes served.callers served.back served.served;
+        in_turn = numbered seen options opened_at new.notes served.callers served.back served.served;
         faults = record { all = by_wider (faults_of new.notes) old.counts.folder opened.faults r.last.faults new.counts.folder o.faults r.later counted; at_stop = at_stop };
         stops = record {
           once = once;
           there = λ other. subst (λ h. has_stop h ≡ true) (sym r.same_notes) (r.noted (p.stop_noted other) notes_told);
-          caused = stops_caused seen options began new.notes served.callers served.back ended old.counts.accept new.counts.accept new.content served.served up_to daemon_cause;
+          caused = stops_caused seen options opened_at new.notes served.callers served.back ended old.counts.accept new.counts.accept new.content served.served up_to daemon_cause;
           clean = clean;
         };
         ends = served_ends r.looped r.stopped r.shutting ended r.ended_is (λ e. IsShut e ⊎ ((e ≡ end.StopFault) ⊎ (e ≡ end.Memory))) (inl (inl refl)) (inr (inl refl)) (inl (inr refl)) (inr (inr refl));

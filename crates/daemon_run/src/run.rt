@@ -103,7 +103,10 @@ fn work<R: Wait, H: Host<Entry>>(
     ensures listeners { IsTrue H.tells → result.0 ≡ AcceptFailed → ListenersFailedLast H.state H.content host.old host.new }
 {
     match open(alloc, kit, options) {
-        Ok(floor) => run(rt, alloc, options, host, floor),
+        Ok(floor) => {
+            let began = floor.began();
+            run(rt, alloc, options, began, host, floor)
+        }
         Err(refused) => {
             let Refused { why, kit } = refused;
             (refusal(why), kit)
@@ -111,11 +114,12 @@ fn work<R: Wait, H: Host<Entry>>(
     }
 }
 
-/// Serves the callers at an opened floor, stops it and shuts it.
+/// Serves the callers at an opened floor, stops it and shuts it. `began` is the moment of the opening, in nanoseconds.
 fn run<R: Wait, H: Host<Entry>>(
     rt: &R,
     alloc: Global,
     options: &Options,
+    began: u64,
     host: &mut H,
     floor: Floor<H::Folder, H::Clock, H::Journal>,
 ) -> (ServeEnd, Kit<H::Folder, H::Clock, H::Journal>)
@@ -123,7 +127,7 @@ fn run<R: Wait, H: Host<Entry>>(
     requires unflushed { floor.held.flushed ≡ false }
     requires empty { IsTrue H.Journal.tells_notes → H.Journal.notes floor.journal ≡ [] }
     ensures runs { RunsOn (AllTell H.tells H.Conn.tells_pieces H.Conn.tells_written H.Journal.tells_notes) H.tells H.Journal.tells_notes H.Folder.tells_files H.Clock.tells_readings
-        (views H.Conn.pieces H.Conn.left H.Conn.ended H.Conn.written H.Conn.read_faults H.Conn.write_faults) options.now floor.held.hall.began_at result.0 (H.state host.old).accept_faults (H.state host.new).accept_faults
+        (views H.Conn.pieces H.Conn.left H.Conn.ended H.Conn.written H.Conn.read_faults H.Conn.write_faults) options.now began result.0 (H.state host.old).accept_faults (H.state host.new).accept_faults
         (scene floor.held.hall (H.Journal.notes floor.journal) (H.Folder.files floor.folder) (H.Folder.folder_faults floor.folder) (H.Clock.coming floor.clock))
         (H.Folder.files result.1.folder) (H.Journal.notes result.1.journal) (H.Clock.coming result.1.clock) (H.Folder.folder_faults result.1.folder) (H.content host.old) (H.content host.new) }
     ensures rest { IsTrue H.tells → OnlyCallersChange (H.content host.old) (H.content host.new) }
@@ -131,7 +135,6 @@ fn run<R: Wait, H: Host<Entry>>(
     ensures listeners { IsTrue H.tells → result.0 ≡ AcceptFailed → ListenersFailedLast H.state H.content host.old host.new }
 {
     let mut floor = floor;
-    let began = floor.began();
     let looped = serve_callers(rt, alloc, options, began, host, &mut floor);
     let stopped = stop(alloc, &mut floor);
     let (shutting, kit) = shut(alloc, floor);

@@ -16,7 +16,7 @@ returns-in-Ok-clause-worked g c = λ told bytes.
     let new = sight g.H.Journal.Journal.notes g.H.Folder.Folder.files g.H.Clock.Clock.coming g.H.Folder.Folder.folder_faults c.run.result.1 (g.H.Host.state c.run.new.host) (g.H.Host.content c.run.new.host) in
     inr (has_run _ (record { host = told.host; pieces = told.pieces; written = told.written; notes = told.notes }) _ _ _ _ told.notes told.files told.readings _ c.args.options.now c.run.result.0 old new _
     (opened c.args.options.now old _ (c.in-Ok.ensures.finds told.files bytes) (c.in-Ok.ensures.stands told.files) hall.stuck (c.in-Ok.ensures.moment told.readings) (c.in-Ok.ensures.coming told.readings)
-    (ap g.H.Journal.Journal.notes c.in-Ok.ensures.journal ∙ c.requires.empty told.notes) c.in-Ok.ensures.faults (c.in-Ok.ensures.files told.files)) _ (hall.began_at ∙ c.in-Ok.ensures.moment told.readings) c.run.ensures.runs)
+    (ap g.H.Journal.Journal.notes c.in-Ok.ensures.journal ∙ c.requires.empty told.notes) c.in-Ok.ensures.faults (c.in-Ok.ensures.files told.files)) _ (c.began-began.ensures ∙ hall.began_at ∙ c.in-Ok.ensures.moment told.readings) c.run.ensures.runs)
 
 pub returns-in-Ok-clause-cause : goal.returns-in-Ok-clause-cause
 returns-in-Ok-clause-cause g c =

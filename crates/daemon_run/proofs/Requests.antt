@@ -30,10 +30,12 @@ use Rattle.daemon_loop.proofs.Others.{stops-append}
 
 -- ---- which request asks for a Stop
 
+-- whether a call stops
 abbrev stops_call : HttpCall → Bool
 stops_call call.Stops = true
 stops_call c = false
 
+-- what asks something doesn't stop
 asks_no_stop : (r : Result Ask Refusal) → stops_call (asks r) ≡ false
 asks_no_stop (Ok a) = refl
 asks_no_stop (Err e) = refl
@@ -41,7 +43,7 @@ asks_no_stop (Err e) = refl
 asked_away : {A : Type 0} (r : Result Ask Refusal) → stops_call (asks r) ≡ true → A
 asked_away r h = absurd (false≢true (sym (asks_no_stop r) ∙ h))
 
--- a call that stops has this path and this method, and is served where the options say so
+-- a call that stops has this path and this method, and is served where the options say so. In the order of the calls: two that are answered at once, those that ask, and the stop
 each_stop : (o : Options) (began : ℕ) (r : Request) → AllByRecursion (λ named. stops_call (called o began r named) ≡ true → (path_of named ≡ codes "/stop") × (method_of named ≡ codes "POST") × (is_served o named ≡ o.http_stop)) routes
 each_stop o began r = (λ h. absurd (false≢true h), (λ h. absurd (false≢true h), (λ h. asked_away _ h, (λ h. asked_away _ h, (λ h. asked_away _ h, (λ h. asked_away _ h, (λ h. asked_away _ h, (λ h. asked_away _ h, (λ h. asked_away _ h, (λ h. asked_away _ h, (λ h. asked_away _ h, (λ h. asked_away _ h, (λ h. asked_away _ h, (λ h. asked_away _ h, (λ h. asked_away _ h, (λ h. (refl, refl, refl), tt))))))))))))))))
 
@@ -55,6 +57,7 @@ module _ {X : Type 0} (test : X → Bool) (P : X → Type 0) where
   found_so [] x all h = cc
   found_so (y ∷ ys) x all h = found_here y x (find test ys) (test y) refl all.0 (found_so ys x all.1) h
 
+-- by cases on an option whose type has no name here
 option_cases : {X : Type 0} (P : Option X → Type 0) → P None → ((x : X) → P (Some x)) → (found : Option X) → P found
 option_cases P none some None = none
 option_cases P none some (Some x) = some x

@@ -1,0 +1,4 @@
+pub mod ListLemmas
+pub mod TurnLemmas
+pub mod ResponseLemmas
+pub mod WriteLemmas

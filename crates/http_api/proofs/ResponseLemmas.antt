@@ -1,5 +1,5 @@
 -- How a call is answered, by what was noted for it.
-use Rattle.std.proofs.Common.{◌≡◌, ◌⊎◌, ℕ, List, [], ◌∷◌, ◌++◌, refl, sym, ap, subst, ◌∙◌, inl, inr, Result, Ok, Err, IfOk, Option, Some}
+use Rattle.std.proofs.Common.{◌≡◌, ◌⊎◌, ℕ, List, [], ◌∷◌, ◌++◌, refl, sym, ap, subst, ◌∙◌, inl, inr, Result, Ok, Err, IfOk, Option, Some, IsErr, false, true}
 use Rattle.nsq_base.specs.declared.memory.Memory.{Memory as NoMemory}
 use Rattle.nsq_base.specs.declared.options.Options.{Options}
 use Rattle.nsq_outside.specs.declared.journal.End.{End}
@@ -26,6 +26,11 @@ module _ (began : ℕ) (c : HttpCall) (number : ℕ) (seen : History) where
   pub responds : (result : Result HttpAnswer NoMemory) (answer : HttpAnswer) → IfOk result (λ given. given ≡ answer) → AnswersCall began c (own number seen) answer → ListsBehindStop number seen → RespondsTo began c number seen result
   responds (Ok given) answer is answers lists = (subst (λ (x : HttpAnswer). AnswersCall began c (own number seen) x) (sym is) answers, lists)
   responds (Err e) answer is answers lists = (record { whole = own number seen; fits = inr (answer, answers); noted = inl refl }, lists)
+
+  -- memory was wanting
+  pub wants : (result : Result HttpAnswer NoMemory) → IsErr result → IsWanting began c (own number seen) × ListsBehindStop number seen → RespondsTo began c number seen result
+  wants (Ok given) is w = absurd (let e : false ≡ true = is in cc)
+  wants (Err e) is w = w
 
   -- memory was wanting before anything was noted
   pub wants_none : own number seen ≡ [] → IsWanting began c (own number seen) × ListsBehindStop number seen

@@ -34,7 +34,8 @@ pub(crate) fn respond<R: Wait, D: Desk>(
     ensures wanted { D.wanted desk.new ≡ D.wanted desk.old }
     ensures leads { D.leads desk.old desk.new }
 {
-    match call_of(alloc, options, began, request)? {
+    let call = call_of(alloc, options, began, request)?;
+    match call {
         HttpCall::Refused(refusal) => refusal.answer(alloc),
         HttpCall::Answered(answer) => Ok(answer),
         HttpCall::Asks(ask) => respond_to_ask(rt, alloc, number, desk, began, ask),
@@ -60,7 +61,8 @@ fn respond_to_ask<R: Wait, D: Desk>(
     ensures leads { D.leads desk.old desk.new }
 {
     let publish = publishes(&asked);
-    match ask(rt, alloc, number, desk, asked)? {
+    let answered = ask(rt, alloc, number, desk, asked)?;
+    match answered {
         Asked::Said(said) => answer_to(alloc, publish, began, &said),
         Asked::Stopping => Refusal::Stopping.answer(alloc),
     }

@@ -91,10 +91,10 @@ pub(crate) fn ask<R: Wait, D: Desk>(
 {
     match desk.turn(rt, alloc, number, Call::Ask(ask)) {
         Turned::Said(said) => Ok(Asked::Said(said)),
-        Turned::Stopping => match list_names(rt, alloc, number, desk) {
-            Ok(()) => Ok(Asked::Stopping),
-            Err(Memory) => Err(Memory),
-        },
+        Turned::Stopping => {
+            list_names(rt, alloc, number, desk)?;
+            Ok(Asked::Stopping)
+        }
         _ => Err(Memory),
     }
 }

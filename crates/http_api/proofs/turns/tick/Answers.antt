@@ -12,8 +12,8 @@ returns-then-not-is_stopping-clause-ticks g c = λ tells none. tick_same c.turn-
 pub returns-in-Ok-clause-ticks : goal.returns-in-Ok-clause-ticks
 returns-in-Ok-clause-ticks g c = λ tells none.
     let same = tick_same c.turn-turned.result (c.turn-turned.ensures.adds tells) ∙ none in
-    let some = stop_seen _ c.turn-turned.result (c.turn-turned.ensures.stopping tells) (sym c.is_stopping.ensures ∙ c.if-not-is_stopping.false) in
+    let some = stop_seen (g.D.Desk.seen c.turn-turned.new.self) c.turn-turned.result (c.turn-turned.ensures.stopping tells) (sym c.is_stopping.ensures ∙ c.if-not-is_stopping.false) in
     (one_listed same (c.in-Ok.ensures.listed tells), c.in-Ok.ensures.behind tells some (lists_none c.args.number _ same))
 
-pub returns-in-Err-clause-ticks : goal.returns-in-Err-clause-ticks
-returns-in-Err-clause-ticks g c = λ tells none. c.in-Err.ensures.listed tells ∙ tick_same c.turn-turned.result (c.turn-turned.ensures.adds tells) ∙ none
+pub returns-clause-ticks : goal.returns-clause-ticks
+returns-clause-ticks g c = λ tells none. c.in-Err.ensures.listed tells ∙ tick_same c.turn-turned.result (c.turn-turned.ensures.adds tells) ∙ none

@@ -4,6 +4,9 @@ ghost use Rattle.broker_history.specs.Entries.{own};
 ghost use Rattle.broker_history.specs.Talk.{bytes_of};
 ghost use Rattle.http_exchange.specs.Exchange.{HasCause, IsExchangeIn};
 
+use crate::asking::respond;
+use crate::reading::{Came, read_request};
+use crate::writing::{finish, give_up};
 use desk::Desk;
 use http_exchange::EndedHttp;
 use nsq_base::Options;
@@ -11,7 +14,20 @@ use nsq_outside::Conn;
 use std::alloc::Global;
 use std::sync::Wait;
 
-/// Serves one HTTP connection (RFC 9112; nsq.io, nsqd's HTTP API): it reads one request, answers it, and says how that ended.
+/// Serves one HTTP connection (RFC 9112; nsq.io, nsqd's HTTP API) of a daemon with these options that began at this moment, in
+/// nanoseconds, from its first byte to its end, and says how it ended. It has one request and its answer.
+///
+/// - Pieces of at most 16,384 bytes are read until they are a whole request, or no request. Where a read answers that nothing came, the
+///   desk makes a tick; where that answers that the daemon stops, the connection is closed.
+/// - A request that is refused or served by itself is answered at once. What it asks is asked at the desk, and answered by what is said,
+///   or by 503 `STOPPING` where the daemon stops. A stop is noted, and answered `OK`, also behind another.
+/// - Wherever the daemon stops the desk lists the names of topics and channels, so that the last entry of the connection is such a list
+///   behind the Stop.
+///
+/// Want of memory, wherever it comes, is answered by 503 `OUT_OF_MEMORY`, whole unless a write fails. It may come behind what was noted.
+///
+/// The number is the desk's, which noted nothing of its own before. Nothing is allocated but one buffer for what is read, the bytes that
+/// came, what the request and what is asked carry, and the answer.
 pub fn serve_http<R: Wait, K: Conn, D: Desk>(
     rt: &R,
     alloc: Global,
@@ -34,6 +50,13 @@ pub fn serve_http<R: Wait, K: Conn, D: Desk>(
     ensures wanted { D.wanted desk.new ≡ D.wanted desk.old }
     ensures leads { D.leads desk.old desk.new }
 {
-    for _ in rt.forever() {}
-    unreachable!()
+    match read_request(rt, alloc, number, conn, desk, options.max_body_size) {
+        Came::Whole(request) => {
+            let answer = respond(rt, alloc, number, desk, options, began, request);
+            finish(rt, alloc, conn, answer)
+        }
+        Came::Refused(refusal) => finish(rt, alloc, conn, refusal.answer(alloc)),
+        Came::Over(ended) => ended,
+        Came::Memory => give_up(rt, conn),
+    }
 }

@@ -1,0 +1,4 @@
+pub mod Written
+pub mod Noted
+pub mod Responses
+pub mod Comings

@@ -1,11 +1,11 @@
 -- What clauses see of the host that is the real machine. `F` and `D` are the types of the files and folders that its runtime opens.
-use Rattle.std.specs.Prelude.{ℕ, ◌≡◌, Bool, [], true, false, IsSome}
+use Rattle.std.specs.Prelude.{ℕ, ◌≡◌, Bool, [], false, IsSome}
+use Rattle.std.specs.Option.{option_map_or}
 use Rattle.broker_history.specs.declared.entry.Entry.{Entry}
 use Rattle.nsq_outside.specs.Hosts.{DialerContent, HostContent, HostState}
-use Rattle.nsq_system.specs.TcpDialers.{dial_faults_of as dial_faults_in}
 use Rattle.nsq_outside.specs.declared.faults.Faults.{Faults}
-use Rattle.nsq_outside.specs.declared.host.Accept.{Accept}
-use Rattle.nsq_outside.specs.declared.host.Accept.TheVariants.{Caller, Nothing, Halt, Failed}
+use Rattle.nsq_system.specs.Listeners.{has_http}
+use Rattle.nsq_system.specs.TcpDialers.{dial_faults_of as dial_faults_in}
 use Rattle.nsq_system.specs.declared.forgetful.Forgetful.{Forgetful}
 use Rattle.nsq_system.specs.declared.sys_clock.SysClock.{SysClock}
 use Rattle.nsq_system.specs.declared.tcp_conn.TcpConn.{TcpConn}
@@ -31,13 +31,6 @@ dial_faults_of host = dial_faults_in host.dialer
 abbrev pub IsAtHome : {F C J : Type 0} → HostState F C J → Type 0
 IsAtHome state = (IsSome state.kit) × (state.accept_faults ≡ 0) × (state.print_faults ≡ 0) × (state.tell_faults ≡ 0)
 
--- whether it gave its one caller
-abbrev pub has_called : {N F D : Type 0} → SysHost N F D → Bool
-has_called host = host.has_called
-
--- a caller comes only where none came before; nobody will call any more exactly where one came
-abbrev pub GivesOnce : {K : Type 0} → Bool → Bool → Accept K → Type 0
-GivesOnce before now (Caller kind conn) = (before ≡ false) × (now ≡ true)
-GivesOnce before now Nothing = (before ≡ false) × (now ≡ false)
-GivesOnce before now Halt = (before ≡ true) × (now ≡ true)
-GivesOnce before now Failed = (before ≡ false) × (now ≡ false)
+-- whether it listens for HTTP
+abbrev pub hears_http : {N F D : Type 0} → SysHost N F D → Bool
+hears_http host = option_map_or has_http host.listeners false

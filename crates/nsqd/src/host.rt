@@ -15,16 +15,14 @@ use std::sync::Wait;
 /// The real machine, as the daemon sees it: TCP connections, a folder on disk, the system's clock, a journal that forgets, and
 /// the standard streams. It tells no content, and counts its faults. `N` is the runtime.
 ///
-/// It listens at the address of the TCP protocol alone. HTTP, by which a daemon is stopped, isn't served yet: so it gives one
-/// caller, and answers `Halt` from then on.
+/// It listens at the address of the TCP protocol and at that of HTTP: what a caller speaks is told by the listener that it
+/// called. It never answers `Halt`, so a daemon over it serves until it is stopped.
 #[derive(Drop)]
 pub struct SysHost<N: Files + Clock> {
     rt: N,
     alloc: Global,
     dialer: TcpDialer<N>,
     listeners: Option<Listeners<N>>,
-    // Whether it gave its one caller.
-    has_called: bool,
     kit: Option<Kit<DirFolder<N>, SysClock<N>, Forgetful<Entry>>>,
     accept_faults: Faults,
     print_faults: Faults,
@@ -35,14 +33,13 @@ impl<N: Files + Clock + Net<Stream = TcpStream> + AllocGlobal + Clone + Drop> Sy
 where
     N::File: FileExt,
 {
-    ghost use Rattle.std.specs.Prelude.{false};
-    ghost use Rattle.nsqd.specs.SysHosts.{state_of, dial_faults_of, has_called, IsAtHome};
+    ghost use Rattle.std.specs.Prelude.{IsTrue, true};
+    ghost use Rattle.nsqd.specs.SysHosts.{state_of, dial_faults_of, hears_http, IsAtHome};
 
     /// A host that has its kit at home and doesn't listen yet. Its folder is the one that the process runs in, until `start`
     /// names another.
     pub fn new(rt: N, alloc: Global) -> Result<SysHost<N>, Memory>
         ensures state { IfOk result (λ host. IsAtHome (state_of host)) }
-        ensures callers { IfOk result (λ host. has_called host ≡ false) }
         ensures dial_faults { IfOk result (λ host. dial_faults_of host ≡ 0) }
     {
         let kit = Kit {
@@ -55,7 +52,6 @@ where
             rt,
             alloc,
             listeners: None,
-            has_called: false,
             kit: Some(kit),
             accept_faults: Faults::none(),
             print_faults: Faults::none(),
@@ -63,8 +59,9 @@ where
         })
     }
 
-    /// Opens the listener at its address, and moves the folder to its path. False where either can't be.
-    fn open(&mut self, tcp: &str, path: &str) -> bool
+    /// Opens the listeners at their addresses, and moves the folder to its path. False where any of it can't be.
+    fn open(&mut self, tcp: &str, http: &str, path: &str) -> bool
+        ensures http { IsTrue result → hears_http self.new ≡ true }
         ensures state { state_of self.new ≡ state_of self.old }
         ensures dial_faults { dial_faults_of self.new ≡ dial_faults_of self.old }
     {
@@ -72,7 +69,7 @@ where
         let Ok(rt) = rt else {
             return false;
         };
-        let Ok(listeners) = Listeners::open(rt, self.alloc, tcp, None) else {
+        let Ok(listeners) = Listeners::open(rt, self.alloc, tcp, Some(http)) else {
             return false;
         };
         if !self.move_folder(path) {
@@ -124,9 +121,9 @@ where
     ghost use Rattle.std.specs.Prelude.{refl, false, IsTrue, None, Some};
     ghost use Rattle.std.proofs.lemmas.Bool.{false≢true};
     ghost use Rattle.nsq_outside.specs.Hosts.{Accepts, AcceptFails, OnlyAcceptFaults};
-    ghost use Rattle.nsq_system.specs.Listeners.{IsFreshTcpCaller};
+    ghost use Rattle.nsq_system.specs.Listeners.{GoesOn, IsFreshTcpCaller, Speaks};
     ghost use Rattle.nsq_system.specs.TcpConns.{no_bytes};
-    ghost use Rattle.nsqd.specs.SysHosts.{no_content, state_of, no_dials, dial_faults_of, has_called, GivesOnce};
+    ghost use Rattle.nsqd.specs.SysHosts.{no_content, state_of, no_dials, dial_faults_of};
 
     type Folder = DirFolder<N>;
 
@@ -138,8 +135,8 @@ where
 
     ghost state = { state_of };
 
-    fn start<R: Wait>(&mut self, _rt: &R, tcp: &str, _http: &str, path: &str) -> Did {
-        if self.open(tcp, path) {
+    fn start<R: Wait>(&mut self, _rt: &R, tcp: &str, http: &str, path: &str) -> Did {
+        if self.open(tcp, http, path) {
             return Did::Done;
         }
         self.accept_faults.add();
@@ -147,7 +144,8 @@ where
     }
 
     fn accept<R: Wait>(&mut self, _rt: &R) -> Accept<TcpConn>
-        ensures once { GivesOnce (has_called self.old) (has_called self.new) result }
+        ensures goes_on { GoesOn result }
+        ensures speaks { Speaks result }
         ensures content { IsTrue false → Accepts no_bytes (no_content self.old) (no_content self.new) result }
         ensures fresh { IsFreshTcpCaller result }
         ensures state { OnlyAcceptFaults (state_of self.old) (state_of self.new) }
@@ -155,24 +153,20 @@ where
         ensures dials { no_dials self.new ≡ no_dials self.old }
         ensures dial_faults { dial_faults_of self.new ≡ dial_faults_of self.old }
     {
-        if self.has_called {
-            return Accept::Halt;
-        }
         let Some(listeners) = &mut self.listeners else {
             self.accept_faults.add();
             return Accept::Failed;
         };
         let accepted = listeners.accept();
         match &accepted {
-            Accept::Caller(_, _) => self.has_called = true,
             Accept::Failed => self.accept_faults.add(),
-            Accept::Nothing | Accept::Halt => {}
+            Accept::Caller(_, _) | Accept::Nothing | Accept::Halt => {}
         }
         accepted
     }
 
     fn done(&mut self, _number: u64, conn: TcpConn) {
-        // This sends what the connection has gathered.
+        // This sends what the connection has gathered, and closes it.
         drop(conn);
     }
 

@@ -1,4 +1,5 @@
-//! The message daemon. It takes what clients publish by the V2 protocol, and a clean stop leaves the messages in its folder.
+//! The message daemon. It serves clients of the V2 protocol and of HTTP, one after another, until a `POST /stop`, which
+//! `--http-stop` allows. A clean stop leaves the messages in its folder.
 #![tactic(auto)]
 
 mod host;

@@ -1,4 +1,4 @@
-//! The real host: its listener on the loopback network, its folder on disk, the standard streams; and a run of the daemon over it.
+//! The real host: its listeners on the loopback network, its folder on disk, the standard streams; and a run of the daemon over it.
 ghost use Rattle.std.specs.Prelude.{IfOk};
 ghost use Rattle.nsq_base.specs.Options.{IsInRange};
 
@@ -28,18 +28,23 @@ const IN_USE: &str = "nsqd_loopback_in_use";
 const ONE_TOPIC: &[u8] =
     br#"{"id_epoch":1,"topics":[{"channels":[],"name":"t","paused":false}],"version":"1.0.0"}"#;
 
+/// What the daemon answers to a stop.
+const STOPPED: &str =
+    "HTTP/1.1 200 OK\r\nContent-Type: text/plain; charset=utf-8\r\nContent-Length: 2\r\nConnection: close\r\n\r\nOK";
+
 /// The address of a listener at a port that the system chose.
 fn address_of(alloc: Global, listener: &TcpListener) -> Result<String, Fail> {
     Ok(format!(in alloc; "{}", listener.local_addr()?)?)
 }
 
-/// An address of this machine where nobody listens.
-fn free_address<N: Net<Listener = TcpListener, Stream = TcpStream>>(
+/// Two addresses of this machine where nobody listens.
+fn free_addresses<N: Net<Listener = TcpListener, Stream = TcpStream>>(
     rt: &N,
     alloc: Global,
-) -> Result<String, Fail> {
-    let listener = TcpListener::bind(rt, "127.0.0.1:0")?;
-    address_of(alloc, &listener)
+) -> Result<(String, String), Fail> {
+    let first = TcpListener::bind(rt, "127.0.0.1:0")?;
+    let second = TcpListener::bind(rt, "127.0.0.1:0")?;
+    Ok((address_of(alloc, &first)?, address_of(alloc, &second)?))
 }
 
 /// A new, empty folder of this name.
@@ -57,61 +62,88 @@ fn caller(accept: Accept<TcpConn>) -> Option<(Kind, TcpConn)> {
     }
 }
 
-/// Whether nobody will call any more.
-fn is_halt(accept: Accept<TcpConn>) -> bool {
+/// Whether nobody called yet.
+fn is_nothing(accept: Accept<TcpConn>) -> bool {
     match accept {
-        Accept::Halt => true,
-        Accept::Caller(_, _) | Accept::Nothing | Accept::Failed => false,
+        Accept::Nothing => true,
+        Accept::Caller(_, _) | Accept::Halt | Accept::Failed => false,
     }
 }
 
-/// Whether the host gives one caller, which is read and written, and no second one.
-fn gives_one_caller<R: Wait>(rt: &R, own: &HostRuntime) -> Result<bool, Fail> {
-    let alloc = own.alloc();
-    let address = free_address(own, alloc)?;
-    let mut host = SysHost::new(own.clone()?, alloc)?;
-    if host.start(rt, address.as_str(), "", ".") != Did::Done {
-        return Ok(false);
-    }
-    let mut client = TcpStream::connect(own, address.as_str())?;
-    client.write_all(b"  V2")?;
-    let mut called = None;
+/// The host's next caller, if one comes.
+fn next_caller<R: Wait>(rt: &R, host: &mut SysHost<HostRuntime>) -> Option<(Kind, TcpConn)> {
     for _ in 0..TRIES {
-        called = caller(host.accept(rt));
+        let called = caller(host.accept(rt));
         if called.is_some() {
-            break;
+            return called;
         }
     }
-    let (kind, mut conn) = called.ok_or("no caller")?;
+    None
+}
+
+/// A client that calls at an address, and sends its first bytes.
+fn call<N: Net<Stream = TcpStream>>(rt: &N, address: &str) -> io::Result<TcpStream> {
+    let mut client = TcpStream::connect(rt, address)?;
+    client.set_read_timeout(Some(Duration::from_secs(10)))?;
+    client.write_all(b"  V2")?;
+    Ok(client)
+}
+
+/// Whether a client that calls at an address is the next caller, of this kind, and gets what is written to it.
+fn meets<R: Wait>(
+    rt: &R,
+    own: &HostRuntime,
+    host: &mut SysHost<HostRuntime>,
+    address: &str,
+    kind: Kind,
+) -> Result<bool, Fail> {
+    let client = call(own, address)?;
+    let (speaks, mut conn) = next_caller(rt, host).ok_or("no caller")?;
     let mut buf = [0u8; 64];
-    let is_served = kind == Kind::Tcp
-        && is_halt(host.accept(rt))
+    let is_served = speaks == kind
         && conn.read(rt, &mut buf) == Read::Got(4)
         && buf.starts_with(b"  V2")
         && conn.write(rt, b"OK") == Write::Took(2);
     host.done(1, conn);
-    let answer = io::read_to_string(alloc, client)?;
-    Ok(is_served && answer.as_str() == "OK" && host.accept_faults.count == 0)
+    let answer = io::read_to_string(own.alloc(), client)?;
+    Ok(is_served && answer.as_str() == "OK")
 }
 
-/// Whether the host counts that an address is in use or is none, and that it doesn't listen.
+/// Whether the host gives each caller with the kind of the address that it called at, one after another, and waits for more.
+fn gives_callers<R: Wait>(rt: &R, own: &HostRuntime) -> Result<bool, Fail> {
+    let alloc = own.alloc();
+    let (tcp, http) = free_addresses(own, alloc)?;
+    let mut host = SysHost::new(own.clone()?, alloc)?;
+    let started = host.start(rt, tcp.as_str(), http.as_str(), ".");
+    Ok(
+        started == Did::Done
+            && meets(rt, own, &mut host, tcp.as_str(), Kind::Tcp)?
+            && meets(rt, own, &mut host, http.as_str(), Kind::Http)?
+            && meets(rt, own, &mut host, tcp.as_str(), Kind::Tcp)?
+            && is_nothing(host.accept(rt))
+            && host.accept_faults.count == 0,
+    )
+}
+
+/// Whether the host counts that either address is in use or is none, and that it doesn't listen.
 fn counts_faults<R: Wait>(rt: &R, own: &HostRuntime) -> Result<bool, Fail> {
     let alloc = own.alloc();
     let listener = TcpListener::bind(own, "127.0.0.1:0")?;
-    let address = address_of(alloc, &listener)?;
+    let in_use = address_of(alloc, &listener)?;
+    let (free, _) = free_addresses(own, alloc)?;
     let mut host = SysHost::new(own.clone()?, alloc)?;
-    let in_use = host.start(rt, address.as_str(), "", ".");
-    let in_use_faults = host.accept_faults.count;
-    let no_port = host.start(rt, "no port", "", ".");
-    let no_port_faults = host.accept_faults.count;
+    let tcp_in_use = host.start(rt, in_use.as_str(), free.as_str(), ".");
+    let http_in_use = host.start(rt, free.as_str(), in_use.as_str(), ".");
+    let no_port = host.start(rt, free.as_str(), "no port", ".");
+    let start_faults = host.accept_faults.count;
     let called = caller(host.accept(rt));
     Ok(
-        in_use == Did::Failed
-            && in_use_faults == 1
+        tcp_in_use == Did::Failed
+            && http_in_use == Did::Failed
             && no_port == Did::Failed
-            && no_port_faults == 2
+            && start_faults == 3
             && called.is_none()
-            && host.accept_faults.count == 3,
+            && host.accept_faults.count == 4,
     )
 }
 
@@ -119,9 +151,9 @@ fn counts_faults<R: Wait>(rt: &R, own: &HostRuntime) -> Result<bool, Fail> {
 fn keeps_its_kit<R: Wait>(rt: &R, own: &HostRuntime) -> Result<bool, Fail> {
     let alloc = own.alloc();
     new_folder(own, FILES)?;
-    let address = free_address(own, alloc)?;
+    let (tcp, http) = free_addresses(own, alloc)?;
     let mut host = SysHost::new(own.clone()?, alloc)?;
-    let started = host.start(rt, address.as_str(), "", FILES);
+    let started = host.start(rt, tcp.as_str(), http.as_str(), FILES);
     let mut home = host.lend();
     let cut = home.folder.cut("a", 3);
     host.restore(home);
@@ -141,13 +173,15 @@ fn keeps_its_kit<R: Wait>(rt: &R, own: &HostRuntime) -> Result<bool, Fail> {
     )
 }
 
-/// The default options but for the address and the folder.
-fn options_at(alloc: Global, address: &str, path: &str) -> Result<Options, Memory>
+/// The default options but for the addresses, the folder and the flag by which HTTP may stop the daemon.
+fn options_at(alloc: Global, tcp: &str, http: &str, path: &str) -> Result<Options, Memory>
     ensures { IfOk result IsInRange }
 {
     let mut options = Options::defaults(alloc)?;
-    options.tcp_address = Body::copy(alloc, address.as_bytes())?;
+    options.tcp_address = Body::copy(alloc, tcp.as_bytes())?;
+    options.http_address = Body::copy(alloc, http.as_bytes())?;
     options.data_path = Body::copy(alloc, path.as_bytes())?;
+    options.http_stop = true;
     if options.in_range() {
         Ok(options)
     } else {
@@ -176,15 +210,31 @@ fn publish<N: Net<Stream = TcpStream> + Clock>(rt: &N, address: &str) -> Option<
     None
 }
 
-/// Serves at this address with this folder, as the program does: the status, and the line that was told.
+/// Asks for a stop and reads the whole answer.
+fn stop<N: Net<Stream = TcpStream>>(rt: &N, alloc: Global, address: &str) -> io::Result<String> {
+    let mut stream = TcpStream::connect(rt, address)?;
+    stream.set_read_timeout(Some(Duration::from_secs(10)))?;
+    stream.write_all(b"POST /stop HTTP/1.1\r\n\r\n")?;
+    io::read_to_string(alloc, stream)
+}
+
+/// Publishes one message over TCP, and then asks for a stop over HTTP: what was answered. Nothing where that fails.
+fn publish_and_stop(rt: &HostRuntime, tcp: &str, http: &str) -> (Option<[u8; 10]>, Option<String>) {
+    let published = publish(rt, tcp);
+    let stopped = stop(rt, rt.alloc(), http).ok();
+    (published, stopped)
+}
+
+/// Serves at these addresses with this folder, as the program does: the status, and the line that was told.
 fn serve_at<R: Wait>(
     rt: &R,
     own: HostRuntime,
-    address: &str,
+    tcp: &str,
+    http: &str,
     path: &str,
 ) -> Result<(u8, Option<&'static [u8]>), Memory> {
     let alloc = own.alloc();
-    let options = options_at(alloc, address, path)?;
+    let options = options_at(alloc, tcp, http, path)?;
     let mut host = SysHost::new(own, alloc)?;
     let ending = Ending::Served(serve(rt, alloc, &options, &mut host));
     Ok((close(rt, &mut host, ending), line(ending)))
@@ -232,46 +282,48 @@ fn is_kept(rt: &HostRuntime, before: u64, after: u64) -> Result<bool, Fail> {
     )
 }
 
-/// Whether a daemon takes the publish of a real connection, and stops well behind it.
+/// Whether a daemon takes the publish of a real connection, answers the stop behind it and stops well.
 fn serves<R: Wait + Threads + Sync>(rt: &R, own: &HostRuntime) -> Result<bool, Fail> {
     let alloc = own.alloc();
     new_folder(own, PUBLISHED)?;
-    let address = free_address(own, alloc)?;
+    let (tcp, http) = free_addresses(own, alloc)?;
     let for_host = own.clone()?;
     let mut clock = SysClock::new(own.clone()?);
     let before = clock.now();
-    let (got, served) = join(
+    let ((published, stopped), served) = join(
         rt,
-        || publish(own, address.as_str()),
-        || serve_at(rt, for_host, address.as_str(), PUBLISHED),
+        || publish_and_stop(own, tcp.as_str(), http.as_str()),
+        || serve_at(rt, for_host, tcp.as_str(), http.as_str(), PUBLISHED),
     );
     Ok(
         served? == (0, None)
-            && got == Some(*b"\0\0\0\x06\0\0\0\0OK")
+            && published == Some(*b"\0\0\0\x06\0\0\0\0OK")
+            && stopped.ok_or("no answer")?.as_str() == STOPPED
             && is_kept(own, before, clock.now())?,
     )
 }
 
-/// Whether a daemon whose port is in use says so, and leaves its folder alone.
+/// Whether a daemon whose port for HTTP is in use says so, and leaves its folder alone.
 fn refuses_a_port<R: Wait>(rt: &R, own: &HostRuntime) -> Result<bool, Fail> {
     let alloc = own.alloc();
     new_folder(own, IN_USE)?;
     let listener = TcpListener::bind(own, "127.0.0.1:0")?;
-    let address = address_of(alloc, &listener)?;
-    let (status, line) = serve_at(rt, own.clone()?, address.as_str(), IN_USE)?;
+    let in_use = address_of(alloc, &listener)?;
+    let (free, _) = free_addresses(own, alloc)?;
+    let (status, line) = serve_at(rt, own.clone()?, free.as_str(), in_use.as_str(), IN_USE)?;
     fs::remove_dir(own, IN_USE)?;
     Ok(status == 4 && line == Some(b"nsqd: accept failed".as_slice()))
 }
 
 #[test]
 fn the_real_machine(rt: HostRuntime) -> Result<(), Fail> {
-    assert!(rt; gives_one_caller(&rt, &rt)?, "one caller");
+    assert!(rt; gives_callers(&rt, &rt)?, "callers at both addresses");
     assert!(rt; counts_faults(&rt, &rt)?, "an address in use");
     assert!(rt;
         keeps_its_kit(&rt, &rt)?,
         "the kit and the standard streams"
     );
-    assert!(rt; serves(&rt, &rt)?, "a real connection");
+    assert!(rt; serves(&rt, &rt)?, "real connections");
     assert!(rt; refuses_a_port(&rt, &rt)?, "a port in use");
     Ok(())
 }

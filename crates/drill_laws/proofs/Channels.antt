@@ -1,10 +1,10 @@
 -- How many messages each row leaves in a channel that is kept on disk.
-use Rattle.std.proofs.Common.{◌≡◌, ℕ, ◌+◌, ◌==◌, Bool, true, false, ◌||◌, if◌then◌else◌, List, [], ◌∷◌, ◌++◌, length, map, refl, sym, ap, ◌∙◌, arith}
+use Rattle.std.proofs.Common.{◌≡◌, ℕ, ◌+◌, ◌==◌, Bool, true, false, if◌then◌else◌, List, [], ◌∷◌, ◌++◌, length, refl, ap, ◌∙◌, arith}
 use Rattle.std.specs.List.{count_by, filter}
 use Rattle.std.proofs.lemmas.List.{length-map}
 use Rattle.std.proofs.lemmas.List.Sums.{length-filter}
 use Rattle.v2_frame.specs.declared.message.Message.{Message}
-use Rattle.broker_history.specs.State.{Place, InFlight, Deferred, Copy, Channel, is_live, queued}
+use Rattle.broker_history.specs.State.{Place, Deferred, Copy, Channel, is_live, queued}
 use Rattle.broker_history.specs.Channels.{put_back, put_off, copy_at, one, IsSent, IsFinished, IsTouched, IsGivenBack, IsTimedOut, IsCameDue, IsHeldBack, Moves, Joins, Room, back_in, joins_at, Sends, Finishes, Touches, GivesBack, TimesOut, ComesDue, HoldsBack, Gets}
 use Rattle.broker_history.specs.Left.{left_in_channel}
 use Rattle.broker_history.proofs.Counting.{count-cons, count-append}

@@ -1,3 +1,6 @@
 pub mod Sums
 pub mod Channels
 pub mod Topics
+pub mod States
+pub mod Acts
+pub mod Conserved

@@ -1,10 +1,8 @@
 -- Sums over lists in byte order of their keys, in which one item is put.
-use Rattle.std.proofs.Common.{◌≡◌, ℕ, suc, ◌+◌, ◌<◌, Bool, true, false, if◌then◌else◌, List, [], ◌∷◌, ◌++◌, get_or, length, Option, Some, None, refl, sym, ap, ◌∙◌, arith, Ordering, Less, Equal, Greater}
-use Rattle.std.specs.List.{All, AllPairs, filter, find, sum_by}
+use Rattle.std.proofs.Common.{◌≡◌, ℕ, suc, ◌+◌, Bool, true, false, if◌then◌else◌, List, [], ◌∷◌, get_or, Option, Some, None, refl, ap, ◌∙◌, arith, Ordering, Less, Equal, Greater}
+use Rattle.std.specs.List.{All, filter, find, sum_by}
 use Rattle.std.specs.Ordering.{is_lt}
 use Rattle.std.specs.Str.{bytes_eq}
-use Rattle.std.proofs.lemmas.Bool.{false≢true}
-use Rattle.std.proofs.lemmas.List.Elements.{All-head, All-tail, All-weaker}
 use Rattle.std.proofs.lemmas.List.Sums.{sum_by-append, sum_by-cons}
 use Rattle.nsq_base.specs.Names.{byte_order, is_before, IsAscendingBy, put_by}
 use Rattle.nsq_base.proofs.PutBy.{byte_order-flip, filter_none, Less-from_before, other_from_order, same_from_tie}

@@ -1,5 +1,5 @@
 -- How many messages the changes of a topic leave in it, where it is kept on disk and has one channel at most.
-use Rattle.std.proofs.Common.{◌≡◌, ◌⊎◌, inl, inr, ℕ, ◌+◌, Bool, true, false, not, ◌&&◌, ◌||◌, if◌then◌else◌, List, [], ◌∷◌, ◌++◌, length, map, Option, Some, None, refl, sym, ap, subst, ◌∙◌, arith, length-append, Ordering, Less, Equal, Greater}
+use Rattle.std.proofs.Common.{◌≡◌, inl, inr, ℕ, ◌+◌, Bool, true, false, not, ◌&&◌, ◌||◌, if◌then◌else◌, List, [], ◌∷◌, ◌++◌, length, map, Option, Some, None, refl, sym, ap, subst, ◌∙◌, arith, length-append, Ordering, Less, Equal, Greater}
 use Rattle.std.specs.Prelude.{unwrap_or, is_none}
 use Rattle.std.specs.Ordering.{is_lt, ordering_reverse}
 use Rattle.std.proofs.lemmas.List.{length-map}
@@ -14,9 +14,9 @@ use Rattle.v2_frame.specs.declared.message.Message.{Message}
 use Rattle.broker_history.specs.State.{Channel, Taken, Topic, Waiting, channel_names, channel_of, channel_or_new, is_empty, is_ephemeral_channel, new_channel, new_topic, with_channel}
 use Rattle.broker_history.specs.Channels.{Gets, Joins, Room}
 use Rattle.broker_history.specs.Changes.{InChannel, channel_changed, channel_changed_in}
-use Rattle.broker_history.specs.Left.{left_in_channel, left_in_topic, taken_message}
+use Rattle.broker_history.specs.Left.{left_in_channel, taken_message}
 use Rattle.broker_history.specs.Step.{Copies}
-use Rattle.broker_history.specs.Topics.{Pays, Takes, is_full, is_owed, owed_no_more, published_message, put_bodies, put_message, still_owed, takes, with_waiting, without_name}
+use Rattle.broker_history.specs.Topics.{Pays, Takes, is_full, is_owed, owed_no_more, published_message, put_bodies, put_message, still_owed, with_waiting, without_name}
 use Rattle.broker_history.proofs.Lists.{exact_bytes, find_passes, same_bytes}
 use Rattle.drill_laws.specs.Conserving.{HasOne, HasOnly, IsDurable, IsOnly}
 use Rattle.drill_laws.specs.Counts.{left_with}
@@ -94,7 +94,7 @@ module _ (only : List ℕ → List ℕ) where
     pub is : from.name ≡ only t.name
     pub stays : IsDurable from.name
 
-  found_in : (t : Topic) (name : List ℕ) (from : Channel) → channel_of t name ≡ Some from → HasOnly (only t.name) t.channels → Found t name from
+  pub found_in : (t : Topic) (name : List ℕ) (from : Channel) → channel_of t name ≡ Some from → HasOnly (only t.name) t.channels → Found t name from
   found_in t name from e (inl none) = none_some from (sym (ap (λ ks. find (λ (c : Channel). bytes_eq name c.name) ks) none) ∙ e)
   found_in t name from e (inr one) =
       let found : (if bytes_eq name one.0.name then Some one.0 else None) ≡ Some from = sym (ap (λ ks. find (λ (c : Channel). bytes_eq name c.name) ks) one.1) ∙ e in

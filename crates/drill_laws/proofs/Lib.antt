@@ -4,3 +4,4 @@ pub mod Topics
 pub mod States
 pub mod Acts
 pub mod Conserved
+pub mod Talking

@@ -1,10 +1,19 @@
 //! The laws: each function's contract is one, and its body is empty.
 
 ghost use Rattle.drill_laws.specs.Conserving.{MessagesAreConserved, OnesStay};
+ghost use Rattle.drill_laws.specs.Talking.{CallersGiveTheirCommands, ConversationsTalk, FinishedCallersGiveAll};
 
 /// Where nothing is deleted or emptied, all names are durable and each topic has one channel at most, no message is lost or doubled: those that are left and
 /// those that were finished are those that were left before and those that were published.
 pub fn conservation()
     ensures sum { MessagesAreConserved }
     ensures ones { OnesStay }
+{}
+
+/// The entries of a conversation are those of its commands, and what is sent and told between. Of a caller that sends commands in their canonical spelling the
+/// first ones are taken, and all where it comes to the end of its bytes.
+pub fn callers()
+    ensures talking { ConversationsTalk }
+    ensures in_order { CallersGiveTheirCommands }
+    ensures all { FinishedCallersGiveAll }
 {}

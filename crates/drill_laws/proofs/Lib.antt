@@ -5,3 +5,4 @@ pub mod States
 pub mod Acts
 pub mod Conserved
 pub mod Talking
+pub mod Replying

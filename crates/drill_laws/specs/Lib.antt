@@ -1,3 +1,4 @@
 pub mod Counts
 pub mod Conserving
 pub mod Talking
+pub mod Replying

@@ -1,6 +1,7 @@
 //! The laws: each function's contract is one, and its body is empty.
 
 ghost use Rattle.drill_laws.specs.Conserving.{MessagesAreConserved, OnesStay};
+ghost use Rattle.drill_laws.specs.Replying.{CommandsAreReplied};
 ghost use Rattle.drill_laws.specs.Talking.{CallersGiveTheirCommands, ConversationsTalk, FinishedCallersGiveAll};
 
 /// Where nothing is deleted or emptied, all names are durable and each topic has one channel at most, no message is lost or doubled: those that are left and
@@ -16,4 +17,9 @@ pub fn callers()
     ensures talking { ConversationsTalk }
     ensures in_order { CallersGiveTheirCommands }
     ensures all { FinishedCallersGiveAll }
+{}
+
+/// Each command of a history is replied to by the table, and a history uses no more ids than it was to publish messages.
+pub fn replies()
+    ensures { CommandsAreReplied }
 {}

@@ -6,3 +6,4 @@ pub mod Acts
 pub mod Conserved
 pub mod Talking
 pub mod Replying
+pub mod Staying

@@ -102,9 +102,9 @@ identity_same s at c None = refl
 identity_same s at c (Some i) = refl
 
 -- an act leaves the options, and uses so many ids at most
-record Uses (n : ℕ) (s t : State) : Type 0 where
-  options : t.options ≡ s.options
-  ids : t.ids_used ≤ s.ids_used + n
+pub record Uses (n : ℕ) (s t : State) : Type 0 where
+  pub options : t.options ≡ s.options
+  pub ids : t.ids_used ≤ s.ids_used + n
 
 uses_none : (n : ℕ) (s t : State) → Same s t → Uses n s t
 uses_none n s t same = let ids = ap (λ (x : Options × ℕ). x.1) same in record { options = ap (λ (x : Options × ℕ). x.0) same; ids = omega (arith, ids) }
@@ -199,7 +199,7 @@ step_uses s t e a =
     let same : t.ids_used ≡ a.between.ids_used = ap (λ (x : State). x.ids_used) a.is in
     record { options = ap (λ (x : State). x.options) a.is ∙ options; ids = omega (arith, ids, same) }
 
-history_uses : {s u : State} {h : History} → Legal s h u → Uses (tried h) s u
+pub history_uses : {s u : State} {h : History} → Legal s h u → Uses (tried h) s u
 history_uses {s = s} none = uses_none 0 s s refl
 history_uses {s = s} (more {t = t} {u = u} {h = h} {e = e} legal paid step) =
     let before = history_uses legal in

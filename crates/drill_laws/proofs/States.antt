@@ -124,24 +124,24 @@ module _ (only : List ℕ → List ℕ) where
       rw (a, b) refl
 
   deleted_same : (s : State) (topic channel : List ℕ) (t : Topic) (k : Option Channel) (b empty : Bool) → b ≡ (is_ephemeral_channel topic channel && empty) → HaveOnes only s.topics → topic_of s topic ≡ Some t → channel_of t channel ≡ k → (u : State)
-      → (if b then (if is_some k then u else s) else s).topics ≡ s.topics
+      → (if b then (if is_some k then u else s) else s) ≡ s
   deleted_same s topic channel t k false empty is ones e f u = refl
   deleted_same s topic channel t None true empty is ones e f u = refl
   deleted_same s topic channel t (Some k) true empty is ones e f u = absurd (false≢true (sym (kept_off s topic channel t k empty ones e f) ∙ sym is))
 
-  none_deleted : (s : State) (b : Bool) → (if b then s else s).topics ≡ s.topics
+  none_deleted : (s : State) (b : Bool) → (if b then s else s) ≡ s
   none_deleted s true = refl
   none_deleted s false = refl
 
   left_from : (s : State) (route : Route) (o : Option Topic) (empty : Bool) → HaveOnes only s.topics → topic_of s route.topic ≡ o
-      → (if is_ephemeral_channel route.topic route.channel && empty then deleted_in s route.channel o else s).topics ≡ s.topics
+      → (if is_ephemeral_channel route.topic route.channel && empty then deleted_in s route.channel o else s) ≡ s
   left_from s route None empty ones e = none_deleted s (is_ephemeral_channel route.topic route.channel && empty)
   left_from s route (Some t) empty ones e = deleted_same s route.topic route.channel t (channel_of t route.channel) (is_ephemeral_channel route.topic route.channel && empty) empty refl ones e refl _
 
-  left_same : (s : State) (route : Route) → HaveOnes only s.topics → (left_channel s route).topics ≡ s.topics
+  left_same : (s : State) (route : Route) → HaveOnes only s.topics → left_channel s route ≡ s
   left_same s route ones = left_from s route (topic_of s route.topic) (is_empty (clients_of s route.topic route.channel)) ones refl
 
-  left_by_same : (s : State) (phase : Phase) (route : Option Route) → HaveOnes only s.topics → (left_by s phase route).topics ≡ s.topics
+  pub left_by_same : (s : State) (phase : Phase) (route : Option Route) → HaveOnes only s.topics → left_by s phase route ≡ s
   left_by_same s phase None ones = refl
   left_by_same s Lost (Some route) ones = refl
   left_by_same s Fresh (Some route) ones = left_same s route ones
@@ -150,4 +150,4 @@ module _ (only : List ℕ → List ℕ) where
 
   pub gone_same : (s : State) (number : ℕ) (c : Option Client) → HaveOnes only s.topics → (gone_client s number c).topics ≡ s.topics
   gone_same s number None ones = refl
-  gone_same s number (Some c) ones = left_by_same (record s { clients = without_client s.clients number }) c.phase c.route ones
+  gone_same s number (Some c) ones = ap (λ (x : State). x.topics) (left_by_same (record s { clients = without_client s.clients number }) c.phase c.route ones)

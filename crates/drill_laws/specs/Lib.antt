@@ -2,3 +2,4 @@ pub mod Counts
 pub mod Conserving
 pub mod Talking
 pub mod Replying
+pub mod Staying

@@ -7,3 +7,4 @@ pub mod Conserved
 pub mod Talking
 pub mod Replying
 pub mod Staying
+pub mod Closing

@@ -1,9 +1,8 @@
 -- That no client is silent for too long, and none loses its channel.
-use Rattle.std.proofs.Common.{◌≡◌, ◌≢◌, ℕ, ◌+◌, ◌*◌, ◌<◌, ◌≤◌, Bool, true, false, if◌then◌else◌, List, [], ◌∷◌, ◌++◌, min, nat_le, nat_lt, not, Option, None, Some, option_map, unwrap_or, refl, sym, ap, subst, ◌∙◌, arith}
-use Rattle.std.specs.List.{All, AllByRecursion, filter, find}
+use Rattle.std.proofs.Common.{◌≡◌, ℕ, ◌+◌, ◌*◌, ◌<◌, Bool, true, false, if◌then◌else◌, List, [], ◌∷◌, ◌++◌, nat_lt, Option, None, Some, option_map, unwrap_or, refl, sym, ap, subst, ◌∙◌, arith}
+use Rattle.std.specs.List.{All, AllByRecursion}
 use Rattle.std.proofs.lemmas.Bool.{false≢true, leb-true}
 use Rattle.std.proofs.lemmas.List.Elements.{All-append, All-cons, All-filter, All-nil}
-use Rattle.nsq_base.specs.declared.options.Options.{Options}
 use Rattle.nsq_outside.specs.declared.journal.End.{End}
 use Rattle.nsq_outside.specs.declared.journal.End.TheVariants.{Done, Faulted, Skip}
 use Rattle.v2_frame.specs.declared.command.Command.{Command}
@@ -15,14 +14,14 @@ use Rattle.broker_history.specs.declared.ask.Said.{Said}
 use Rattle.broker_history.specs.declared.entry.Act.{Act}
 use Rattle.broker_history.specs.declared.entry.Act.TheVariants.{Began, Did, Refused, Sent, Beat, Idle, Silent, Dropped, Gone, Asked, Listed, Ticked, Stop, Took, Copied, TimedOut, CameDue, HeldBack, Stuck}
 use Rattle.broker_history.specs.declared.entry.Entry.{Entry}
-use Rattle.broker_history.specs.Changes.{AtTopic, at_client, changed_client, gone, gone_client, left_by, made, set_paused, topic_changed}
+use Rattle.broker_history.specs.Changes.{changed_client, gone_client, made, set_paused, topic_changed}
 use Rattle.broker_history.specs.Credit.{has_passed, is_silent}
 use Rattle.broker_history.specs.Entries.{History}
 use Rattle.broker_history.specs.Identify.{default_heartbeat}
 use Rattle.broker_history.specs.Legal.{Legal, more, none}
-use Rattle.broker_history.specs.State.{Channel, Client, Phase, State, Topic, client_of, is_lost, put_client, topic_of, with_client, without_client}
-use Rattle.broker_history.specs.Step.{AtOwn, CarriesOut, DoesAct, DoesCommand, DoesMove, DoesMoveTo, IfDone, IsAllowedAct, IsNotLost, OfClient, Step, asked_state, begun, broken_off, carried_out, is_done, is_kept_off, new_client, ready_for, spoke, subscribed}
-use Rattle.drill_laws.specs.Conserving.{HaveOnes, KeepAll, Keeps, KeepsAct, KeepsAsked}
+use Rattle.broker_history.specs.State.{Channel, Client, State, Topic, client_of, is_lost, put_client, topic_of, with_client, without_client}
+use Rattle.broker_history.specs.Step.{AtOwn, CarriesOut, DoesAct, DoesCommand, DoesMove, DoesMoveTo, IfDone, IsAllowedAct, IsNotLost, OfClient, asked_state, broken_off, carried_out, is_done, is_kept_off, new_client, spoke, subscribed}
+use Rattle.drill_laws.specs.Conserving.{HaveOnes, KeepAll, KeepsAct, KeepsAsked}
 use Rattle.drill_laws.specs.Staying.{IsCalm, NobodyIsClosed, SaysNoMore, StaysOpen}
 use Rattle.drill_laws.proofs.Conserved.{ones_stay}
 use Rattle.drill_laws.proofs.Replying.{history_uses}
@@ -225,9 +224,10 @@ module _ (only : List ℕ → List ℕ) (at : ℕ) (s : State) (ones : HaveOnes 
       let same : default_heartbeat t.options ≡ interval = ap default_heartbeat uses.options in
       let allowed : IsAllowedAct t at e.0.conn e.0.act e.1 = subst (λ n. IsAllowedAct t n e.0.conn e.0.act e.1) calm.now step.allowed in
       let does : DoesAct t at e.0.conn e.0.act e.1 step.between = subst (λ n. DoesAct t n e.0.conn e.0.act e.1 step.between) calm.now step.does in
-      let positive : 0 < interval = omega arith in
-      (all_push Open h e before.0 (act_open at interval t e.0.conn e.0.act e.1 positive before.1 allowed),
-      same_there at interval step.between u (ap (λ (x : State). x.clients) step.is) (act_there at interval only t step.between e.0.conn e.0.act e.1 topics same calm.keeps calm.plain before.1 does))
+      let positive : 0 < interval = omega arith in (
+        all_push Open h e before.0 (act_open at interval t e.0.conn e.0.act e.1 positive before.1 allowed),
+        same_there at interval step.between u (ap (λ (x : State). x.clients) step.is) (act_there at interval only t step.between e.0.conn e.0.act e.1 topics same calm.keeps calm.plain before.1 does),
+      )
 
 pub nobody_closed : NobodyIsClosed
 nobody_closed only at s u h ones nobody some all legal = let both = stays_open only at s ones nobody some all legal in both.0

@@ -1,8 +1,7 @@
 -- What the entries of a conversation are, and which commands it takes.
-use Rattle.std.proofs.Common.{◌≡◌, ◌⊎◌, inl, inr, ℕ, ◌+◌, ◌<◌, Bool, true, false, List, [], ◌∷◌, ◌++◌, length, refl, sym, ap, subst, ◌∙◌, arith, append_assoc, length-append, Option, Some, None, flat_map}
+use Rattle.std.proofs.Common.{◌≡◌, ◌⊎◌, inl, inr, ℕ, ◌<◌, Bool, true, List, [], ◌∷◌, ◌++◌, length, refl, sym, ap, subst, ◌∙◌, arith, append_assoc, length-append, Option, Some, flat_map}
 use Rattle.std.specs.List.{AllByRecursion}
 use Rattle.std.proofs.lemmas.List.{append-nil}
-use Rattle.nsq_outside.specs.declared.journal.End.{End}
 use Rattle.v2_frame.specs.declared.command.Command.{Command}
 use Rattle.v2_frame.specs.declared.fault.Limits.{Limits}
 use Rattle.v2_frame.specs.declared.fault.Rest.TheVariants.{Unfinished}
@@ -15,13 +14,12 @@ use Rattle.v2_frame.proofs.LineLemmas.{append_split}
 use Rattle.v2_frame.proofs.ScriptLemmas.{row_more}
 use Rattle.v2_frame.proofs.VerdictLemmas.{begins_judged, begins_unique, judged_unique}
 use Rattle.broker_history.specs.declared.entry.Act.{Act}
-use Rattle.broker_history.specs.declared.entry.Act.TheVariants.{Began, Did, Refused, Sent, Beat, Idle, Silent, Dropped, Gone, Asked, Listed, Ticked, Stop, Took, Copied, TimedOut, CameDue, HeldBack, Stuck}
+use Rattle.broker_history.specs.declared.entry.Act.TheVariants.{Began, Did, Refused, Sent, Beat, Idle, Silent, Dropped, Gone, Stuck}
 use Rattle.broker_history.specs.declared.ended.Ended.{Ended}
 use Rattle.broker_history.specs.declared.ended.Ended.TheVariants.{EndOfInput, Closed, ReadFault, WriteFault, Memory}
-use Rattle.broker_history.specs.declared.entry.Entry.{Entry}
 use Rattle.broker_history.specs.Entries.{History}
 use Rattle.broker_history.specs.Scripts.{StandAtFront, no_commands, in_row}
-use Rattle.broker_history.specs.Talk.{Round, Sending, Reading, Doing, Going, began, sent, rested, spent, nothing, read, greet, did, done, IsSending, IsRest, IsDid, ClosesBy, ClosesSending, ClosesDoing, IsOpen, IsWaiting, IsClosed, WithGone, Reaches, Leaves, Finishes, NeverBegins, IsTalk, bytes_of, command_in, commands_of}
+use Rattle.broker_history.specs.Talk.{Round, Sending, Reading, Doing, Going, began, sent, rested, spent, nothing, read, greet, did, done, IsSending, IsRest, ClosesBy, ClosesSending, ClosesDoing, IsOpen, IsWaiting, IsClosed, WithGone, Reaches, Leaves, bytes_of, commands_of}
 use Rattle.broker_history.proofs.Scripting.{talk_at_front, talk_script}
 use Rattle.drill_laws.specs.Talking.{CallersGiveTheirCommands, ConversationsTalk, FinishedCallersGiveAll, IsTalking, Spell, Talks}
 
@@ -114,7 +112,7 @@ talk_talks limits stopped wanted pieces own out ended (inl t) = left_talks ended
 talk_talks limits stopped wanted pieces own out ended (inr n) = subst (λ x. AllByRecursion Talks x) (sym n.no_own) tt
 
 -- canonical spellings in a row begin with the first of them
-begins_first : (limits : Limits) (c : Command) (rest : List ℕ) → IsWritable limits c → Begins limits (canonical c ++ rest) c rest
+pub begins_first : (limits : Limits) (c : Command) (rest : List ℕ) → IsWritable limits c → Begins limits (canonical c ++ rest) c rest
 begins_first limits c rest w = record { front = canonical c; whole = refl; spells = canonical_spells limits c w }
 
 -- no command stands in no bytes
@@ -146,7 +144,7 @@ row_front limits (c ∷ cs) (more {rest = rest} {left = left} {command = d} {com
 pub behind_magic : (a b : List ℕ) → magic ++ a ≡ magic ++ b → a ≡ b
 behind_magic a b e = (append_split magic magic a b refl e).1
 
-after_magic : (bytes left after all : List ℕ) → bytes ++ left ≡ magic ++ all → bytes ≡ magic ++ after → after ++ left ≡ all
+pub after_magic : (bytes left after all : List ℕ) → bytes ++ left ≡ magic ++ all → bytes ≡ magic ++ after → after ++ left ≡ all
 after_magic bytes left after all e f = behind_magic (after ++ left) all (sym (append_assoc magic after left) ∙ ap (λ x. x ++ left) (sym f) ∙ e)
 
 from_front : (limits : Limits) (bytes : List ℕ) (taken commands : List Command) (left : List ℕ) → StandAtFront limits bytes taken → Spell limits commands bytes left → (behind : List Command) × (commands ≡ taken ++ behind)

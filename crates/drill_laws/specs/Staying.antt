@@ -16,7 +16,6 @@ use Rattle.broker_history.specs.State.{State}
 use Rattle.broker_history.specs.Talk.{IsTalk, bytes_of}
 use Rattle.drill_laws.specs.Conserving.{HaveOnes, Keeps}
 use Rattle.drill_laws.specs.Talking.{Spell}
-use Rattle.v2_frame.specs.declared.frame.Frame.{Frame}
 
 -- no client says anything of itself
 abbrev pub SaysNoMore : Act → Type 0

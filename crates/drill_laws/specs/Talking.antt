@@ -1,5 +1,5 @@
 -- What conversations give: their entries, and the commands of a caller whose bytes spell them.
-use Rattle.std.specs.Prelude.{◌≡◌, ℕ, Bool, List, [], ◌++◌, flat_map, None, Some}
+use Rattle.std.specs.Prelude.{◌≡◌, ℕ, Bool, List, [], ◌++◌, flat_map, Some}
 use Rattle.std.specs.List.{AllByRecursion}
 use Rattle.nsq_outside.specs.declared.journal.End.{End}
 use Rattle.v2_frame.specs.declared.command.Command.{Command}

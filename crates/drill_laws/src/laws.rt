@@ -2,6 +2,7 @@
 
 ghost use Rattle.drill_laws.specs.Conserving.{MessagesAreConserved, OnesStay};
 ghost use Rattle.drill_laws.specs.Replying.{CommandsAreReplied};
+ghost use Rattle.drill_laws.specs.Staying.{ClosedByStop, NobodyIsClosed};
 ghost use Rattle.drill_laws.specs.Talking.{CallersGiveTheirCommands, ConversationsTalk, FinishedCallersGiveAll};
 
 /// Where nothing is deleted or emptied, all names are durable and each topic has one channel at most, no message is lost or doubled: those that are left and
@@ -22,4 +23,11 @@ pub fn callers()
 /// Each command of a history is replied to by the table, and a history uses no more ids than it was to publish messages.
 pub fn replies()
     ensures { CommandsAreReplied }
+{}
+
+/// Where no time passes and nothing is deleted, no client is closed for its silence or for want of its channel. A caller that sends commands, of which none is
+/// answered with what closes, is then closed by a Stop alone.
+pub fn closings()
+    ensures nobody { NobodyIsClosed }
+    ensures stop { ClosedByStop }
 {}

@@ -23,12 +23,12 @@ use Rattle.broker_history.specs.Reply.{has_in_flight, reply_by, reply_to}
 use Rattle.broker_history.specs.State.{Channel, Client, Closing, Fresh, Lost, Phase, Route, State, Subscribed, Topic, channel_of, client_of, clients_of, is_empty, is_ephemeral_channel, topic_of, with_topic, without_client}
 use Rattle.broker_history.specs.Step.{AtOwn, CarriesOut, DoesAct, DoesCommand, DoesMove, DoesMoveTo, IsAllowedAct, IsNotLost, MayDo, OfClient, Step, asked_state, broken_off, carried_out, is_done, is_kept_off, with_identity}
 use Rattle.drill_laws.specs.Counts.{messages_asked, messages_in}
-use Rattle.drill_laws.specs.Replying.{CommandsAreReplied, HasReply, IsReplied, tried, tried_as}
+use Rattle.drill_laws.specs.Replying.{CommandsAreReplied, HasReply, IsReplied, RunsStay, tried, tried_as}
 use Rattle.drill_laws.proofs.Talking.{all_push}
 
--- what no act changes but a publish
-abbrev fixed : State → Options × ℕ
-fixed s = (s.options, s.ids_used)
+-- what no act changes, but that a publish uses ids
+abbrev fixed : State → Options × ℕ × ℕ
+fixed s = (s.options, s.epoch, s.ids_used)
 
 abbrev Same : State → State → Type 0
 Same s t = fixed t ≡ fixed s
@@ -101,23 +101,24 @@ identity_same : (s : State) (at : ℕ) (c : Client) (i : Option Identity) → Sa
 identity_same s at c None = refl
 identity_same s at c (Some i) = refl
 
--- an act leaves the options, and uses so many ids at most
+-- an act leaves the options and the epoch, and uses so many ids at most
 pub record Uses (n : ℕ) (s t : State) : Type 0 where
   pub options : t.options ≡ s.options
+  pub epoch : t.epoch ≡ s.epoch
   pub ids : t.ids_used ≤ s.ids_used + n
 
 uses_none : (n : ℕ) (s t : State) → Same s t → Uses n s t
-uses_none n s t same = let ids = ap (λ (x : Options × ℕ). x.1) same in record { options = ap (λ (x : Options × ℕ). x.0) same; ids = omega (arith, ids) }
+uses_none n s t same = let ids = ap (λ (x : Options × ℕ × ℕ). x.2) same in record { options = ap (λ (x : Options × ℕ × ℕ). x.0) same; epoch = ap (λ (x : Options × ℕ × ℕ). x.1) same; ids = omega (arith, ids) }
 
-uses_so : (n : ℕ) (s t : State) → t.options ≡ s.options → t.ids_used ≡ s.ids_used + n → Uses n s t
-uses_so n s t options ids = record { options = options; ids = omega (arith, ids) }
+uses_so : (n : ℕ) (s t : State) → t.options ≡ s.options → t.epoch ≡ s.epoch → t.ids_used ≡ s.ids_used + n → Uses n s t
+uses_so n s t options epoch ids = record { options = options; epoch = epoch; ids = omega (arith, ids) }
 
 carries_uses : (s t : State) (at : ℕ) (c : Client) (command : Command) → CarriesOut s at c command t → Uses (messages_in command) s t
 carries_uses s t at c (Identify body) d = uses_none 0 s t (is_same s (with_identity s at c (identity_of s.options body)) t d (identity_same s at c (identity_of s.options body)))
 carries_uses s t at c (Sub topic channel) d = uses_none 0 s t (ap fixed d)
-carries_uses s t at c (Pub topic body) d = uses_so 1 s t (ap (λ (x : State). x.options) d) (ap (λ (x : State). x.ids_used) d)
-carries_uses s t at c (Mpub topic bodies) d = uses_so (length bodies) s t (ap (λ (x : State). x.options) d) (ap (λ (x : State). x.ids_used) d)
-carries_uses s t at c (Dpub topic delay body) d = uses_so 1 s t (ap (λ (x : State). x.options) d) (ap (λ (x : State). x.ids_used) d)
+carries_uses s t at c (Pub topic body) d = uses_so 1 s t (ap (λ (x : State). x.options) d) (ap (λ (x : State). x.epoch) d) (ap (λ (x : State). x.ids_used) d)
+carries_uses s t at c (Mpub topic bodies) d = uses_so (length bodies) s t (ap (λ (x : State). x.options) d) (ap (λ (x : State). x.epoch) d) (ap (λ (x : State). x.ids_used) d)
+carries_uses s t at c (Dpub topic delay body) d = uses_so 1 s t (ap (λ (x : State). x.options) d) (ap (λ (x : State). x.epoch) d) (ap (λ (x : State). x.ids_used) d)
 carries_uses s t at c (Rdy count) d = uses_none 0 s t (ap fixed d)
 carries_uses s t at c (Fin id) d = uses_none 0 s t (own_same s t d)
 carries_uses s t at c (Req id delay) d = uses_none 0 s t (own_same s t d)
@@ -127,10 +128,10 @@ carries_uses s t at c Nop d = uses_none 0 s t (ap fixed d)
 
 command_uses : (s t : State) (at : ℕ) (c : Client) (command : Command) (refused : Bool) → DoesCommand s at c command refused t → Uses (messages_in command) s t
 command_uses s t at c command true d = uses_none (messages_in command) s t (ap fixed d)
-command_uses s t at c command false d = let u = carries_uses _ t at _ command d in record { options = u.options; ids = u.ids }
+command_uses s t at c command false d = let u = carries_uses _ t at _ command d in record { options = u.options; epoch = u.epoch; ids = u.ids }
 
 carried_uses : (s : State) (at : ℕ) (a : Ask) → Uses (messages_asked a) s (carried_out s at a)
-carried_uses s at (ask.Publish topic delay bodies) = uses_so (length bodies) s (carried_out s at (ask.Publish topic delay bodies)) refl refl
+carried_uses s at (ask.Publish topic delay bodies) = uses_so (length bodies) s (carried_out s at (ask.Publish topic delay bodies)) refl refl refl
 carried_uses s at (ask.Stats topic channel) = uses_none 0 s (carried_out s at (ask.Stats topic channel)) (refl)
 carried_uses s at (ask.Create topic channel) = uses_none 0 s (carried_out s at (ask.Create topic channel)) (made_same s topic channel)
 carried_uses s at (ask.Delete topic channel) = uses_none 0 s (carried_out s at (ask.Delete topic channel)) (deleted_same s topic channel)
@@ -195,9 +196,10 @@ step_uses : (s t : State) (e : Entry × End) → Step s e t → Uses (tried_as e
 step_uses s t e a =
     let u = act_uses s a.between e.0.at e.0.conn e.0.act e.1 a.does in
     let options = u.options in
+    let epoch = u.epoch in
     let ids = u.ids in
     let same : t.ids_used ≡ a.between.ids_used = ap (λ (x : State). x.ids_used) a.is in
-    record { options = ap (λ (x : State). x.options) a.is ∙ options; ids = omega (arith, ids, same) }
+    record { options = ap (λ (x : State). x.options) a.is ∙ options; epoch = ap (λ (x : State). x.epoch) a.is ∙ epoch; ids = omega (arith, ids, same) }
 
 pub history_uses : {s u : State} {h : History} → Legal s h u → Uses (tried h) s u
 history_uses {s = s} none = uses_none 0 s s refl
@@ -207,7 +209,7 @@ history_uses {s = s} (more {t = t} {u = u} {h = h} {e = e} legal paid step) =
     let a = before.ids in
     let b = last.ids in
     let sum = sum_by_push (λ (x : Entry × End). tried_as x.0.act) h e in
-    record { options = last.options ∙ before.options; ids = omega (arith, a, b, sum) }
+    record { options = last.options ∙ before.options; epoch = last.epoch ∙ before.epoch; ids = omega (arith, a, b, sum) }
 
 -- a reply stands where more ids may have been used
 wider : (o : Options) (n m : ℕ) (act : Act) (end : End) → n ≤ m → HasReply o n act end → HasReply o m act end
@@ -250,3 +252,6 @@ replied s u h legal = go legal
         let most : ℕ = s.ids_used + tried (h ++ e ∷ []) in
         all_push (λ (x : Entry × End). HasReply s.options most x.0.act x.1) h e (all_wider s.options (s.ids_used + tried h) most h (omega (arith, sum)) (go legal))
         (replies t s.options most e.0.conn uses.options (omega (arith, ids, sum)) e.0.at e.0.act e.1 step.allowed)
+
+pub stays : RunsStay
+stays s u h legal = let uses = history_uses legal in record { options = uses.options; epoch = uses.epoch }

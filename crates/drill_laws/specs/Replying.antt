@@ -41,3 +41,12 @@ HasReply o most act end = Unit {0}
 -- so is each command of a legal history: no more ids are used than were used before and messages were to be published
 abbrev pub CommandsAreReplied : Type 0
 CommandsAreReplied = (s u : State) (h : History) → Legal s h u → AllByRecursion (λ (e : Entry × End). HasReply s.options (s.ids_used + tried h) e.0.act e.1) h
+
+-- a run has its options and its epoch
+pub record Stays (s u : State) : Type 0 where
+  pub options : u.options ≡ s.options
+  pub epoch : u.epoch ≡ s.epoch
+
+-- along a legal history they don't change
+abbrev pub RunsStay : Type 0
+RunsStay = (s u : State) (h : History) → Legal s h u → Stays s u

@@ -1,7 +1,7 @@
 //! The laws: each function's contract is one, and its body is empty.
 
 ghost use Rattle.drill_laws.specs.Conserving.{MessagesAreConserved, OnesStay};
-ghost use Rattle.drill_laws.specs.Replying.{CommandsAreReplied};
+ghost use Rattle.drill_laws.specs.Replying.{CommandsAreReplied, RunsStay};
 ghost use Rattle.drill_laws.specs.Staying.{ClosedByStop, NobodyIsClosed};
 ghost use Rattle.drill_laws.specs.Talking.{CallersGiveTheirCommands, ConversationsTalk, FinishedCallersGiveAll};
 
@@ -20,9 +20,10 @@ pub fn callers()
     ensures all { FinishedCallersGiveAll }
 {}
 
-/// Each command of a history is replied to by the table, and a history uses no more ids than it was to publish messages.
+/// Each command of a history is replied to by the table, and a history uses no more ids than it was to publish messages. Options and epoch stay.
 pub fn replies()
-    ensures { CommandsAreReplied }
+    ensures commands { CommandsAreReplied }
+    ensures stay { RunsStay }
 {}
 
 /// Where no time passes and nothing is deleted, no client is closed for its silence or for want of its channel. A caller that sends commands, of which none is

@@ -8,3 +8,4 @@ pub mod Talking
 pub mod Replying
 pub mod Staying
 pub mod Closing
+pub mod Owning

@@ -2,8 +2,6 @@
 use Rattle.std.proofs.Common.{◌≡◌, inl, inr, ℕ, List, [], ◌∷◌, ◌++◌, Bool, true, false, Option, refl, sym, ◌∙◌, ap, subst, arith}
 use Rattle.std.specs.Prelude.{◌⊎◌}
 use Rattle.std.proofs.lemmas.Bool.{false≢true}
-use Rattle.nsq_outside.specs.declared.host.Kind.{Kind}
-use Rattle.nsq_outside.specs.declared.host.Kind.TheVariants.{Tcp, Http}
 use Rattle.nsq_outside.specs.declared.journal.End.{End}
 use Rattle.v2_frame.specs.declared.fault.Limits.{Limits}
 use Rattle.v2_frame.specs.declared.frame.Frame.{Frame}
@@ -19,7 +17,7 @@ use Rattle.desk.specs.declared.call.Call.TheVariants as call
 use Rattle.desk.specs.declared.turned.Turned.{Turned}
 use Rattle.desk.specs.declared.turned.Turned.TheVariants as turned
 use Rattle.daemon_loop.specs.Stops.{says_stopping, AddsStop}
-use Rattle.daemon_loop.specs.Served.{Views, IsServed}
+use Rattle.daemon_loop.specs.Served.{Views, IsServedTcp}
 use Rattle.daemon_loop.proofs.Others.{stops-append}
 
 one_none : (e : Entry × End) → is_stop e.0.act ≡ false → stops_of (e ∷ []) ≡ 0
@@ -98,10 +96,9 @@ talk_no_stop : (limits : Limits) (stopped : Bool) (wanted : ℕ) (pieces : List 
 talk_no_stop limits stopped wanted pieces own out e (inl t) = left_no_stop e wanted t.entries own t.leaves (reached_no_stop e limits stopped pieces t.entries t.reached)
 talk_no_stop limits stopped wanted pieces own out e (inr t) = ap stops_of t.no_own
 
--- a caller that was served has none
-pub served_no_stop : {K : Type 0} (seen : Views K) (limits : Limits) (h : History) (n : ℕ) (kind : Kind) (bytes : List ℕ) (conn : K) → IsServed seen limits h n kind bytes conn → stops_of (own n h) ≡ 0
-served_no_stop seen limits h n Tcp bytes conn s = talk_no_stop limits _ s.talks.wanted (seen.pieces conn) (own n h) (seen.written conn) s.ended s.talks.talk
-served_no_stop seen limits h n Http bytes conn s = ap stops_of s.no_entry
+-- a caller of the TCP protocol that was served has none
+pub served_no_stop : {K : Type 0} (seen : Views K) (limits : Limits) (h : History) (n : ℕ) (bytes : List ℕ) (conn : K) → IsServedTcp seen limits h n bytes conn → stops_of (own n h) ≡ 0
+served_no_stop seen limits h n bytes conn s = talk_no_stop limits _ s.talks.wanted (seen.pieces conn) (own n h) (seen.written conn) s.ended s.talks.talk
 
 -- what a turn for the Stop adds
 pub adds_stop : (own own' : History) (t : Turned) (b : Bool) → b ≡ says_stopping t → Adds 0 own own' call.Stop t → AddsStop own own' b

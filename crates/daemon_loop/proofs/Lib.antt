@@ -1,5 +1,6 @@
 pub mod Going
 pub mod Others
+pub mod Exchanges
 pub mod Handing
 pub mod Halting
 pub mod Rounding

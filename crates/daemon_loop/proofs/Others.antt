@@ -2,7 +2,6 @@
 use Rattle.std.proofs.Common.{◌≡◌, ◌≢◌, ◌≤◌, ◌<◌, inl, inr, ℕ, ◌+◌, ◌==◌, [], ◌∷◌, ◌++◌, Bool, true, false, length, refl, sym, ◌∙◌, ap, subst, arith, length-append, filter}
 use Rattle.std.specs.List.{AllByRecursion}
 use Rattle.std.proofs.lemmas.Bool.{false≢true, eq-eqb}
-use Rattle.std.proofs.lemmas.List.{nil_from_length}
 use Rattle.std.proofs.lemmas.List.Elements.{filter-append}
 use Rattle.std.proofs.lemmas.Grind.{common_steps}
 use Rattle.nsq_outside.specs.declared.journal.End.{End}
@@ -84,13 +83,6 @@ pub stops_own : (n : ℕ) (es : History) → AllByRecursion (IsOf n) es → stop
 stops_own n [] a = refl
 stops_own n (e ∷ es) a =
     stops-append (e ∷ []) es ∙ ap (λ x. x + stops_of es) (one_stops n e a.0) ∙ ap (λ x. stops_of (own n (e ∷ [])) + x) (stops_own n es a.1) ∙ sym (stops-append (own n (e ∷ [])) (own n es)) ∙ ap stops_of (sym (own-append n (e ∷ []) es))
-
--- where a number's own entries stay as they were, what came has none of them
-pub own_same : (n : ℕ) (h h' es : History) → h' ≡ h ++ es → own n h' ≡ own n h → own n es ≡ []
-own_same n h h' es whole same =
-    let both : own n h' ≡ own n h ++ own n es = ap (λ x. own n x) whole ∙ own-append n h es in
-    let size : length (own n h) ≡ length (own n h) + length (own n es) = ap length (sym same ∙ both) ∙ length-append (own n h) (own n es) in
-    nil_from_length (own n es) (omega (arith, size))
 
 -- ticks
 pub ticks-append : (h k : History) → ticks_of (h ++ k) ≡ ticks_of h + ticks_of k

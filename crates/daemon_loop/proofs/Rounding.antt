@@ -1,23 +1,19 @@
 -- Rounds of the loop over the callers, one step at a time.
-use Rattle.std.proofs.Common.{inl, inr, ℕ, ◌≡◌, ◌≤◌, ◌<◌, ◌+◌, ◌++◌, ◌∷◌, [], List, Bool, true, false, refl, sym, ◌∙◌, ap, subst, arith}
+use Rattle.std.proofs.Common.{inl, inr, ℕ, ◌≡◌, ◌≤◌, ◌+◌, ◌++◌, ◌∷◌, [], List, Bool, true, false, refl, sym, ◌∙◌, ap, subst, arith}
 use Rattle.std.specs.Prelude.{IsTrue}
-use Rattle.std.specs.List.{AllByRecursion}
 use Rattle.std.proofs.lemmas.Bool.{false≢true}
+use Rattle.nsq_base.specs.declared.options.Options.{Options}
 use Rattle.nsq_outside.specs.Causes.{Rose}
 use Rattle.nsq_outside.specs.Hosts.{HostContent, Accepts}
 use Rattle.nsq_outside.specs.declared.host.Kind.{Kind}
 use Rattle.nsq_outside.specs.declared.host.Accept.TheVariants.{Caller}
-use Rattle.nsq_outside.specs.declared.journal.End.{End}
-use Rattle.v2_frame.specs.declared.fault.Limits.{Limits}
-use Rattle.broker_history.specs.declared.entry.Entry.{Entry}
-use Rattle.broker_history.specs.Entries.{History, has_stop, is_common, is_stop, is_tick, own, stops_of}
+use Rattle.broker_history.specs.Entries.{History, is_common, is_tick, own}
 use Rattle.broker_history.proofs.Own.{own-append}
 use Rattle.desk.specs.Answers.{Adds, Answers, StopsSeen}
 use Rattle.desk.specs.declared.call.Call.TheVariants as call
 use Rattle.desk.specs.declared.turned.Turned.{Turned}
 use Rattle.desk.specs.declared.turned.Turned.TheVariants as turned
 use Rattle.turn_laws.specs.Laid.{AreActsFor, IsLaid}
-use Rattle.turn_laws.specs.Laws.{IsOf}
 use Rattle.turn_laws.proofs.Laying.{turns_of}
 use Rattle.floor_turns.specs.Scenes.{Scene}
 use Rattle.floor_turns.specs.Leads.{Leads}
@@ -29,9 +25,8 @@ use Rattle.daemon_loop.specs.Served.{HasServed, IsServed, OnlyCallersChange, UpT
 use Rattle.daemon_loop.specs.declared.ticking.Ticked.{Ticked}
 use Rattle.daemon_loop.specs.declared.ticking.Ticked.TheVariants as ticked
 use Rattle.daemon_loop.proofs.Going.{went_by, went_nowhere, went_then}
-use Rattle.daemon_loop.proofs.Others.{none_of, nothing_yet, one_tick, own_same, stops-append, stops_own, ticks-append, up_to_more}
+use Rattle.daemon_loop.proofs.Others.{none_of, nothing_yet, one_tick, ticks-append, up_to_more}
 use Rattle.daemon_loop.proofs.Handing.{at_first, caller_changes, daemon_served, next_served, still_served}
-use Rattle.daemon_loop.proofs.Halting.{served_no_stop}
 
 pub rose_wider : (a0 a a' a2 : ℕ) → a0 ≤ a → a' ≤ a2 → Rose a a' → Rose a0 a2
 rose_wider a0 a a' a2 l m r = omega (arith, l, m, r)
@@ -80,16 +75,9 @@ ticks_so tells_notes tells_files tells_readings old new t answer is turn adds se
 ticks_grow : (h h' added : History) → h' ≡ h ++ added → ticks_of h ≤ ticks_of h'
 ticks_grow h h' added whole = let both : ticks_of h' ≡ ticks_of h + ticks_of added = ap ticks_of whole ∙ ticks-append h added in omega (arith, both)
 
--- the daemon's turns brought no entry of its own: then they brought no Stop
-no_stop_came : (h h' added : History) → h' ≡ h ++ added → AllByRecursion (IsOf 0) added → own 0 h' ≡ own 0 h → stops_of h ≡ 0 → stops_of h' ≡ 0
-no_stop_came h h' added whole of same none =
-    let nothing : stops_of added ≡ 0 = stops_own 0 added of ∙ ap stops_of (own_same 0 h h' added whole same) in
-    let both : stops_of h' ≡ stops_of h + stops_of added = ap stops_of whole ∙ stops-append h added in
-    omega (arith, both, none, nothing)
-
-module _ {K : Type 0} (Told : Type 0) (tells_host tells_notes tells_files tells_readings : Bool) (seen : Views K) (limits : Limits) (host_of : Told → IsTrue tells_host) (notes_of : Told → IsTrue tells_notes) where
+module _ {K : Type 0} (Told : Type 0) (tells_host tells_notes tells_files tells_readings : Bool) (seen : Views K) (o : Options) (began : ℕ) (host_of : Told → IsTrue tells_host) (notes_of : Told → IsTrue tells_notes) where
   abbrev RoundsTo : ℕ → Scene → Scene → HostContent K → HostContent K → Type 0
-  RoundsTo n a b c d = Rounds Told tells_host tells_notes tells_files tells_readings seen limits n a b c d
+  RoundsTo n a b c d = Rounds Told tells_host tells_notes tells_files tells_readings seen o began n a b c d
 
   -- before the first round
   pub rounds_first : (a : Scene) (content : HostContent K) → (IsTrue tells_notes → a.notes ≡ []) → RoundsTo 0 a a content content
@@ -98,8 +86,7 @@ module _ {K : Type 0} (Told : Type 0) (tells_host tells_notes tells_files tells_
     up_to = λ told. subst (λ x. UpTo 0 x) (sym (empty told)) tt;
     not_of_daemon = λ told. ap (λ x. own 0 x) (empty told);
     ticks = λ told. omega arith;
-    served = λ told. at_first seen limits a.notes content;
-    no_stop = λ told. ap stops_of (empty (notes_of told));
+    served = λ told. at_first seen o began a.notes content;
     rest = λ told. record { starts = refl; printed = refl; lines = refl };
   }
 
@@ -110,8 +97,7 @@ module _ {K : Type 0} (Told : Type 0) (tells_host tells_notes tells_files tells_
     up_to = λ told. let adds = t.leads.turns told in up_to_more n n 0 b.notes c.notes adds.added adds.whole (omega arith) (omega arith) (r.up_to told) (turns_of adds.turns);
     not_of_daemon = λ told. t.nothing told ∙ r.not_of_daemon told;
     ticks = λ told. let adds = t.leads.turns told in let more = ticks_grow b.notes c.notes adds.added adds.whole in let before = r.ticks told in omega (arith, more, before);
-    served = λ told. let adds = t.leads.turns (notes_of told) in daemon_served seen limits n b.notes c.notes adds.added x y (r.served told) adds.whole (turns_of adds.turns);
-    no_stop = λ told. let adds = t.leads.turns (notes_of told) in no_stop_came b.notes c.notes adds.added adds.whole (turns_of adds.turns) (t.nothing (notes_of told)) (r.no_stop told);
+    served = λ told. let adds = t.leads.turns (notes_of told) in daemon_served seen o began n b.notes c.notes adds.added x y (r.served told) adds.whole (turns_of adds.turns);
     rest = r.rest;
   }
 
@@ -122,8 +108,7 @@ module _ {K : Type 0} (Told : Type 0) (tells_host tells_notes tells_files tells_
     up_to = λ told. subst (λ h. UpTo n h) (sym same) (r.up_to told);
     not_of_daemon = λ told. ap (λ h. own 0 h) same ∙ r.not_of_daemon told;
     ticks = λ told. subst (λ h. n ≤ ticks_of h) (sym same) (r.ticks told);
-    served = λ told. subst (λ h. HasServed seen limits n h x y) (sym same) (r.served told);
-    no_stop = λ told. ap stops_of same ∙ r.no_stop told;
+    served = λ told. subst (λ h. HasServed seen o began n h x y) (sym same) (r.served told);
     rest = r.rest;
   }
 
@@ -134,14 +119,13 @@ module _ {K : Type 0} (Told : Type 0) (tells_host tells_notes tells_files tells_
     up_to = r.up_to;
     not_of_daemon = r.not_of_daemon;
     ticks = r.ticks;
-    served = λ told. let s = same (host_of told) in still_served seen limits n b.notes x y z (r.served told) s.0 s.1 s.2;
-    no_stop = r.no_stop;
+    served = λ told. let s = same (host_of told) in still_served seen o began n b.notes x y z (r.served told) s.0 s.1 s.2;
     rest = λ told. let p = r.rest told in let q = rest told in record { starts = q.starts ∙ p.starts; printed = q.printed ∙ p.printed; lines = q.lines ∙ p.lines };
   }
 
   -- somebody came, was served and was handed back
   pub rounds_caller : (left : K → List ℕ) (n : ℕ) (a b c : Scene) (x y gave z : HostContent K) (kind : Kind) (fresh conn : K) → RoundsTo n a b x y → (IsTrue tells_notes → n + 1 ≤ ticks_of b.notes) → Leads tells_notes tells_files tells_readings (n + 1) b c
-      → (IsTrue tells_host → Accepts left y gave (Caller kind fresh)) → (IsTrue tells_host → z ≡ record gave { back = gave.back ++ (n + 1, conn) ∷ [] }) → (Told → IsServed seen limits c.notes (n + 1) kind (left fresh) conn) → RoundsTo (n + 1) a c x z
+      → (IsTrue tells_host → Accepts left y gave (Caller kind fresh)) → (IsTrue tells_host → z ≡ record gave { back = gave.back ++ (n + 1, conn) ∷ [] }) → (Told → IsServed seen o began c.notes (n + 1) kind (left fresh) conn) → RoundsTo (n + 1) a c x z
   rounds_caller left n a b c x y gave z kind fresh conn r ahead leads accepts returned served = record {
     went = went_then tells_notes tells_files tells_readings a b c r.went (went_by tells_notes tells_files tells_readings (n + 1) b c leads);
     up_to = λ told. let adds = leads.turns told in up_to_more n (n + 1) (n + 1) b.notes c.notes adds.added adds.whole (omega arith) (omega arith) (r.up_to told) (turns_of adds.turns);
@@ -150,21 +134,14 @@ module _ {K : Type 0} (Told : Type 0) (tells_host tells_notes tells_files tells_
         ap (λ h. own 0 h) adds.whole ∙ own-append 0 b.notes adds.added ∙ ap (λ h. h ++ own 0 adds.added) (r.not_of_daemon told) ∙ none_of 0 (n + 1) adds.added (λ e. absurd (omega (arith, e))) (turns_of adds.turns);
     ticks = λ told. let adds = leads.turns told in let more = ticks_grow b.notes c.notes adds.added adds.whole in let before = ahead told in omega (arith, more, before);
     served = λ told. let adds = leads.turns (notes_of told) in
-        next_served seen limits left n b.notes c.notes adds.added x y gave z kind fresh conn (r.served told) (accepts (host_of told)) (returned (host_of told)) adds.whole (turns_of adds.turns) (served told);
-    no_stop = λ told.
-        let adds = leads.turns (notes_of told) in
-        let mine : own (n + 1) c.notes ≡ own (n + 1) adds.added = ap (λ h. own (n + 1) h) adds.whole ∙ own-append (n + 1) b.notes adds.added ∙ ap (λ h. h ++ own (n + 1) adds.added) (nothing_yet n (n + 1) b.notes (r.up_to (notes_of told)) (omega arith)) in
-        let came : stops_of adds.added ≡ 0 = stops_own (n + 1) adds.added (turns_of adds.turns) ∙ ap stops_of (sym mine) ∙ served_no_stop seen limits c.notes (n + 1) kind (left fresh) conn (served told) in
-        let both : stops_of c.notes ≡ stops_of b.notes + stops_of adds.added = ap stops_of adds.whole ∙ stops-append b.notes adds.added in
-        let before = r.no_stop told in
-        omega (arith, both, before, came);
+        next_served seen o began left n b.notes c.notes adds.added x y gave z kind fresh conn (r.served told) (accepts (host_of told)) (returned (host_of told)) adds.whole (turns_of adds.turns) (served told);
     rest = λ told. caller_changes left x y gave z kind fresh _ (r.rest told) (accepts told) (returned told);
   }
 
   -- a whole round: a tick, and behind the accept a saving; then somebody was served
   pub rounds_served : (left : K → List ℕ) (n : ℕ) (a b t s c : Scene) (x y gave z : HostContent K) (kind : Kind) (fresh conn : K) → RoundsTo n a b x y → Ticks tells_notes tells_files tells_readings b t ticked.Quiet → Went tells_notes tells_files tells_readings t s
       → s.notes ≡ t.notes → Leads tells_notes tells_files tells_readings (n + 1) s c → (IsTrue tells_host → Accepts left y gave (Caller kind fresh)) → (IsTrue tells_host → z ≡ record gave { back = gave.back ++ (n + 1, conn) ∷ [] })
-      → (Told → IsServed seen limits c.notes (n + 1) kind (left fresh) conn) → RoundsTo (n + 1) a c x z
+      → (Told → IsServed seen o began c.notes (n + 1) kind (left fresh) conn) → RoundsTo (n + 1) a c x z
   rounds_served left n a b t s c x y gave z kind fresh conn r ticks went same leads accepts returned served =
       rounds_caller left n a s c x y gave z kind fresh conn (rounds_save n a t s x y (rounds_tick n a b t x y ticked.Quiet r ticks) went same)
       (λ told. let before = r.ticks told in let more = ticks.noted told in let size : ticks_of s.notes ≡ ticks_of t.notes = ap ticks_of same in omega (arith, before, more, size)) leads accepts returned served
@@ -194,19 +171,3 @@ module _ {K : Type 0} (Told : Type 0) (tells_host tells_notes tells_files tells_
       rounds_nobody n a t x y z (rounds_tick n a b t x y ticked.Quiet r ticks)
       (λ told. (ap (λ (c : HostContent K). c.coming) (content told), ap (λ (c : HostContent K). c.given) (content told), ap (λ (c : HostContent K). c.back) (content told)))
       (λ told. record { starts = ap (λ (c : HostContent K). c.starts) (content told); printed = ap (λ (c : HostContent K). c.printed) (content told); lines = ap (λ (c : HostContent K). c.lines) (content told) })
-
-one_stop : (e : Entry × End) (h : History) (b : Bool) → is_stop e.0.act ≡ b → (b ≡ true → 0 < stops_of (e ∷ h)) × (b ≡ false → stops_of (e ∷ h) ≡ stops_of h)
-one_stop e h true is = (λ _. let both = stops-append (e ∷ []) h in let one : stops_of (e ∷ []) ≡ 1 = rw is refl in omega (arith, both, one), λ f. absurd (false≢true (sym f)))
-one_stop e h false is = (λ t. absurd (false≢true t), λ _. rw is refl)
-
-stops_by : (e : Entry × End) (h : History) (b : Bool) → is_stop e.0.act ≡ b → has_stop (e ∷ h) ≡ true → (has_stop h ≡ true → 0 < stops_of h) → 0 < stops_of (e ∷ h)
-stops_by e h true here is rest = (one_stop e h true here).0 refl
-stops_by e h false here is rest = let more : has_stop h ≡ true = rw here at is in let some = rest more in let same = (one_stop e h false here).1 refl in omega (arith, some, same)
-
-has_stops : (h : History) → has_stop h ≡ true → 0 < stops_of h
-has_stops [] is = absurd (false≢true is)
-has_stops (e ∷ h) is = stops_by e h (is_stop e.0.act) refl is (has_stops h)
-
--- a Stop doesn't stand in a history without one
-pub no_stop_stands : (h : History) → has_stop h ≡ true → stops_of h ≡ 0 → ⊥
-no_stop_stands h stands none = let some = has_stops h stands in absurd (omega (arith, some, none))

@@ -1,9 +1,9 @@
 -- Rounds of the loop over the callers: each begins with a tick, then somebody may call.
 use Rattle.std.specs.Prelude.{◌≡◌, ◌⊎◌, ℕ, ◌+◌, ◌-◌, ◌^◌, ◌≤◌, Bool, true, IsTrue, []}
+use Rattle.nsq_base.specs.declared.options.Options.{Options}
 use Rattle.nsq_outside.specs.Causes.{Rose}
 use Rattle.nsq_outside.specs.Hosts.{HostContent}
-use Rattle.v2_frame.specs.declared.fault.Limits.{Limits}
-use Rattle.broker_history.specs.Entries.{has_stop, own, stops_of}
+use Rattle.broker_history.specs.Entries.{History, has_stop, own}
 use Rattle.desk.specs.declared.turned.Turned.{Turned}
 use Rattle.desk.specs.declared.turned.Turned.TheVariants as turned
 use Rattle.floor_turns.specs.Scenes.{Scene}
@@ -33,31 +33,30 @@ pub record Ticks (tells_notes tells_files tells_readings : Bool) (old new : Scen
   pub nothing : IsTrue tells_notes → own 0 new.notes ≡ own 0 old.notes
   pub noted : IsTrue tells_notes → IsTicked answer old new
 
--- what is true of a run between two rounds: what the floor was led to; no entry names a number above the callers'; none is the daemon's own, and none is a Stop; the
--- daemon ticked once for each caller at least; each caller was served
-pub record Rounds {K : Type 0} (Told : Type 0) (tells_host tells_notes tells_files tells_readings : Bool) (seen : Views K) (limits : Limits) (number : ℕ) (old new : Scene) (content content' : HostContent K) : Type 0 where
+-- what is true of a run between two rounds: what the floor was led to; no entry names a number above the callers'; none is the daemon's own, so a Stop there is one
+-- that a caller asked for; the daemon ticked once for each caller at least; each caller was served
+pub record Rounds {K : Type 0} (Told : Type 0) (tells_host tells_notes tells_files tells_readings : Bool) (seen : Views K) (o : Options) (began number : ℕ) (old new : Scene) (content content' : HostContent K) : Type 0 where
   pub went : Went tells_notes tells_files tells_readings old new
   pub up_to : IsTrue tells_notes → UpTo number new.notes
   pub not_of_daemon : IsTrue tells_notes → own 0 new.notes ≡ []
   pub ticks : IsTrue tells_notes → number ≤ ticks_of new.notes
-  pub served : Told → HasServed seen limits number new.notes content content'
-  pub no_stop : Told → stops_of new.notes ≡ 0
+  pub served : Told → HasServed seen o began number new.notes content content'
   pub rest : IsTrue tells_host → OnlyCallersChange content content'
 
 -- nobody will call any more, or as many called as there are numbers
 abbrev pub IsHalted : {K : Type 0} → (number : ℕ) → HostContent K → Type 0
 IsHalted number new = (new.halted ≡ true) ⊎ (number ≡ 2 ^ 64 - 1)
 
--- why no further caller is served, by how the loop ended: nobody will call any more, or as many called as there are numbers; the listeners failed; memory was wanting. A Stop
--- before the daemon's own comes only where nothing is told
-abbrev pub WhyOver : {K : Type 0} → LoopEnd → (number accept accept' : ℕ) → HostContent K → Type 0
-WhyOver loop.Halted number accept accept' new = IsHalted number new
-WhyOver loop.Failed number accept accept' new = Rose accept accept'
-WhyOver loop.Stopped number accept accept' new = ⊥
-WhyOver loop.Memory number accept accept' new = Unit {0}
+-- why no further caller is served, by how the loop ended: nobody will call any more, or as many called as there are numbers; the listeners failed; a Stop stands in
+-- the history; memory was wanting
+abbrev pub WhyOver : {K : Type 0} → LoopEnd → (number accept accept' : ℕ) → History → HostContent K → Type 0
+WhyOver loop.Halted number accept accept' notes new = IsHalted number new
+WhyOver loop.Failed number accept accept' notes new = Rose accept accept'
+WhyOver loop.Stopped number accept accept' notes new = has_stop notes ≡ true
+WhyOver loop.Memory number accept accept' notes new = Unit {0}
 
 -- a loop over callers ended so
-pub record LoopsOver {K : Type 0} (Told : Type 0) (tells_host tells_notes tells_files tells_readings : Bool) (seen : Views K) (limits : Limits) (ended : LoopEnd) (accept accept' : ℕ) (old new : Scene) (content content' : HostContent K) : Type 0 where
+pub record LoopsOver {K : Type 0} (Told : Type 0) (tells_host tells_notes tells_files tells_readings : Bool) (seen : Views K) (o : Options) (began : ℕ) (ended : LoopEnd) (accept accept' : ℕ) (old new : Scene) (content content' : HostContent K) : Type 0 where
   pub number : ℕ
-  pub rounds : Rounds Told tells_host tells_notes tells_files tells_readings seen limits number old new content content'
-  pub why : Told → WhyOver ended number accept accept' content'
+  pub rounds : Rounds Told tells_host tells_notes tells_files tells_readings seen o began number old new content content'
+  pub why : Told → WhyOver ended number accept accept' new.notes content'

@@ -1,6 +1,7 @@
 -- What is said of the callers that a run served.
-use Rattle.std.specs.Prelude.{◌≡◌, ◌⊎◌, ℕ, ◌+◌, ◌<◌, ◌≤◌, Bool, false, IsTrue, List, [], ◌∷◌, ◌++◌, length, map, filter}
+use Rattle.std.specs.Prelude.{◌≡◌, ◌⊎◌, ℕ, ◌+◌, ◌<◌, ◌≤◌, Bool, IsTrue, List, [], ◌∷◌, ◌++◌, length, map, filter}
 use Rattle.std.specs.List.{AllByRecursion}
+use Rattle.nsq_base.specs.declared.options.Options.{Options}
 use Rattle.nsq_outside.specs.Causes.{Rose}
 use Rattle.nsq_outside.specs.Hosts.{HostContent, HostState}
 use Rattle.nsq_outside.specs.declared.host.Kind.{Kind}
@@ -13,6 +14,8 @@ use Rattle.broker_history.specs.Entries.{History, IsCommon, is_tick, own}
 use Rattle.broker_history.specs.Talk.{Allows, IsTalkIn, bytes_of}
 use Rattle.desk.specs.Calls.{IsHere}
 use Rattle.v2_session.specs.Sessions.{IsWarned}
+use Rattle.http_exchange.specs.declared.ended.EndedHttp.{EndedHttp}
+use Rattle.http_exchange.specs.Exchange.{HasCause, IsExchangeIn}
 
 -- what is seen of a connection: the pieces read, the bytes still to come, whether it ended, the bytes written, and how often a read and a write failed
 pub record Views (K : Type 0) : Type 0 where
@@ -27,6 +30,10 @@ pub record Views (K : Type 0) : Type 0 where
 abbrev pub views : {K : Type 0} → (K → List (List ℕ)) → (K → List ℕ) → (K → Bool) → (K → List ℕ) → (K → ℕ) → (K → ℕ) → Views K
 views pieces left ended written read_faults write_faults =
     record { pieces = pieces; left = left; ended = ended; written = written; read_faults = read_faults; write_faults = write_faults }
+
+-- the limits that the options set
+abbrev pub limits_of : Options → Limits
+limits_of options = record { msg = options.max_msg_size; body = options.max_body_size }
 
 -- host, connections and journal tell their content
 pub record AllTell (tells tells_pieces tells_written tells_notes : Bool) : Type 0 where
@@ -52,27 +59,25 @@ pub record IsServedTcp {K : Type 0} (seen : Views K) (limits : Limits) (h : Hist
   pub cause : Allows ended (seen.ended conn) (seen.read_faults conn) (seen.write_faults conn)
   pub stream : bytes_of (seen.pieces conn) ++ seen.left conn ≡ bytes
 
--- a caller of HTTP was handed back as it came, and has no entry
-pub record IsUntouched {K : Type 0} (seen : Views K) (h : History) (number : ℕ) (bytes : List ℕ) (conn : K) : Type 0 where
-  pub no_entry : own number h ≡ []
-  pub nothing_read : seen.pieces conn ≡ []
-  pub not_ended : seen.ended conn ≡ false
-  pub nothing_written : seen.written conn ≡ []
-  pub no_read_fault : seen.read_faults conn ≡ 0
-  pub no_write_fault : seen.write_faults conn ≡ 0
-  pub stream : seen.left conn ≡ bytes
+-- a caller of HTTP was served: what it sent, its entries and what it got are an exchange, under these options and with this moment of the opening, with an ending
+-- that has its cause; what it sent is from the bytes that it had
+pub record IsServedHttp {K : Type 0} (seen : Views K) (o : Options) (began : ℕ) (h : History) (number : ℕ) (bytes : List ℕ) (conn : K) : Type 0 where
+  pub ended : EndedHttp
+  pub exchange : IsExchangeIn o began number h (seen.pieces conn) (seen.written conn) ended
+  pub cause : HasCause ended (seen.ended conn) 0 (seen.read_faults conn) 0 (seen.write_faults conn)
+  pub stream : bytes_of (seen.pieces conn) ++ seen.left conn ≡ bytes
 
 -- a caller was served as its kind asks
-abbrev pub IsServed : {K : Type 0} → Views K → Limits → History → (number : ℕ) → Kind → (bytes : List ℕ) → K → Type 0
-IsServed seen limits h number Tcp bytes conn = IsServedTcp seen limits h number bytes conn
-IsServed seen limits h number Http bytes conn = IsUntouched seen h number bytes conn
+abbrev pub IsServed : {K : Type 0} → Views K → Options → (began : ℕ) → History → (number : ℕ) → Kind → (bytes : List ℕ) → K → Type 0
+IsServed seen o began h number Tcp bytes conn = IsServedTcp seen (limits_of o) h number bytes conn
+IsServed seen o began h number Http bytes conn = IsServedHttp seen o began h number bytes conn
 
 -- each of these callers, with the bytes that it had, was served and handed back, once, in their order, under its number, from the first number on
-abbrev pub AreServed : {K : Type 0} → Views K → Limits → History → (first : ℕ) → List (Kind × List ℕ) → List (ℕ × K) → Type 0
-AreServed seen limits h first [] [] = Unit {0}
-AreServed seen limits h first [] (x ∷ xs) = ⊥
-AreServed seen limits h first (c ∷ cs) [] = ⊥
-AreServed seen limits h first (c ∷ cs) (x ∷ xs) = (x.0 ≡ first) × IsServed seen limits h first c.0 c.1 x.1 × AreServed seen limits h (first + 1) cs xs
+abbrev pub AreServed : {K : Type 0} → Views K → Options → (began : ℕ) → History → (first : ℕ) → List (Kind × List ℕ) → List (ℕ × K) → Type 0
+AreServed seen o began h first [] [] = Unit {0}
+AreServed seen o began h first [] (x ∷ xs) = ⊥
+AreServed seen o began h first (c ∷ cs) [] = ⊥
+AreServed seen o began h first (c ∷ cs) (x ∷ xs) = (x.0 ≡ first) × IsServed seen o began h first c.0 c.1 x.1 × AreServed seen o began h (first + 1) cs xs
 
 -- the entry names no number above this one; a common one, which stands in turns of any number, names the daemon in a legal history
 abbrev pub NamesUpTo : ℕ → Entry × End → Type 0
@@ -86,14 +91,14 @@ abbrev pub ticks_of : History → ℕ
 ticks_of h = length (filter (λ e. is_tick e.0.act) h)
 
 -- between two contents of a host so many callers were given, and each was served and handed back
-pub record HasServed {K : Type 0} (seen : Views K) (limits : Limits) (number : ℕ) (h : History) (old new : HostContent K) : Type 0 where
+pub record HasServed {K : Type 0} (seen : Views K) (o : Options) (began number : ℕ) (h : History) (old new : HostContent K) : Type 0 where
   pub callers : List (Kind × List ℕ)
   pub back : List (ℕ × K)
   pub count : length callers ≡ number
   pub came : old.coming ≡ callers ++ new.coming
   pub given : new.given ≡ old.given ++ map (λ (c : Kind × List ℕ). c.0) callers
   pub returned : new.back ≡ old.back ++ back
-  pub served : AreServed seen limits h 1 callers back
+  pub served : AreServed seen o began h 1 callers back
 
 -- the listeners failed last: from some value of the host on their count rose, and nobody was given or handed back meanwhile. So it rose in the start,
 -- before all callers, or behind the last of them. What runs a host of any type can name no value of it but those that the host passed

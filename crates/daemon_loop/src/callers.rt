@@ -1,7 +1,7 @@
 ghost use Rattle.std.specs.Prelude.{◌≡◌, [], IsTrue, false};
+ghost use Rattle.nsq_base.specs.Options.{IsInRange};
 ghost use Rattle.nsq_outside.specs.Causes.{Rose};
 ghost use Rattle.nsq_outside.specs.Hosts.{OnlyAcceptFaults};
-ghost use Rattle.desk.specs.Calls.{AreAllowed};
 ghost use Rattle.floor_turns.specs.Scenes.{scene};
 ghost use Rattle.daemon_loop.specs.Going.{Went};
 ghost use Rattle.daemon_loop.specs.Rounds.{LoopsOver};
@@ -12,11 +12,11 @@ use crate::serving::serve_caller;
 use crate::ticking::{Ticked, tick};
 use broker_floor::Floor;
 use broker_history::Entry;
+use nsq_base::Options;
 use nsq_outside::{Accept, Clock, Folder, Host, Journal};
 use path_closing::save;
 use std::alloc::Global;
 use std::sync::Wait;
-use v2_frame::Limits;
 
 /// How the loop over the callers ended.
 #[derive(Clone, Copy, Debug, PartialEq, Eq)]
@@ -37,20 +37,23 @@ pub enum LoopEnd {
 /// caller, or none for now, the file of names is saved where names changed; where that fails it is tried again behind the next such one. Behind an accept
 /// that fails, or says that nobody will call any more, nothing is saved: the floor is to be stopped and shut.
 ///
-/// The floor wasn't flushed, and its journal has no entry yet; the limits are such as options allow.
+/// A caller's Stop ends the loop: the next round's tick is answered that the daemon stops.
+///
+/// The floor wasn't flushed, and its journal has no entry yet; the options are in their ranges. `began` is the moment of the opening, in nanoseconds.
 pub fn serve_callers<R: Wait, H: Host<Entry>>(
     rt: &R,
     alloc: Global,
-    limits: Limits,
+    options: &Options,
+    began: u64,
     host: &mut H,
     floor: &mut Floor<H::Folder, H::Clock, H::Journal>,
 ) -> LoopEnd
-    requires limits { AreAllowed limits }
+    requires options { IsInRange options.now }
     requires unflushed { floor.old.held.flushed ≡ false }
     requires empty { IsTrue H.Journal.tells_notes → H.Journal.notes floor.old.journal ≡ [] }
     ensures unflushed { floor.new.held.flushed ≡ false }
     ensures over { LoopsOver (AllTell H.tells H.Conn.tells_pieces H.Conn.tells_written H.Journal.tells_notes) H.tells H.Journal.tells_notes H.Folder.tells_files H.Clock.tells_readings
-        (views H.Conn.pieces H.Conn.left H.Conn.ended H.Conn.written H.Conn.read_faults H.Conn.write_faults) limits result (H.state host.old).accept_faults (H.state host.new).accept_faults
+        (views H.Conn.pieces H.Conn.left H.Conn.ended H.Conn.written H.Conn.read_faults H.Conn.write_faults) options.now began result (H.state host.old).accept_faults (H.state host.new).accept_faults
         (scene floor.old.held.hall (H.Journal.notes floor.old.journal) (H.Folder.files floor.old.folder) (H.Folder.folder_faults floor.old.folder) (H.Clock.coming floor.old.clock))
         (scene floor.new.held.hall (H.Journal.notes floor.new.journal) (H.Folder.files floor.new.folder) (H.Folder.folder_faults floor.new.folder) (H.Clock.coming floor.new.clock))
         (H.content host.old) (H.content host.new) }
@@ -73,7 +76,7 @@ pub fn serve_callers<R: Wait, H: Host<Entry>>(
                 let mut conn = conn;
                 number += 1;
                 save_changed(alloc, floor);
-                serve_caller(rt, alloc, limits, kind, &mut conn, floor, number);
+                serve_caller(rt, alloc, options, began, kind, &mut conn, floor, number);
                 host.done(number, conn);
             }
             Accept::Nothing => save_changed(alloc, floor),

@@ -6,6 +6,7 @@
 
 mod caller_desk;
 mod callers;
+mod exchanging;
 mod serving;
 mod stopping;
 mod ticking;

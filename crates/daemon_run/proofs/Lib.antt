@@ -1,5 +1,7 @@
 pub mod Causes
 pub mod Numbering
+pub mod Requests
+pub mod Stopping
 pub mod Running
 pub mod Asking
 pub mod Sighting

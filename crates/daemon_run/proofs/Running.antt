@@ -1,49 +1,46 @@
 -- What a run as a whole did, from what its parts did.
-use Rattle.std.proofs.Common.{◌≡◌, ◌≤◌, inl, inr, ℕ, ◌+◌, ◌++◌, ◌∷◌, [], Bool, true, false, length, refl, sym, ◌∙◌, ap, subst, arith}
+use Rattle.std.proofs.Common.{◌≡◌, ◌≤◌, ◌<◌, inl, inr, ℕ, ◌+◌, ◌++◌, [], Bool, true, false, length, refl, sym, ◌∙◌, ap, subst, arith}
 use Rattle.std.specs.Prelude.{◌⊎◌, IsTrue, IsPermutation}
 use Rattle.std.specs.List.{AllByRecursion}
-use Rattle.std.proofs.lemmas.Bool.{false≢true}
 use Rattle.std.proofs.lemmas.List.Sorted.{IsPermutation-refl}
 use Rattle.nsq_base.specs.declared.options.Options.{Options}
 use Rattle.nsq_outside.specs.Causes.{Rose}
 use Rattle.nsq_outside.specs.Hosts.{HostContent}
-use Rattle.nsq_outside.specs.declared.journal.End.{End}
 use Rattle.queue_image.specs.FileNames.IsFileOf.{own as own_file}
 use Rattle.path_image.specs.Found.{Found, IsFound, Names}
-use Rattle.broker_history.specs.declared.entry.Act.{Act}
-use Rattle.broker_history.specs.declared.entry.Act.TheVariants.{Stop}
-use Rattle.broker_history.specs.declared.entry.Entry.{Entry}
-use Rattle.broker_history.specs.Entries.{History, faults_apart, faults_of, has_stop, is_common, is_stop, stops_of}
+use Rattle.broker_history.specs.Entries.{History, faults_apart, faults_of, has_stop, own, stops_of}
 use Rattle.broker_history.specs.Found.{start}
 use Rattle.broker_history.specs.Legal.{Legal}
 use Rattle.broker_history.specs.Moments.{IsTimed, moment_of}
 use Rattle.broker_history.specs.State.{State}
+use Rattle.broker_history.proofs.Own.{own-append}
 use Rattle.broker_history.proofs.Stops.{stops_once}
 use Rattle.broker_history.proofs.Timing.{turns_read}
 use Rattle.turn_laws.specs.Laws.{IsOf, RoseBy}
 use Rattle.turn_laws.proofs.Faulting.{apart_few}
-use Rattle.turn_laws.proofs.Laying.{all_both, all_so, turns_of}
+use Rattle.turn_laws.proofs.Laying.{turns_of}
 use Rattle.floor_turns.specs.Leads.{LedTo}
 use Rattle.floor_turns.specs.Scenes.{Scene, Stands}
 use Rattle.path_opening.specs.Opening.{HaveBytes, OnlyOpeningFiles}
 use Rattle.path_closing.specs.Closings.{Leaves}
 use Rattle.daemon_loop.specs.Going.{Went}
 use Rattle.daemon_loop.specs.Rounds.{IsHalted, WhyOver}
-use Rattle.daemon_loop.specs.Served.{HasServed, Views, ticks_of}
+use Rattle.daemon_loop.specs.Served.{HasServed, UpTo, Views, ticks_of}
 use Rattle.daemon_loop.specs.declared.callers.LoopEnd.{LoopEnd}
 use Rattle.daemon_loop.specs.declared.callers.LoopEnd.TheVariants as loop
 use Rattle.daemon_loop.proofs.Going.{went_by, went_then}
-use Rattle.daemon_loop.proofs.Others.{stops-append, ticks-append, up_to_more}
+use Rattle.daemon_loop.proofs.Others.{stops-append, stops_own, ticks-append, up_to_more}
 use Rattle.daemon_loop.proofs.Handing.{daemon_served}
-use Rattle.daemon_run.specs.Callers.{DaemonStops, HasStopCause, ServesAll, StopsAreCaused, failed, halted, one_to, wants}
+use Rattle.daemon_run.specs.Callers.{DaemonStops, HasCallersStop, ServesAll, failed, halted, one_to, wants}
 use Rattle.daemon_run.specs.Endings.{FindsNames, IsCaused}
 use Rattle.daemon_run.specs.Parts.{RunsOn}
-use Rattle.daemon_run.specs.Runs.{HasRun, IsShut, TellsHistory, limits_of}
+use Rattle.daemon_run.specs.Runs.{HasRun, IsShut, TellsHistory}
 use Rattle.daemon_run.specs.Sights.{Sight}
 use Rattle.daemon_run.specs.declared.ending.ServeEnd.{ServeEnd}
 use Rattle.daemon_run.specs.declared.ending.ServeEnd.TheVariants as end
 use Rattle.daemon_run.proofs.Causes.{EndsWell, at_clean, at_fault, parts, rose_wider, served_ends}
 use Rattle.daemon_run.proofs.Numbering.{handed, numbered}
+use Rattle.daemon_run.proofs.Stopping.{callers_stop, has_stops, stop_stays, stops_caused}
 
 -- rises of counts
 by_wider : (n a a0 a1 a2 : ℕ) → a ≤ a0 → a1 ≤ a2 → RoseBy n a0 a1 → RoseBy n a a2
@@ -55,43 +52,29 @@ by_one_more m n a b c l r s = omega (arith, l, r, s)
 rose_from : (n a b : ℕ) → RoseBy (n + 1) a b → Rose a b
 rose_from n a b r = omega (arith, r)
 
-common_act : (a : Act) → is_common a ≡ true → is_stop a ≡ false
-common_act Stop h = absurd (false≢true h)
-common_act a h = refl
+module _ {K : Type 0} (ended : ServeEnd) (number accept accept' : ℕ) (notes : History) (content : HostContent K) where
+  -- why the daemon stops: where a Stop stood already, it doesn't
+  stop_cause : (l : LoopEnd) → WhyOver l number accept accept' notes content → (l ≡ loop.Memory → ended ≡ end.Memory) → (ended ≡ end.Clean → EndsWell l) → (has_stop notes ≡ true → ⊥) → DaemonStops ended number accept accept' content
+  stop_cause loop.Halted why wanting well alone = halted why
+  stop_cause loop.Failed why wanting well alone = failed (λ clean. well clean) why
+  stop_cause loop.Stopped why wanting well alone = absurd (alone why)
+  stop_cause loop.Memory why wanting well alone = wants (wanting refl)
 
--- no Stop stands in a history without one
-none_by : (P : Entry × End → Type 0) (e : Entry × End) (h : History) (b : Bool) → is_stop e.0.act ≡ b → stops_of (e ∷ h) ≡ 0 → (stops_of h ≡ 0 → AllByRecursion (λ e. is_stop e.0.act ≡ true → P e) h)
-    → (is_stop e.0.act ≡ true → P e) × AllByRecursion (λ e. is_stop e.0.act ≡ true → P e) h
-none_by P e h true here n rest = let both = stops-append (e ∷ []) h in let one : stops_of (e ∷ []) ≡ 1 = rw here refl in absurd (omega (arith, both, one, n))
-none_by P e h false here n rest = let both = stops-append (e ∷ []) h in (λ is. absurd (false≢true (sym here ∙ is)), rest (omega (arith, both, n)))
+  -- a loop that ended well ended since nobody will call any more, or since a caller stopped the daemon
+  well_over : (l : LoopEnd) → WhyOver l number accept accept' notes content → EndsWell l → own 0 notes ≡ [] → IsHalted number content ⊎ HasCallersStop notes
+  well_over loop.Halted why well none = inl why
+  well_over loop.Failed why well none = absurd well
+  well_over loop.Stopped why well none = inr (callers_stop notes why none)
+  well_over loop.Memory why well none = absurd well
 
-none_stops : (P : Entry × End → Type 0) (h : History) → stops_of h ≡ 0 → AllByRecursion (λ e. is_stop e.0.act ≡ true → P e) h
-none_stops P [] n = tt
-none_stops P (e ∷ h) n = none_by P e h (is_stop e.0.act) refl n (none_stops P h)
-
-module _ {K : Type 0} (ended : ServeEnd) (number accept accept' : ℕ) (content : HostContent K) where
-  -- the daemon's own Stops have its cause
-  daemon_stops : (e : Entry × End) → DaemonStops ended number accept accept' content → IsOf 0 e → is_stop e.0.act ≡ true → HasStopCause ended number accept accept' content e.0.conn
-  daemon_stops e d (inl common) is = absurd (false≢true (sym (common_act e.0.act common) ∙ is))
-  daemon_stops e d (inr names) is = subst (λ n. HasStopCause ended number accept accept' content n) (sym names) d
-
-  stop_cause : (l : LoopEnd) → WhyOver l number accept accept' content → (l ≡ loop.Memory → ended ≡ end.Memory) → (ended ≡ end.Clean → EndsWell l) → DaemonStops ended number accept accept' content
-  stop_cause loop.Halted why wanting well = halted why
-  stop_cause loop.Failed why wanting well = failed (λ clean. well clean) why
-  stop_cause loop.Stopped why wanting well = absurd why
-  stop_cause loop.Memory why wanting well = wants (wanting refl)
-
-  -- a loop that ended well ended since nobody will call any more
-  well_halted : (l : LoopEnd) → WhyOver l number accept accept' content → EndsWell l → IsHalted number content
-  well_halted loop.Halted why well = why
-  well_halted loop.Failed why well = absurd well
-  well_halted loop.Stopped why well = absurd why
-  well_halted loop.Memory why well = absurd well
-
-  stops_caused : (h h' added : History) → h' ≡ h ++ added → stops_of h ≡ 0 → AllByRecursion (IsOf 0) added → DaemonStops ended number accept accept' content → StopsAreCaused ended number accept accept' content h'
-  stops_caused h h' added whole none of d =
-      let P : Entry × End → Type 0 = λ e. is_stop e.0.act ≡ true → HasStopCause ended number accept accept' content e.0.conn in
-      subst (λ x. AllByRecursion P x) (sym whole) (all_both P h added (none_stops (λ e. HasStopCause ended number accept accept' content e.0.conn) h none) (all_so (IsOf 0) P added (λ e. daemon_stops e d) of))
+-- the daemon's own turns brought a Stop only where none stood before, since there is one at most
+none_before : (h h' added : History) → h' ≡ h ++ added → own 0 h ≡ [] → AllByRecursion (IsOf 0) added → stops_of h' ≤ 1 → 0 < stops_of (own 0 h') → has_stop h ≡ true → ⊥
+none_before h h' added whole none of once some stands =
+    let mine : own 0 h' ≡ own 0 added = ap (λ x. own 0 x) whole ∙ own-append 0 h added ∙ ap (λ x. x ++ own 0 added) none in
+    let same : stops_of (own 0 h') ≡ stops_of added = ap stops_of mine ∙ sym (stops_own 0 added of) in
+    let both : stops_of h' ≡ stops_of h + stops_of added = ap stops_of whole ∙ stops-append h added in
+    let first = has_stops h stands in
+    absurd (omega (arith, once, some, same, both, first))
 
 -- a floor that stands for some state
 pub record Stood (opened : Scene) : Type 0 where
@@ -112,7 +95,7 @@ pub record Opened {K : Type 0} (options : Options) (old : Sight K) (opened : Sce
 
 module _ {K : Type 0} (Told : Type 0) (told : Told) (tells_host tells_notes tells_files tells_readings : Bool) (notes_told : IsTrue tells_notes) (files_told : IsTrue tells_files) (readings_told : IsTrue tells_readings) (seen : Views K) (options : Options) (ended : ServeEnd)
     (old new : Sight K) (opened : Scene) (o : Opened options old opened)
-    (r : RunsOn Told tells_host tells_notes tells_files tells_readings seen (limits_of options) ended old.counts.accept new.counts.accept opened new.files new.notes new.coming new.counts.folder old.content new.content) where
+    (r : RunsOn Told tells_host tells_notes tells_files tells_readings seen options (moment_of old.coming 1) ended old.counts.accept new.counts.accept opened new.files new.notes new.coming new.counts.folder old.content new.content) where
   abbrev daemons : History
   daemons = let turns = r.leads.turns notes_told in turns.added
 
@@ -177,13 +160,19 @@ module _ {K : Type 0} (Told : Type 0) (told : Told) (tells_host tells_notes tell
       r.changes files_told file not_names not_temp (λ name named its. none name named (own_file its))
       ∙ went.files files_told file not_names not_temp (λ name named its. none name named (own_file its)) ∙ o.files file not_names not_temp none
 
-  abbrev served : HasServed seen (limits_of options) r.number new.notes old.content new.content
-  served = daemon_served seen (limits_of options) r.number r.middle.notes new.notes daemons old.content new.content (r.rounds.served told) now_whole turns_daemons
+  abbrev opened_at : ℕ
+  opened_at = moment_of old.coming 1
+
+  abbrev served : HasServed seen options opened_at r.number new.notes old.content new.content
+  served = daemon_served seen options opened_at r.number r.middle.notes new.notes daemons old.content new.content (r.rounds.served told) now_whole turns_daemons
 
   count : length served.callers ≡ r.number
   count = served.count
 
-  abbrev callers : ServesAll seen (limits_of options) new.notes old.content new.content
+  up_to : UpTo (length served.callers) new.notes
+  up_to = up_to_more r.number (length served.callers) 0 r.middle.notes new.notes daemons now_whole (omega (arith, count)) (omega arith) (r.rounds.up_to notes_told) turns_daemons
+
+  abbrev callers : ServesAll seen options opened_at new.notes old.content new.content
   callers =
       let grown : ticks_of new.notes ≡ ticks_of r.middle.notes + ticks_of daemons = ap ticks_of now_whole ∙ ticks-append r.middle.notes daemons in
       let before = r.rounds.ticks notes_told in
@@ -193,40 +182,63 @@ module _ {K : Type 0} (Told : Type 0) (told : Told) (tells_host tells_notes tell
         came = served.came;
         given = served.given;
         returned = served.returned;
-        once = subst (λ ns. IsPermutation ns (one_to (length served.callers))) (sym (numbered seen (limits_of options) new.notes served.callers served.back served.served)) (IsPermutation-refl (one_to (length served.callers)));
-        served = handed seen (limits_of options) new.notes served.callers served.back served.served;
-        no_other = up_to_more r.number (length served.callers) 0 r.middle.notes new.notes daemons now_whole (omega (arith, count)) (omega arith) (r.rounds.up_to notes_told) turns_daemons;
+        once = subst (λ ns. IsPermutation ns (one_to (length served.callers))) (sym (numbered seen options opened_at new.notes served.callers served.back served.served)) (IsPermutation-refl (one_to (length served.callers)));
+        served = handed seen options opened_at new.notes served.callers served.back served.served;
+        no_other = up_to;
         ticks = omega (arith, count, grown, before);
       }
 
-  pub has_run : HasRun seen options ended old new
-  has_run =
+  once : stops_of new.notes ≤ 1
+  once = stops_once begun led.to new.notes legal
+
+  daemon_cause : 0 < stops_of (own 0 new.notes) → DaemonStops ended (length served.callers) old.counts.accept new.counts.accept new.content
+  daemon_cause some =
+      let p = parts r.looped r.stopped r.shutting ended r.ended_is in
+      subst (λ n. DaemonStops ended n old.counts.accept new.counts.accept new.content) (sym count)
+      (stop_cause ended r.number old.counts.accept new.counts.accept r.middle.notes new.content r.looped (r.why told) p.loop_wants p.loop_well
+      (none_before r.middle.notes new.notes daemons now_whole (r.rounds.not_of_daemon notes_told) turns_daemons once some))
+
+  clean : ended ≡ end.Clean → IsHalted (length served.callers) new.content ⊎ HasCallersStop new.notes
+  clean is = let p = parts r.looped r.stopped r.shutting ended r.ended_is in go (well_over ended r.number old.counts.accept new.counts.accept r.middle.notes new.content r.looped (r.why told) (p.loop_well is) (r.rounds.not_of_daemon notes_told))
+    where
+      go : IsHalted r.number new.content ⊎ HasCallersStop r.middle.notes → IsHalted (length served.callers) new.content ⊎ HasCallersStop new.notes
+      go (inl over) = inl (subst (λ n. IsHalted n new.content) (sym count) over)
+      go (inr stop) = inr (stop_stays r.middle.notes new.notes daemons now_whole stop)
+
+  pub ran_at : HasRun seen options ended old new
+  ran_at =
       let p = parts r.looped r.stopped r.shutting ended r.ended_is in
       record {
         to = led.to;
         history = history;
         callers = callers;
-        in_turn = numbered seen (limits_of options) new.notes served.callers served.back served.served;
+        in_turn = numbered seen options opened_at new.notes served.callers served.back served.served;
         faults = record { all = by_wider (faults_of new.notes) old.counts.folder opened.faults r.last.faults new.counts.folder o.faults r.later counted; at_stop = at_stop };
         stops = record {
-          once = stops_once begun led.to new.notes legal;
+          once = once;
           there = λ other. subst (λ h. has_stop h ≡ true) (sym r.same_notes) (r.noted (p.stop_noted other) notes_told);
-          caused = subst (λ n. StopsAreCaused ended n old.counts.accept new.counts.accept new.content new.notes) (sym count)
-              (stops_caused ended r.number old.counts.accept new.counts.accept new.content r.middle.notes new.notes daemons now_whole (r.rounds.no_stop told) turns_daemons
-              (stop_cause ended r.number old.counts.accept new.counts.accept new.content r.looped (r.why told) p.loop_wants p.loop_well));
-          clean = λ is. subst (λ n. IsHalted n new.content) (sym count) (well_halted ended r.number old.counts.accept new.counts.accept new.content r.looped (r.why told) (p.loop_well is));
+          caused = stops_caused seen options opened_at new.notes served.callers served.back ended old.counts.accept new.counts.accept new.content served.served up_to daemon_cause;
+          clean = clean;
         };
         ends = served_ends r.looped r.stopped r.shutting ended r.ended_is (λ e. IsShut e ⊎ ((e ≡ end.StopFault) ⊎ (e ≡ end.Memory))) (inl (inl refl)) (inr (inl refl)) (inl (inr refl)) (inr (inr refl));
         left = λ shut. at_clean r.shutting (Leaves led.to new.files) (p.shut_clean shut) (r.left files_told led.to led.stands.holds);
         others = only_files;
       }
 
+-- the same, where the moment of the opening is the first reading's
+pub has_run : {K : Type 0} (Told : Type 0) (told : Told) (tells_host tells_notes tells_files tells_readings : Bool) → IsTrue tells_notes → IsTrue tells_files → IsTrue tells_readings → (seen : Views K) (options : Options) (ended : ServeEnd)
+    (old new : Sight K) (opened : Scene) → Opened options old opened → (began : ℕ) → began ≡ moment_of old.coming 1
+    → RunsOn Told tells_host tells_notes tells_files tells_readings seen options began ended old.counts.accept new.counts.accept opened new.files new.notes new.coming new.counts.folder old.content new.content → HasRun seen options ended old new
+has_run Told told th tn tf tr notes_told files_told readings_told seen options ended old new opened o began is r =
+    ran_at Told told th tn tf tr notes_told files_told readings_told seen options ended old new opened o
+    (subst (λ n. RunsOn Told th tn tf tr seen options n ended old.counts.accept new.counts.accept opened new.files new.notes new.coming new.counts.folder old.content new.content) is r)
+
 -- the cause of an ending of a run that served
-pub run_caused : {K : Type 0} (Told : Type 0) (tells_host tells_notes tells_files tells_readings : Bool) (seen : Views K) (options : Options) (ended : ServeEnd) (old new : Sight K) (opened : Scene) (accept accept' : ℕ)
+pub run_caused : {K : Type 0} (Told : Type 0) (tells_host tells_notes tells_files tells_readings : Bool) (seen : Views K) (options : Options) (began : ℕ) (ended : ServeEnd) (old new : Sight K) (opened : Scene) (accept accept' : ℕ)
     → (IsTrue tells_files → FindsNames old.files) → (IsTrue tells_files → IsTrue tells_notes → HaveBytes old.files → Stood opened) → old.counts.folder ≤ opened.faults → opened.hall.stuck ≡ false
-    → RunsOn Told tells_host tells_notes tells_files tells_readings seen (limits_of options) ended old.counts.accept new.counts.accept opened new.files new.notes new.coming new.counts.folder old.content new.content
+    → RunsOn Told tells_host tells_notes tells_files tells_readings seen options began ended old.counts.accept new.counts.accept opened new.files new.notes new.coming new.counts.folder old.content new.content
     → IsCaused ended tells_files tells_notes old.files old.counts new.counts
-run_caused Told th tn tf tr seen options ended old new opened accept accept' found stood low unstuck r =
+run_caused Told th tn tf tr seen options began ended old new opened accept accept' found stood low unstuck r =
     let p = parts r.looped r.stopped r.shutting ended r.ended_is in
     served_ends r.looped r.stopped r.shutting ended r.ended_is (λ e. ended ≡ e → IsCaused e tf tn old.files old.counts new.counts) (λ is. found) (λ is told tells bytes. rose told tells bytes (at_fault r.last.hall.stuck r.last.faults new.counts.folder r.shutting (p.shut_fault is) r.shut_fails))
     (λ is. r.failed (p.loop_failed is)) (λ is. tt) refl

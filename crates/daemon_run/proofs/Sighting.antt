@@ -1,6 +1,6 @@
 -- What is seen of a host whose kit was lent for some work, and taken back.
 use Rattle.std.proofs.Common.{◌≡◌, ◌≤◌, inl, inr, ℕ, zero, suc, ◌+◌, ◌++◌, List, Bool, true, refl, sym, ◌∙◌, ap, subst, arith, length, map, Option, Some, None, option_map}
-use Rattle.std.specs.Prelude.{IfSome}
+use Rattle.std.specs.Prelude.{◌⊎◌, IfSome}
 use Rattle.std.specs.List.{AllByRecursion}
 use Rattle.nsq_base.specs.declared.options.Options.{Options}
 use Rattle.nsq_outside.specs.Files.{Files}
@@ -22,10 +22,10 @@ use Rattle.path_opening.specs.Opening.{FindsAgain, HaveBytes}
 use Rattle.daemon_loop.specs.Rounds.{IsHalted}
 use Rattle.daemon_loop.specs.Served.{UpTo, Views, ticks_of}
 use Rattle.daemon_run.specs.Asked.{StartsOnce}
-use Rattle.daemon_run.specs.Callers.{DaemonStops, HasStopCause, IsHandedBack, StopsAreCaused, failed, halted, wants}
+use Rattle.daemon_run.specs.Callers.{DaemonStops, HasCallersStop, HasStopCause, IsHandedBack, StopsAreCaused, failed, halted, wants}
 use Rattle.daemon_run.specs.Endings.{IsCaused}
 use Rattle.daemon_run.specs.Parts.{KeepsFaults}
-use Rattle.daemon_run.specs.Runs.{CountsFaults, HasRun, HasWorked, NoCaller, Runs, TellsHistory, limits_of}
+use Rattle.daemon_run.specs.Runs.{CountsFaults, HasRun, HasWorked, NoCaller, Runs, TellsHistory}
 use Rattle.daemon_run.specs.Sights.{Both, Sight, counts_of, sight, sight_of}
 use Rattle.daemon_run.specs.declared.ending.ServeEnd.{ServeEnd}
 use Rattle.daemon_run.proofs.Asking.{no_caller_then, same_callers}
@@ -59,8 +59,9 @@ module _ {K : Type 0} (ended : ServeEnd) (number a a0 a1 a2 : ℕ) (c d : HostCo
   stops_between (failed unclean r) = failed unclean (rose_wider a a0 a1 a2 low high r)
   stops_between (wants w) = wants w
 
-  cause_between : (n : ℕ) → HasStopCause ended number a0 a1 c n → HasStopCause ended number a a2 d n
-  cause_between zero s = stops_between s
+module _ {K : Type 0} (seen : Views K) (o : Options) (began : ℕ) (callers : List (Kind × List ℕ)) (back : List (ℕ × K)) (ended : ServeEnd) (a a0 a1 a2 : ℕ) (c d : HostContent K) (low : a ≤ a0) (high : a1 ≤ a2) (same : d.halted ≡ c.halted) where
+  cause_between : (n : ℕ) → HasStopCause seen o began callers back ended a0 a1 c n → HasStopCause seen o began callers back ended a a2 d n
+  cause_between zero s = stops_between ended (length callers) a a0 a1 a2 c d low high same s
   cause_between (suc n) s = s
 
 module _ {K : Type 0} (seen : Views K) (options : Options) (ended : ServeEnd) (a b c d : Sight K) (p : Before a b) (q : After c d) where
@@ -84,12 +85,19 @@ module _ {K : Type 0} (seen : Views K) (options : Options) (ended : ServeEnd) (a
         at_stop = λ is. subst (λ x. RoseBy (faults_apart x + 1) a.counts.folder d.counts.folder) (sym q.notes) (by_wider (faults_apart c.notes + 1) a.counts.folder b.counts.folder c.counts.folder d.counts.folder low high (f.at_stop is));
       }
 
-  caused_between : (number : ℕ) → StopsAreCaused ended number b.counts.accept c.counts.accept c.content c.notes → StopsAreCaused ended number a.counts.accept d.counts.accept d.content d.notes
-  caused_between number s =
-      let P : Entry × End → Type 0 = λ e. is_stop e.0.act ≡ true → HasStopCause ended number b.counts.accept c.counts.accept c.content e.0.conn in
-      let Q : Entry × End → Type 0 = λ e. is_stop e.0.act ≡ true → HasStopCause ended number a.counts.accept d.counts.accept d.content e.0.conn in
+  caused_between : (callers : List (Kind × List ℕ)) (back : List (ℕ × K)) → StopsAreCaused seen options (moment_of b.coming 1) callers back ended b.counts.accept c.counts.accept c.content c.notes
+      → StopsAreCaused seen options (moment_of a.coming 1) callers back ended a.counts.accept d.counts.accept d.content d.notes
+  caused_between callers back s =
+      let began : ℕ = moment_of a.coming 1 in
+      let P : Entry × End → Type 0 = λ e. is_stop e.0.act ≡ true → HasStopCause seen options began callers back ended b.counts.accept c.counts.accept c.content e.0.conn in
+      let Q : Entry × End → Type 0 = λ e. is_stop e.0.act ≡ true → HasStopCause seen options began callers back ended a.counts.accept d.counts.accept d.content e.0.conn in
       subst (λ x. AllByRecursion Q x) (sym q.notes)
-      (all_so P Q c.notes (λ e so is. cause_between ended number a.counts.accept b.counts.accept c.counts.accept d.counts.accept c.content d.content p.counts.accept q.counts.accept q.callers.halted e.0.conn (so is)) s)
+      (all_so P Q c.notes (λ e so is. cause_between seen options began callers back ended a.counts.accept b.counts.accept c.counts.accept d.counts.accept c.content d.content p.counts.accept q.counts.accept q.callers.halted e.0.conn (so is))
+      (subst (λ f. StopsAreCaused seen options (moment_of f 1) callers back ended b.counts.accept c.counts.accept c.content c.notes) p.coming s))
+
+  clean_between : (number : ℕ) → IsHalted number c.content ⊎ HasCallersStop c.notes → IsHalted number d.content ⊎ HasCallersStop d.notes
+  clean_between number (inl over) = inl (halted_between ended number a.counts.accept b.counts.accept c.counts.accept d.counts.accept c.content d.content p.counts.accept q.counts.accept q.callers.halted over)
+  clean_between number (inr stop) = inr (subst (λ x. HasCallersStop x) (sym q.notes) stop)
 
   run_between : HasRun seen options ended b c → HasRun seen options ended a d
   run_between r =
@@ -104,7 +112,7 @@ module _ {K : Type 0} (seen : Views K) (options : Options) (ended : ServeEnd) (a
           given = q.callers.given ∙ s.given ∙ ap (λ x. x ++ map (λ (c : Kind × List ℕ). c.0) s.callers) p.callers.given;
           returned = q.callers.back ∙ s.returned ∙ ap (λ x. x ++ s.back) p.callers.back;
           once = s.once;
-          served = subst (λ x. AllByRecursion (IsHandedBack seen (limits_of options) x s.callers) s.back) (sym q.notes) s.served;
+          served = subst (λ x. AllByRecursion (IsHandedBack seen options (moment_of a.coming 1) x s.callers) s.back) (sym q.notes) (subst (λ f. AllByRecursion (IsHandedBack seen options (moment_of f 1) c.notes s.callers) s.back) p.coming s.served);
           no_other = subst (λ x. UpTo (length s.callers) x) (sym q.notes) s.no_other;
           ticks = subst (λ x. length s.callers ≤ ticks_of x) (sym q.notes) s.ticks;
         };
@@ -113,10 +121,8 @@ module _ {K : Type 0} (seen : Views K) (options : Options) (ended : ServeEnd) (a
         stops = record {
           once = let t = r.stops in subst (λ x. stops_of x ≤ 1) (sym q.notes) t.once;
           there = λ other. let t = r.stops in subst (λ x. has_stop x ≡ true) (sym q.notes) (t.there other);
-          caused = let t = r.stops in caused_between (length s.callers) t.caused;
-          clean = λ is.
-              let t = r.stops in
-              halted_between ended (length s.callers) a.counts.accept b.counts.accept c.counts.accept d.counts.accept c.content d.content p.counts.accept q.counts.accept q.callers.halted (t.clean is);
+          caused = let t = r.stops in caused_between s.callers s.back t.caused;
+          clean = λ is. let t = r.stops in clean_between (length s.callers) (t.clean is);
         };
         ends = r.ends;
         left = λ shut. subst (λ f. Leaves r.to f) (sym q.files) (r.left shut);

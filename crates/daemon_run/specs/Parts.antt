@@ -1,9 +1,9 @@
 -- What the parts of a run do.
 use Rattle.std.specs.Prelude.{◌≡◌, ◌≤◌, ℕ, Bool, true, IsTrue}
+use Rattle.nsq_base.specs.declared.options.Options.{Options}
 use Rattle.nsq_outside.specs.Causes.{Rose}
 use Rattle.nsq_outside.specs.Files.{Files}
 use Rattle.nsq_outside.specs.Hosts.{HostContent, HostState}
-use Rattle.v2_frame.specs.declared.fault.Limits.{Limits}
 use Rattle.broker_history.specs.Entries.{History, has_stop}
 use Rattle.broker_history.specs.State.{State}
 use Rattle.floor_rooms.specs.Standing.{HoldsFor}
@@ -26,7 +26,7 @@ pub record KeepsFaults {F C J : Type 0} (old new : HostState F C J) : Type 0 whe
   pub tell : new.tell_faults ≡ old.tell_faults
 
 -- a floor that was opened served the callers, was stopped, and was shut, and what each of these did
-pub record RunsOn {K : Type 0} (Told : Type 0) (tells_host tells_notes tells_files tells_readings : Bool) (seen : Views K) (limits : Limits) (ended : ServeEnd) (accept accept' : ℕ) (opened : Scene) (files : Files) (notes : History) (coming : ℕ → ℕ) (faults : ℕ)
+pub record RunsOn {K : Type 0} (Told : Type 0) (tells_host tells_notes tells_files tells_readings : Bool) (seen : Views K) (o : Options) (began : ℕ) (ended : ServeEnd) (accept accept' : ℕ) (opened : Scene) (files : Files) (notes : History) (coming : ℕ → ℕ) (faults : ℕ)
     (content content' : HostContent K) : Type 0 where
   pub looped : LoopEnd
   pub stopped : Bool
@@ -34,8 +34,8 @@ pub record RunsOn {K : Type 0} (Told : Type 0) (tells_host tells_notes tells_fil
   pub ended_is : ended ≡ ending_of looped stopped shutting
   pub number : ℕ
   pub middle : Scene
-  pub rounds : Rounds Told tells_host tells_notes tells_files tells_readings seen limits number opened middle content content'
-  pub why : Told → WhyOver looped number accept accept' content'
+  pub rounds : Rounds Told tells_host tells_notes tells_files tells_readings seen o began number opened middle content content'
+  pub why : Told → WhyOver looped number accept accept' middle.notes content'
   pub failed : looped ≡ loop.Failed → Rose accept accept'
   pub last : Scene
   pub leads : Leads tells_notes tells_files tells_readings 0 middle last

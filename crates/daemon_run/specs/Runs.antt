@@ -1,8 +1,8 @@
 -- What a run of the daemon did, told by its kit and its host before and after.
-use Rattle.std.specs.Prelude.{◌≡◌, ◌≢◌, ◌⊎◌, ℕ, ◌+◌, ◌≤◌, true, [], length}
+use Rattle.std.specs.Prelude.{◌≡◌, ◌≢◌, ◌⊎◌, ℕ, ◌+◌, ◌≤◌, true, List, [], length}
 use Rattle.nsq_base.specs.declared.options.Options.{Options}
 use Rattle.nsq_outside.specs.Hosts.{HostContent}
-use Rattle.v2_frame.specs.declared.fault.Limits.{Limits}
+use Rattle.nsq_outside.specs.declared.host.Kind.{Kind}
 use Rattle.path_image.specs.Found.{Found, IsFound, Names}
 use Rattle.broker_history.specs.Entries.{faults_apart, faults_of, has_stop, stops_of}
 use Rattle.broker_history.specs.Found.{start}
@@ -15,15 +15,11 @@ use Rattle.path_closing.specs.Closings.{Leaves}
 use Rattle.daemon_loop.specs.Rounds.{IsHalted}
 use Rattle.daemon_loop.specs.Served.{Views}
 use Rattle.daemon_run.specs.Asked.{StartsOnce}
-use Rattle.daemon_run.specs.Callers.{ServesAll, StopsAreCaused, numbers_of, one_to}
+use Rattle.daemon_run.specs.Callers.{ServesAll, StopsAreCaused, HasCallersStop, numbers_of, one_to}
 use Rattle.daemon_run.specs.Endings.{status_of}
 use Rattle.daemon_run.specs.Sights.{Sight}
 use Rattle.daemon_run.specs.declared.ending.ServeEnd.{ServeEnd}
 use Rattle.daemon_run.specs.declared.ending.ServeEnd.TheVariants as end
-
--- the limits that the options set
-abbrev pub limits_of : Options → Limits
-limits_of options = record { msg = options.max_msg_size; body = options.max_body_size }
 
 -- no caller was given or handed back, and whether anybody will call is as before
 pub record NoCaller {K : Type 0} (old new : HostContent K) : Type 0 where
@@ -50,12 +46,12 @@ pub record CountsFaults {K : Type 0} (ended : ServeEnd) (old new : Sight K) : Ty
   pub at_stop : ended ≡ end.StopFault → RoseBy (faults_apart new.notes + 1) old.counts.folder new.counts.folder
 
 -- the history has one Stop at most, and one but where memory was wanting; it has its cause. A clean end comes only where nobody will call any more, or as many
--- called as there are numbers
-pub record Stops {K : Type 0} (ended : ServeEnd) (number : ℕ) (old new : Sight K) : Type 0 where
+-- called as there are numbers, or a caller's Stop stands in the history
+pub record Stops {K : Type 0} (seen : Views K) (options : Options) (began : ℕ) (callers : List (Kind × List ℕ)) (back : List (ℕ × K)) (ended : ServeEnd) (old new : Sight K) : Type 0 where
   pub once : stops_of new.notes ≤ 1
   pub there : ended ≢ end.Memory → has_stop new.notes ≡ true
-  pub caused : StopsAreCaused ended number old.counts.accept new.counts.accept new.content new.notes
-  pub clean : ended ≡ end.Clean → IsHalted number new.content
+  pub caused : StopsAreCaused seen options began callers back ended old.counts.accept new.counts.accept new.content new.notes
+  pub clean : ended ≡ end.Clean → IsHalted (length callers) new.content ⊎ HasCallersStop new.notes
 
 -- the floor was shut cleanly
 abbrev pub IsShut : ServeEnd → Type 0
@@ -65,10 +61,10 @@ IsShut ended = (ended ≡ end.Clean) ⊎ (ended ≡ end.AcceptFailed)
 pub record HasRun {K : Type 0} (seen : Views K) (options : Options) (ended : ServeEnd) (old new : Sight K) : Type 0 where
   pub to : State
   pub history : TellsHistory options old new to
-  pub callers : ServesAll seen (limits_of options) new.notes old.content new.content
+  pub callers : ServesAll seen options (moment_of old.coming 1) new.notes old.content new.content
   pub in_turn : numbers_of callers.back ≡ one_to (length callers.callers)
   pub faults : CountsFaults ended old new
-  pub stops : Stops ended (length callers.callers) old new
+  pub stops : Stops seen options (moment_of old.coming 1) callers.callers callers.back ended old new
   pub ends : IsShut ended ⊎ ((ended ≡ end.StopFault) ⊎ (ended ≡ end.Memory))
   pub left : IsShut ended → Leaves to new.files
   pub others : OnlyOpeningFiles old.files new.files

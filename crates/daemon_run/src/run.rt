@@ -9,7 +9,7 @@ ghost use Rattle.daemon_loop.specs.Served.{AllTell, ListenersFailedLast, OnlyCal
 ghost use Rattle.daemon_run.specs.Asked.{HasAsked};
 ghost use Rattle.daemon_run.specs.Endings.{IsCaused, IsComplete, status_of};
 ghost use Rattle.daemon_run.specs.Parts.{KeepsFaults, RunsOn};
-ghost use Rattle.daemon_run.specs.Runs.{HasWorked, Runs, limits_of};
+ghost use Rattle.daemon_run.specs.Runs.{HasWorked, Runs};
 ghost use Rattle.daemon_run.specs.Sights.{AllTold, Both, counts_of, sight};
 ghost use Rattle.daemon_run.specs.declared.ending.ServeEnd.TheVariants.{AcceptFailed};
 
@@ -25,10 +25,9 @@ use path_opening::{Refused, open};
 use std::alloc::Global;
 use std::str;
 use std::sync::Wait;
-use v2_frame::Limits;
 
 /// Serves with these options, each in its range: it starts the host at their addresses and data path, opens that, serves the callers, one after another, until
-/// nobody calls any more, stops, and shuts the data path. The host's kit is at home, and is again at the end.
+/// nobody calls any more or a caller stops it over HTTP, stops, and shuts the data path. The host's kit is at home, and is again at the end.
 ///
 /// The end `AcceptFailed` comes only where the count of the listeners' faults rose in the start or behind the last caller: a fault behind which
 /// further callers came is no cause of it.
@@ -104,7 +103,10 @@ fn work<R: Wait, H: Host<Entry>>(
     ensures listeners { IsTrue H.tells → result.0 ≡ AcceptFailed → ListenersFailedLast H.state H.content host.old host.new }
 {
     match open(alloc, kit, options) {
-        Ok(floor) => run(rt, alloc, options, host, floor),
+        Ok(floor) => {
+            let began = floor.began();
+            run(rt, alloc, options, began, host, floor)
+        }
         Err(refused) => {
             let Refused { why, kit } = refused;
             (refusal(why), kit)
@@ -112,11 +114,12 @@ fn work<R: Wait, H: Host<Entry>>(
     }
 }
 
-/// Serves the callers at an opened floor, stops it and shuts it.
+/// Serves the callers at an opened floor, stops it and shuts it. `began` is the moment of the opening, in nanoseconds.
 fn run<R: Wait, H: Host<Entry>>(
     rt: &R,
     alloc: Global,
     options: &Options,
+    began: u64,
     host: &mut H,
     floor: Floor<H::Folder, H::Clock, H::Journal>,
 ) -> (ServeEnd, Kit<H::Folder, H::Clock, H::Journal>)
@@ -124,7 +127,7 @@ fn run<R: Wait, H: Host<Entry>>(
     requires unflushed { floor.held.flushed ≡ false }
     requires empty { IsTrue H.Journal.tells_notes → H.Journal.notes floor.journal ≡ [] }
     ensures runs { RunsOn (AllTell H.tells H.Conn.tells_pieces H.Conn.tells_written H.Journal.tells_notes) H.tells H.Journal.tells_notes H.Folder.tells_files H.Clock.tells_readings
-        (views H.Conn.pieces H.Conn.left H.Conn.ended H.Conn.written H.Conn.read_faults H.Conn.write_faults) (limits_of options.now) result.0 (H.state host.old).accept_faults (H.state host.new).accept_faults
+        (views H.Conn.pieces H.Conn.left H.Conn.ended H.Conn.written H.Conn.read_faults H.Conn.write_faults) options.now began result.0 (H.state host.old).accept_faults (H.state host.new).accept_faults
         (scene floor.held.hall (H.Journal.notes floor.journal) (H.Folder.files floor.folder) (H.Folder.folder_faults floor.folder) (H.Clock.coming floor.clock))
         (H.Folder.files result.1.folder) (H.Journal.notes result.1.journal) (H.Clock.coming result.1.clock) (H.Folder.folder_faults result.1.folder) (H.content host.old) (H.content host.new) }
     ensures rest { IsTrue H.tells → OnlyCallersChange (H.content host.old) (H.content host.new) }
@@ -132,11 +135,7 @@ fn run<R: Wait, H: Host<Entry>>(
     ensures listeners { IsTrue H.tells → result.0 ≡ AcceptFailed → ListenersFailedLast H.state H.content host.old host.new }
 {
     let mut floor = floor;
-    let limits = Limits {
-        msg: options.max_msg_size,
-        body: options.max_body_size,
-    };
-    let looped = serve_callers(rt, alloc, limits, host, &mut floor);
+    let looped = serve_callers(rt, alloc, options, began, host, &mut floor);
     let stopped = stop(alloc, &mut floor);
     let (shutting, kit) = shut(alloc, floor);
     (ending_after(looped, stopped, shutting), kit)

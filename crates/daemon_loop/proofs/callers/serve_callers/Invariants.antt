@@ -9,7 +9,7 @@ abbrev pub invariant-callers : goal.invariant-callers
 invariant-callers g l = record {
   unflushed : l.floor.held.flushed ≡ false;
   rounds : Rounds (AllTell g.H.Dialer.tells g.H.Conn.Source.tells_pieces g.H.Conn.Sink.tells_written g.H.Journal.Journal.tells_notes) g.H.Dialer.tells g.H.Journal.Journal.tells_notes g.H.Folder.Folder.tells_files g.H.Clock.Clock.tells_readings
-      (views g.H.Conn.Source.pieces g.H.Conn.Source.left g.H.Conn.Source.ended g.H.Conn.Sink.written g.H.Conn.Source.read_faults g.H.Conn.Sink.write_faults) l.limits l.number
+      (views g.H.Conn.Source.pieces g.H.Conn.Source.left g.H.Conn.Source.ended g.H.Conn.Sink.written g.H.Conn.Source.read_faults g.H.Conn.Sink.write_faults) l.options l.began l.number
       (scene l.initial.floor.held.hall (g.H.Journal.Journal.notes l.initial.floor.journal) (g.H.Folder.Folder.files l.initial.floor.folder) (g.H.Folder.Folder.folder_faults l.initial.floor.folder) (g.H.Clock.Clock.coming l.initial.floor.clock))
       (scene l.floor.held.hall (g.H.Journal.Journal.notes l.floor.journal) (g.H.Folder.Folder.files l.floor.folder) (g.H.Folder.Folder.folder_faults l.floor.folder) (g.H.Clock.Clock.coming l.floor.clock))
       (g.H.Host.content l.initial.host) (g.H.Host.content l.host);

@@ -1,6 +1,6 @@
-use Rattle.std.proofs.Common.{◌++◌, ◌∙◌, ap, subst}
-use Rattle.broker_history.specs.Talk.{bytes_of}
+use Rattle.std.proofs.Common.{subst}
 use Rattle.daemon_loop.specs.Served.{Talks}
+use Rattle.daemon_loop.proofs.Exchanges.{stream_whole}
 use Rattle.daemon_loop.proofs.Handing.{cause_allows}
 use Rattle.daemon_loop.proofs.serving.serve_tcp.Goals as goal
 
@@ -12,5 +12,5 @@ returns-clause-served g c = λ pieces written tells fresh.
       talks = subst (λ n. Talks c.args.limits c.args.number (g.T.Turner.notes done.new.floor) (g.K.Source.pieces done.new.conn) (g.K.Sink.written done.new.conn) n (g.K.Sink.write_faults done.new.conn) done.result) fresh.no_write_fault
           (done.ensures.talks pieces written tells fresh.nothing_read fresh.nothing_written);
       cause = cause_allows done.result _ _ _ _ _ fresh.no_read_fault fresh.no_write_fault done.ensures.cause;
-      stream = done.ensures.stream pieces ∙ ap (λ x. bytes_of x ++ g.K.Source.left c.args.conn.now) fresh.nothing_read;
+      stream = stream_whole _ (g.K.Source.pieces done.new.conn) (g.K.Source.left c.args.conn.now) (g.K.Source.left done.new.conn) fresh.nothing_read (done.ensures.stream pieces);
     }

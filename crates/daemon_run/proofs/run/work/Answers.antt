@@ -16,14 +16,14 @@ returns-in-Ok-clause-worked g c = λ told bytes.
     let new = sight g.H.Journal.Journal.notes g.H.Folder.Folder.files g.H.Clock.Clock.coming g.H.Folder.Folder.folder_faults c.run.result.1 (g.H.Host.state c.run.new.host) (g.H.Host.content c.run.new.host) in
     inr (has_run _ (record { host = told.host; pieces = told.pieces; written = told.written; notes = told.notes }) _ _ _ _ told.notes told.files told.readings _ c.args.options.now c.run.result.0 old new _
     (opened c.args.options.now old _ (c.in-Ok.ensures.finds told.files bytes) (c.in-Ok.ensures.stands told.files) hall.stuck (c.in-Ok.ensures.moment told.readings) (c.in-Ok.ensures.coming told.readings)
-    (ap g.H.Journal.Journal.notes c.in-Ok.ensures.journal ∙ c.requires.empty told.notes) c.in-Ok.ensures.faults (c.in-Ok.ensures.files told.files)) c.run.ensures.runs)
+    (ap g.H.Journal.Journal.notes c.in-Ok.ensures.journal ∙ c.requires.empty told.notes) c.in-Ok.ensures.faults (c.in-Ok.ensures.files told.files)) _ (c.began-began.ensures ∙ hall.began_at ∙ c.in-Ok.ensures.moment told.readings) c.run.ensures.runs)
 
 pub returns-in-Ok-clause-cause : goal.returns-in-Ok-clause-cause
 returns-in-Ok-clause-cause g c =
     let old = sight g.H.Journal.Journal.notes g.H.Folder.Folder.files g.H.Clock.Clock.coming g.H.Folder.Folder.folder_faults c.args.kit (g.H.Host.state c.args.host.now) (g.H.Host.content c.args.host.now) in
     let new = sight g.H.Journal.Journal.notes g.H.Folder.Folder.files g.H.Clock.Clock.coming g.H.Folder.Folder.folder_faults c.run.result.1 (g.H.Host.state c.run.new.host) (g.H.Host.content c.run.new.host) in
     let hall = c.in-Ok.ensures.hall in
-    run_caused _ _ _ _ _ _ c.args.options.now c.run.result.0 old new _ (g.H.Host.state c.args.host.now).accept_faults (g.H.Host.state c.run.new.host).accept_faults c.in-Ok.ensures.found
+    run_caused _ _ _ _ _ _ c.args.options.now _ c.run.result.0 old new _ (g.H.Host.state c.args.host.now).accept_faults (g.H.Host.state c.run.new.host).accept_faults c.in-Ok.ensures.found
     (λ told tells bytes. stood c.args.options.now old _ (c.in-Ok.ensures.finds told bytes) (c.in-Ok.ensures.stands told) (ap g.H.Journal.Journal.notes c.in-Ok.ensures.journal ∙ c.requires.empty tells))
     c.in-Ok.ensures.faults hall.stuck c.run.ensures.runs
 

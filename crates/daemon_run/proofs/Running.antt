@@ -40,7 +40,7 @@ use Rattle.daemon_run.specs.declared.ending.ServeEnd.{ServeEnd}
 use Rattle.daemon_run.specs.declared.ending.ServeEnd.TheVariants as end
 use Rattle.daemon_run.proofs.Causes.{EndsWell, at_clean, at_fault, parts, rose_wider, served_ends}
 use Rattle.daemon_run.proofs.Numbering.{handed, numbered}
-use Rattle.daemon_run.proofs.Stopping.{callers_stop, has_stops, stop_stays, stops_caused}
+use Rattle.daemon_run.proofs.Stopping.{callers_stop, has_stops, stop_stays, stops_caused, stops_last}
 
 -- rises of counts
 by_wider : (n a a0 a1 a2 : ℕ) → a ≤ a0 → a1 ≤ a2 → RoseBy n a0 a1 → RoseBy n a a2
@@ -219,6 +219,7 @@ module _ {K : Type 0} (Told : Type 0) (told : Told) (tells_host tells_notes tell
           there = λ other. subst (λ h. has_stop h ≡ true) (sym r.same_notes) (r.noted (p.stop_noted other) notes_told);
           caused = stops_caused seen options opened_at new.notes served.callers served.back ended old.counts.accept new.counts.accept new.content served.served up_to daemon_cause;
           clean = clean;
+          last = stops_last r.middle.notes r.last.notes new.notes daemons r.stopped now_whole turns_whole (r.rounds.not_of_daemon notes_told) turns_daemons (r.adds notes_told);
         };
         ends = served_ends r.looped r.stopped r.shutting ended r.ended_is (λ e. IsShut e ⊎ ((e ≡ end.StopFault) ⊎ (e ≡ end.Memory))) (inl (inl refl)) (inr (inl refl)) (inl (inr refl)) (inr (inr refl));
         left = λ shut. at_clean r.shutting (Leaves led.to new.files) (p.shut_clean shut) (r.left files_told led.to led.stands.holds);

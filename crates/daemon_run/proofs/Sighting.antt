@@ -22,7 +22,7 @@ use Rattle.path_opening.specs.Opening.{FindsAgain, HaveBytes}
 use Rattle.daemon_loop.specs.Rounds.{IsHalted}
 use Rattle.daemon_loop.specs.Served.{UpTo, Views, ticks_of}
 use Rattle.daemon_run.specs.Asked.{StartsOnce}
-use Rattle.daemon_run.specs.Callers.{DaemonStops, HasCallersStop, HasStopCause, IsHandedBack, StopsAreCaused, failed, halted, wants}
+use Rattle.daemon_run.specs.Callers.{DaemonStops, HasCallersStop, HasStopCause, IsHandedBack, StopsAreCaused, StopsLast, failed, halted, wants}
 use Rattle.daemon_run.specs.Endings.{IsCaused}
 use Rattle.daemon_run.specs.Parts.{KeepsFaults}
 use Rattle.daemon_run.specs.Runs.{CountsFaults, HasRun, HasWorked, NoCaller, Runs, TellsHistory}
@@ -123,6 +123,7 @@ module _ {K : Type 0} (seen : Views K) (options : Options) (ended : ServeEnd) (a
           there = λ other. let t = r.stops in subst (λ x. has_stop x ≡ true) (sym q.notes) (t.there other);
           caused = let t = r.stops in caused_between s.callers s.back t.caused;
           clean = λ is. let t = r.stops in clean_between (length s.callers) (t.clean is);
+          last = let t = r.stops in subst (λ x. StopsLast x) (sym q.notes) t.last;
         };
         ends = r.ends;
         left = λ shut. subst (λ f. Leaves r.to f) (sym q.files) (r.left shut);

@@ -1,5 +1,5 @@
 -- The Stops of a history, and who asked for them.
-use Rattle.std.proofs.Common.{◌≡◌, ◌≤◌, ◌<◌, inl, inr, ℕ, zero, suc, ◌+◌, ◌==◌, ◌++◌, ◌∷◌, [], List, Bool, true, false, length, length-append, append_assoc, refl, sym, ◌∙◌, ap, subst, arith}
+use Rattle.std.proofs.Common.{◌≡◌, ◌⊎◌, ◌≤◌, ◌<◌, inl, inr, ℕ, zero, suc, ◌+◌, ◌==◌, ◌++◌, ◌∷◌, [], List, Bool, true, false, not, ◌&&◌, if◌then◌else◌, length, length-append, append_assoc, refl, sym, ◌∙◌, ap, subst, arith}
 use Rattle.std.specs.List.{AllByRecursion}
 use Rattle.std.proofs.lemmas.Bool.{eq-eqb, eqb-true, false≢true}
 use Rattle.nsq_base.specs.declared.options.Options.{Options}
@@ -13,9 +13,11 @@ use Rattle.broker_history.specs.declared.entry.Entry.{Entry}
 use Rattle.broker_history.specs.Entries.{History, has_stop, is_common, is_stop, own, stops_of}
 use Rattle.broker_history.proofs.Own.{own-append}
 use Rattle.daemon_loop.specs.Served.{AreServed, IsServed, NamesUpTo, UpTo, Views, limits_of}
+use Rattle.daemon_loop.specs.Stops.{AddsStop}
 use Rattle.daemon_loop.proofs.Halting.{served_no_stop}
 use Rattle.daemon_loop.proofs.Others.{stops-append}
-use Rattle.daemon_run.specs.Callers.{AsksStop, DaemonStops, HasCallersStop, HasStopCause, StopsAreCaused}
+use Rattle.daemon_run.specs.Callers.{AsksStop, DaemonStops, HasCallersStop, HasStopCause, IsOfStop, StopsAreCaused, StopsLast}
+use Rattle.turn_laws.specs.Laws.{IsOf}
 use Rattle.daemon_run.specs.declared.ending.ServeEnd.{ServeEnd}
 use Rattle.daemon_run.proofs.Requests.{exchange_stop, stop_form}
 
@@ -165,3 +167,30 @@ stop_stays h h' es whole s = record {
   is = s.is;
   of_caller = s.of_caller;
 }
+
+-- ---- that the daemon's own Stop stands last
+
+-- what joined the daemon's entries is its Stop
+own_stops : (own own' : History) (stopped : Bool) → own ≡ [] → AddsStop own own' stopped → AllByRecursion (λ (e : Entry × End). e.0.act ≡ Stop) own'
+own_stops own own' true none (inl same) = subst (λ h. AllByRecursion (λ (e : Entry × End). e.0.act ≡ Stop) h) (sym (same ∙ none)) tt
+own_stops own own' true none (inr j) = subst (λ h. AllByRecursion (λ (e : Entry × End). e.0.act ≡ Stop) h) (sym (j.whole ∙ ap (λ h. h ++ j.entry ∷ []) none)) (j.answers, tt)
+own_stops own own' false none same = subst (λ h. AllByRecursion (λ (e : Entry × End). e.0.act ≡ Stop) h) (sym (same ∙ none)) tt
+
+-- an entry of the daemon's turns is common, or its own, which is a Stop
+stands_last : (e : Entry × End) (rest : History) (mine common : Bool) → (e.0.conn == 0) ≡ mine → is_common e.0.act ≡ common → IsOf 0 e
+    → AllByRecursion (λ (x : Entry × End). x.0.act ≡ Stop) (if mine && not common then e ∷ rest else rest) → IsOfStop e × AllByRecursion (λ (x : Entry × End). x.0.act ≡ Stop) rest
+stands_last e rest true true m is of all = (inl is, all)
+stands_last e rest false true m is of all = (inl is, all)
+stands_last e rest true false m is of all = (inr (eqb-true e.0.conn 0 m, all.0), all.1)
+stands_last e rest false false m is (inl common) all = absurd (false≢true (sym is ∙ common))
+stands_last e rest false false m is (inr names) all = absurd (false≢true (sym m ∙ eq-eqb e.0.conn 0 names))
+
+of_stop : (h : History) → AllByRecursion (IsOf 0) h → AllByRecursion (λ (e : Entry × End). e.0.act ≡ Stop) (own 0 h) → AllByRecursion IsOfStop h
+of_stop [] of all = tt
+of_stop (e ∷ h) of all = let both = stands_last e (own 0 h) (e.0.conn == 0) (is_common e.0.act) refl refl of.0 all in (both.0, of_stop h of.1 both.1)
+
+pub stops_last : (middle last notes daemons : History) (stopped : Bool) → notes ≡ middle ++ daemons → last ≡ middle ++ daemons → own 0 middle ≡ [] → AllByRecursion (IsOf 0) daemons → AddsStop (own 0 middle) (own 0 last) stopped → StopsLast notes
+stops_last middle last notes daemons stopped whole last_whole none of adds =
+    let same : own 0 last ≡ own 0 daemons = ap (own 0) last_whole ∙ own-append 0 middle daemons ∙ ap (λ h. h ++ own 0 daemons) none in
+    let stops = own_stops (own 0 middle) (own 0 last) stopped none adds in
+    record { served = middle; stop = daemons; whole = whole; none = none; daemons = of_stop daemons of (subst (λ h. AllByRecursion (λ (e : Entry × End). e.0.act ≡ Stop) h) same stops) }

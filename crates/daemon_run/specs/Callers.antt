@@ -7,8 +7,9 @@ use Rattle.nsq_outside.specs.Hosts.{HostContent}
 use Rattle.nsq_outside.specs.declared.host.Kind.{Kind}
 use Rattle.nsq_outside.specs.declared.host.Kind.TheVariants.{Http}
 use Rattle.nsq_outside.specs.declared.journal.End.{End}
+use Rattle.broker_history.specs.declared.entry.Act.TheVariants.{Stop}
 use Rattle.broker_history.specs.declared.entry.Entry.{Entry}
-use Rattle.broker_history.specs.Entries.{History, is_stop}
+use Rattle.broker_history.specs.Entries.{History, is_stop, IsCommon, own}
 use Rattle.broker_history.specs.Talk.{bytes_of}
 use Rattle.http_wire.specs.declared.request.Request.{Request}
 use Rattle.http_wire.specs.Request.{IsRequest, Whole}
@@ -95,3 +96,15 @@ pub record HasCallersStop (h : History) : Type 0 where
   pub whole : h ≡ before ++ stop ∷ after
   pub is : is_stop stop.0.act ≡ true
   pub of_caller : 0 < stop.0.conn
+
+-- the entry is a common one, or the daemon's own Stop
+abbrev pub IsOfStop : Entry × End → Type 0
+IsOfStop e = IsCommon e ⊎ ((e.0.conn ≡ 0) × (e.0.act ≡ Stop))
+
+-- of the daemon's own entries none but its Stop stands in the history, and it stands behind those of all callers
+pub record StopsLast (h : History) : Type 0 where
+  pub served : History
+  pub stop : History
+  pub whole : h ≡ served ++ stop
+  pub none : own 0 served ≡ []
+  pub daemons : AllByRecursion IsOfStop stop

@@ -4,7 +4,7 @@ use Rattle.nsq_base.specs.declared.options.Options.{Options}
 use Rattle.nsq_outside.specs.Causes.{Rose}
 use Rattle.nsq_outside.specs.Files.{Files}
 use Rattle.nsq_outside.specs.Hosts.{HostContent, HostState}
-use Rattle.broker_history.specs.Entries.{History, has_stop}
+use Rattle.broker_history.specs.Entries.{has_stop, History, own}
 use Rattle.broker_history.specs.State.{State}
 use Rattle.floor_rooms.specs.Standing.{HoldsFor}
 use Rattle.floor_turns.specs.Leads.{Leads}
@@ -13,6 +13,7 @@ use Rattle.path_closing.specs.Closings.{Leaves, ShutChanges, ShutFails, WhereCle
 use Rattle.path_closing.specs.declared.shutting.ShutEnd.{ShutEnd}
 use Rattle.daemon_loop.specs.Rounds.{Rounds, WhyOver}
 use Rattle.daemon_loop.specs.Served.{Views}
+use Rattle.daemon_loop.specs.Stops.{AddsStop}
 use Rattle.daemon_loop.specs.declared.callers.LoopEnd.{LoopEnd}
 use Rattle.daemon_loop.specs.declared.callers.LoopEnd.TheVariants as loop
 use Rattle.daemon_run.specs.Endings.{ending_of}
@@ -39,6 +40,7 @@ pub record RunsOn {K : Type 0} (Told : Type 0) (tells_host tells_notes tells_fil
   pub failed : looped ≡ loop.Failed → Rose accept accept'
   pub last : Scene
   pub leads : Leads tells_notes tells_files tells_readings 0 middle last
+  pub adds : IsTrue tells_notes → AddsStop (own 0 middle.notes) (own 0 last.notes) stopped
   pub noted : stopped ≡ true → IsTrue tells_notes → has_stop last.notes ≡ true
   pub same_notes : notes ≡ last.notes
   pub same_coming : coming ≡ last.coming

@@ -15,7 +15,7 @@ use Rattle.path_closing.specs.Closings.{Leaves}
 use Rattle.daemon_loop.specs.Rounds.{IsHalted}
 use Rattle.daemon_loop.specs.Served.{Views}
 use Rattle.daemon_run.specs.Asked.{StartsOnce}
-use Rattle.daemon_run.specs.Callers.{ServesAll, StopsAreCaused, HasCallersStop, numbers_of, one_to}
+use Rattle.daemon_run.specs.Callers.{ServesAll, StopsAreCaused, StopsLast, HasCallersStop, numbers_of, one_to}
 use Rattle.daemon_run.specs.Endings.{status_of}
 use Rattle.daemon_run.specs.Sights.{Sight}
 use Rattle.daemon_run.specs.declared.ending.ServeEnd.{ServeEnd}
@@ -46,12 +46,13 @@ pub record CountsFaults {K : Type 0} (ended : ServeEnd) (old new : Sight K) : Ty
   pub at_stop : ended ≡ end.StopFault → RoseBy (faults_apart new.notes + 1) old.counts.folder new.counts.folder
 
 -- the history has one Stop at most, and one but where memory was wanting; it has its cause. A clean end comes only where nobody will call any more, or as many
--- called as there are numbers, or a caller's Stop stands in the history
+-- called as there are numbers, or a caller's Stop stands in the history. The daemon's own Stop stands behind the entries of all callers, and it has no other own entry
 pub record Stops {K : Type 0} (seen : Views K) (options : Options) (began : ℕ) (callers : List (Kind × List ℕ)) (back : List (ℕ × K)) (ended : ServeEnd) (old new : Sight K) : Type 0 where
   pub once : stops_of new.notes ≤ 1
   pub there : ended ≢ end.Memory → has_stop new.notes ≡ true
   pub caused : StopsAreCaused seen options began callers back ended old.counts.accept new.counts.accept new.content new.notes
   pub clean : ended ≡ end.Clean → IsHalted (length callers) new.content ⊎ HasCallersStop new.notes
+  pub last : StopsLast new.notes
 
 -- the floor was shut cleanly
 abbrev pub IsShut : ServeEnd → Type 0

@@ -20,6 +20,7 @@ returns-clause-runs g c =
       failed = c.serve_callers-looped.ensures.cause;
       last = scene end.held.hall (g.H.Journal.Journal.notes end.journal) (g.H.Folder.Folder.files end.folder) (g.H.Folder.Folder.folder_faults end.folder) (g.H.Clock.Clock.coming end.clock);
       leads = c.stop-stopped.ensures.leads.1;
+      adds = c.stop-stopped.ensures.adds;
       noted = c.stop-stopped.ensures.noted;
       same_notes = ap g.H.Journal.Journal.notes c.shut-shutting.ensures.journal;
       same_coming = ap g.H.Clock.Clock.coming c.shut-shutting.ensures.clock;

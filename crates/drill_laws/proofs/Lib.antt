@@ -1,0 +1,11 @@
+pub mod Sums
+pub mod Channels
+pub mod Topics
+pub mod States
+pub mod Acts
+pub mod Conserved
+pub mod Talking
+pub mod Replying
+pub mod Staying
+pub mod Closing
+pub mod Owning

@@ -1,0 +1,5 @@
+pub mod Counts
+pub mod Conserving
+pub mod Talking
+pub mod Replying
+pub mod Staying

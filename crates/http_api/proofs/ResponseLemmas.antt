@@ -1,5 +1,5 @@
 -- How a call is answered, by what was noted for it.
-use Rattle.std.proofs.Common.{◌≡◌, ◌⊎◌, ℕ, List, [], ◌∷◌, ◌++◌, refl, sym, ap, subst, ◌∙◌, inl, inr, Result, Ok, Err, IfOk, Option, Some, IsErr, false, true}
+use Rattle.std.proofs.Common.{◌≡◌, ◌⊎◌, ℕ, List, [], ◌∷◌, ◌++◌, refl, sym, ap, subst, ◌∙◌, inl, inr, Result, Ok, Err, IfOk, Option, Some, IsErr, Bool, false, true}
 use Rattle.nsq_base.specs.declared.memory.Memory.{Memory as NoMemory}
 use Rattle.nsq_base.specs.declared.options.Options.{Options}
 use Rattle.nsq_outside.specs.declared.journal.End.{End}
@@ -13,11 +13,13 @@ use Rattle.http_wire.specs.Request.{Whole, IsRequest}
 use Rattle.http_calls.specs.declared.answer.HttpAnswer.{HttpAnswer}
 use Rattle.http_calls.specs.declared.call.HttpCall.{HttpCall}
 use Rattle.http_calls.specs.declared.call.HttpCall.TheVariants as call
-use Rattle.http_calls.specs.Answers.{stop_answer}
+use Rattle.http_calls.specs.Answers.{publishes, answer_for, stop_answer}
 use Rattle.http_calls.specs.Calls.{call_for}
 use Rattle.http_exchange.specs.Exchange.{Answers, refused, alone, told, stopping, stopped, answer_alone, ListsBehindStop}
-use Rattle.http_api.specs.Noted.{IsStopped}
-use Rattle.http_api.specs.Responses.{IsTold, AnswersCall, IsWanting, RespondsTo}
+use Rattle.http_api.specs.declared.turns.Asked.{Asked}
+use Rattle.http_api.specs.declared.turns.Asked.TheVariants as asked
+use Rattle.http_api.specs.Noted.{AsksTo, IsStopped}
+use Rattle.http_api.specs.Responses.{told_answer, IsTold, AnswersCall, IsWanting, RespondsTo}
 use Rattle.http_api.proofs.ListLemmas.{lists_none}
 use Rattle.http_api.proofs.TurnLemmas.{stopped_lists}
 
@@ -35,6 +37,11 @@ module _ (began : ℕ) (c : HttpCall) (number : ℕ) (seen : History) where
   -- memory was wanting before anything was noted
   pub wants_none : own number seen ≡ [] → IsWanting began c (own number seen) × ListsBehindStop number seen
   wants_none none = (record { whole = own number seen; fits = inl none; noted = inl refl }, lists_none number seen none)
+
+-- what came of what was asked is answered so
+pub answers_told : (began : ℕ) (a : Ask) (publish : Bool) (number : ℕ) (seen : History) (came : Asked) → publish ≡ publishes a → AsksTo a number seen (Ok came) → AnswersCall began (call.Asks a) (own number seen) (told_answer publish began came) × ListsBehindStop number seen
+answers_told began a publish number seen (asked.Said said) is n = (inl (record { said = said; asks = n.0; is = ap (λ (p : Bool). answer_for p began said) is }), n.1)
+answers_told began a publish number seen asked.Stopping is n = (inr (n.0, refl), n.1)
 
 -- memory was wanting for the names behind a Stop
 wants_listed : (began : ℕ) (h : History) → IsStopped h → IsWanting began call.Stops h

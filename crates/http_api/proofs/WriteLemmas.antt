@@ -1,6 +1,7 @@
 -- Bytes that are written in several goes.
-use Rattle.std.proofs.Common.{ℕ, Bool, true, false, ◌≡◌, ◌++◌, ◌+◌, ◌-◌, List, sym, ◌∙◌, ap, arith, take, drop, length, take-add, append_assoc, length-drop, take_all}
-use Rattle.http_api.specs.Written.{WritesFirst, WritesAll}
+use Rattle.std.proofs.Common.{ℕ, Bool, true, false, ◌≡◌, ◌++◌, ◌+◌, ◌-◌, List, sym, ◌∙◌, ap, arith, take, drop, length, take-add, append_assoc, length-drop, take_all, refl, inl, inr}
+use Rattle.nsq_outside.specs.Causes.{Rose}
+use Rattle.http_api.specs.Written.{WritesFirst, WritesAll, WritesUnlessFault}
 
 -- a front of what was left to write joins what was written
 pub one_more : (at n : ℕ) (s old mid new : List ℕ) → mid ≡ old ++ take at s → new ≡ mid ++ take n (take (length s - at) (drop at s)) → new ≡ old ++ take (at + n) s
@@ -12,3 +13,8 @@ one_more at n s old mid new e p =
 pub some_first : (bytes written written' : List ℕ) (all : Bool) → WritesAll bytes written written' all → WritesFirst bytes written written'
 some_first bytes written written' true w = (length bytes, w ∙ ap (λ x. written ++ x) (sym (take_all (length bytes) bytes (omega arith))))
 some_first bytes written written' false w = w
+
+-- where not all were, a write failed
+pub all_unless_fault : (bytes written written' : List ℕ) (all : Bool) (before now : ℕ) → WritesAll bytes written written' all → (all ≡ false → Rose before now) → WritesUnlessFault bytes written written' before now
+all_unless_fault bytes written written' true before now w rose = inl w
+all_unless_fault bytes written written' false before now w rose = inr (rose refl)

@@ -1,6 +1,7 @@
 -- What is written to a caller, whole or in part.
-use Rattle.std.specs.Prelude.{◌≡◌, ℕ, Bool, true, false, List, ◌++◌, take, Result, Ok, Err}
+use Rattle.std.specs.Prelude.{◌≡◌, ◌⊎◌, ℕ, Bool, true, false, List, ◌++◌, take, Result, Ok, Err}
 use Rattle.nsq_base.specs.declared.memory.Memory.{Memory as NoMemory}
+use Rattle.nsq_outside.specs.Causes.{Rose}
 use Rattle.http_calls.specs.declared.answer.HttpAnswer.{HttpAnswer}
 use Rattle.http_calls.specs.declared.refusal.Refusal.TheVariants.{OutOfMemory}
 use Rattle.http_calls.specs.Refusals.{refused_answer}
@@ -20,6 +21,10 @@ WritesFirst bytes written written' = (count : ℕ) × (written' ≡ written ++ t
 abbrev pub WritesAll : (bytes written written' : List ℕ) → (all : Bool) → Type 0
 WritesAll bytes written written' true = written' ≡ written ++ bytes
 WritesAll bytes written written' false = WritesFirst bytes written written'
+
+-- all these bytes were written, or a write failed
+abbrev pub WritesUnlessFault : (bytes written written' : List ℕ) → (write_faults write_faults' : ℕ) → Type 0
+WritesUnlessFault bytes written written' write_faults write_faults' = (written' ≡ written ++ bytes) ⊎ Rose write_faults write_faults'
 
 -- an answer was written whole; or in part, or for want of memory the answer for that in part
 abbrev pub Sends : HttpAnswer → (written written' : List ℕ) → EndedHttp → Type 0

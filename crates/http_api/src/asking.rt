@@ -5,7 +5,7 @@ ghost use Rattle.desk.specs.Calls.{CanAsk};
 ghost use Rattle.http_wire.specs.Answer.{IsStatus};
 ghost use Rattle.http_calls.specs.declared.call.HttpCall.TheVariants as call;
 ghost use Rattle.http_calls.specs.Calls.{call_for};
-ghost use Rattle.http_api.specs.Responses.{RespondsTo};
+ghost use Rattle.http_api.specs.Responses.{told_answer, RespondsTo};
 
 use crate::turns::{Asked, ask, stop};
 use broker_history::Ask;
@@ -61,8 +61,21 @@ fn respond_to_ask<R: Wait, D: Desk>(
     ensures leads { D.leads desk.old desk.new }
 {
     let publish = publishes(&asked);
-    let answered = ask(rt, alloc, number, desk, asked)?;
-    match answered {
+    let told = ask(rt, alloc, number, desk, asked)?;
+    told_answer(alloc, publish, began, told)
+}
+
+/// The answer by what came of what was asked: by what is said, or that the daemon stops.
+fn told_answer(
+    alloc: Global,
+    publish: bool,
+    began: u64,
+    told: Asked,
+) -> Result<HttpAnswer, Memory>
+    ensures value { IfOk result (λ answer. answer ≡ told_answer publish began told) }
+    ensures status { IfOk result (λ answer. IsStatus answer.status) }
+{
+    match told {
         Asked::Said(said) => answer_to(alloc, publish, began, &said),
         Asked::Stopping => Refusal::Stopping.answer(alloc),
     }

@@ -3,7 +3,7 @@ ghost use Rattle.nsq_outside.specs.Causes.{Rose};
 ghost use Rattle.http_wire.specs.Answer.{IsStatus};
 ghost use Rattle.http_exchange.specs.declared.ended.EndedHttp.TheVariants.{Memory as OutOfMemory};
 ghost use Rattle.http_exchange.specs.Exchange.{HasCause};
-ghost use Rattle.http_api.specs.Written.{memory_bytes, WritesFirst, WritesAll, Sends, Finishes};
+ghost use Rattle.http_api.specs.Written.{memory_bytes, WritesFirst, WritesAll, WritesUnlessFault, Sends, Finishes};
 
 use http_calls::HttpAnswer;
 use http_exchange::EndedHttp;
@@ -60,6 +60,7 @@ fn send<R: Wait, K: Conn>(rt: &R, alloc: Global, conn: &mut K, answer: &HttpAnsw
 /// Writes the answer for want of memory, which takes no memory, whole unless a write fails, and answers Memory.
 pub(crate) fn give_up<R: Wait, K: Conn>(rt: &R, conn: &mut K) -> EndedHttp
     ensures told { IsTrue K.tells_written → WritesFirst memory_bytes (K.written conn.old) (K.written conn.new) }
+    ensures whole { IsTrue K.tells_written → WritesUnlessFault memory_bytes (K.written conn.old) (K.written conn.new) (K.write_faults conn.old) (K.write_faults conn.new) }
     ensures memory { result ≡ OutOfMemory }
     ensures write_faults { K.write_faults conn.old ≤ K.write_faults conn.new }
     ensures read_faults { K.read_faults conn.old ≤ K.read_faults conn.new }

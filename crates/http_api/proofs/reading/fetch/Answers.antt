@@ -22,7 +22,7 @@ returns-else-is_err-clause-came g c = λ o told tells r opens.
     let piece = take c.in-Got.count into in
     let some : 0 < length piece = omega (arith, length-take c.in-Got.count into, c.in-Got.ensures.amount, c.args.intake.now.whole, c.get.auto.into) in
     let few : length piece ≤ 16384 = omega (arith, length-take c.in-Got.count into, c.in-Got.ensures.amount, c.args.intake.now.whole, c.get.auto.into) in
-    let fed = fed_front c.args.intake.now.reader c.feed.new.self c.args.intake.now.piece.len _ into _ c.in-Got.count c.feed.result c.deref.ensures.value (omega (arith, c.get.auto.into, c.deref_mut.ensures.len)) c.feed.ensures.ok
+    let fed = fed_front c.args.intake.now.reader c.feed.new.self c.args.intake.now.piece.len c.deref.result.now into _ c.in-Got.count c.feed.result c.deref.ensures.value (omega (arith, c.get.auto.into, c.deref_mut.ensures.len)) c.feed.ensures.ok
         (sym c.is_err.ensures.value ∙ c.if-is_err.false) in
     reads_next o c.args.number _ _ _ _ _ r opens piece some few (c.in-Got.ensures.told told).0 c.feed.new.self fed
 

@@ -66,12 +66,7 @@ fn respond_to_ask<R: Wait, D: Desk>(
 }
 
 /// The answer by what came of what was asked: by what is said, or that the daemon stops.
-fn told_answer(
-    alloc: Global,
-    publish: bool,
-    began: u64,
-    told: Asked,
-) -> Result<HttpAnswer, Memory>
+fn told_answer(alloc: Global, publish: bool, began: u64, told: Asked) -> Result<HttpAnswer, Memory>
     ensures value { IfOk result (λ answer. answer ≡ told_answer publish began told) }
     ensures status { IfOk result (λ answer. IsStatus answer.status) }
 {

@@ -14,7 +14,8 @@ use std::alloc::Global;
 use std::sync::Wait;
 
 /// The answer 503 `OUT_OF_MEMORY`, which is written where there is no memory to make one.
-const MEMORY_ANSWER: &[u8] = b"HTTP/1.1 503 Service Unavailable\r\nContent-Type: application/json; charset=utf-8\r\nContent-Length: 27\r\nConnection: close\r\n\r\n{\"message\":\"OUT_OF_MEMORY\"}";
+const MEMORY_ANSWER: &[u8] =
+    b"HTTP/1.1 503 Service Unavailable\r\nContent-Type: application/json; charset=utf-8\r\nContent-Length: 27\r\nConnection: close\r\n\r\n{\"message\":\"OUT_OF_MEMORY\"}";
 
 /// Writes the answer, or where memory was wanting for it the one that says so, and says how the connection ended.
 pub(crate) fn finish<R: Wait, K: Conn>(
@@ -48,7 +49,15 @@ fn send<R: Wait, K: Conn>(rt: &R, alloc: Global, conn: &mut K, answer: &HttpAnsw
     ensures left { K.left conn.new ≡ K.left conn.old }
 {
     let mut out = Vec::new(alloc);
-    if write_answer(alloc, answer.status, answer.json, answer.body.bytes(), &mut out).is_err() {
+    if write_answer(
+        alloc,
+        answer.status,
+        answer.json,
+        answer.body.bytes(),
+        &mut out,
+    )
+    .is_err()
+    {
         return give_up(rt, conn);
     }
     if !write_all(rt, conn, &out) {

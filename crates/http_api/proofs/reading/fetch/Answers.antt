@@ -1,4 +1,4 @@
-use Rattle.std.proofs.Common.{◌≤◌, ◌<◌, ◌∙◌, sym, subst, take, length, length-take, arith}
+use Rattle.std.proofs.Common.{◌≤◌, ◌<◌, ◌∙◌, sym, subst, take, drop, length, length-take, arith}
 use Rattle.http_exchange.specs.declared.ended.EndedHttp.{EndedHttp}
 use Rattle.http_api.specs.declared.reading.Came.TheVariants.{Over}
 use Rattle.http_api.specs.Comings.{ComesTo}
@@ -22,9 +22,9 @@ returns-else-is_err-clause-came g c = λ o told tells r opens.
     let piece = take c.in-Got.count into in
     let some : 0 < length piece = omega (arith, length-take c.in-Got.count into, c.in-Got.ensures.amount, c.args.intake.now.whole, c.get.auto.into) in
     let few : length piece ≤ 16384 = omega (arith, length-take c.in-Got.count into, c.in-Got.ensures.amount, c.args.intake.now.whole, c.get.auto.into) in
-    let fed = fed_front c.args.intake.now.reader c.feed.new.self c.args.intake.now.piece.len c.deref.result.now into _ c.in-Got.count c.feed.result c.deref.ensures.value (omega (arith, c.get.auto.into, c.deref_mut.ensures.len)) c.feed.ensures.ok
-        (sym c.is_err.ensures.value ∙ c.if-is_err.false) in
-    reads_next o c.args.number _ _ _ _ _ r opens piece some few (c.in-Got.ensures.told told).0 c.feed.new.self fed
+    let fed = fed_front c.args.intake.now.reader c.feed.new.self c.args.intake.now.piece.len c.deref.result.now into (drop (length into) c.args.intake.now.piece.items) c.in-Got.count c.feed.result c.deref.ensures.value (omega (arith, c.get.auto.into, c.deref_mut.ensures.len)) c.feed.ensures.ok
+    (sym c.is_err.ensures.value ∙ c.if-is_err.false) in
+    reads_next o c.args.number (g.K.Source.pieces c.args.conn.now) (g.K.Source.pieces c.get.new.conn) (g.D.Desk.seen c.args.desk.now) c.args.intake.now.reader c.args.intake.now.begun r opens piece some few (c.in-Got.ensures.told told).0 c.feed.new.self fed
 
 pub returns-else-is_err-clause-stream : goal.returns-else-is_err-clause-stream
 returns-else-is_err-clause-stream g c = λ told. let reads = c.in-Got.ensures.told told in read_stream _ _ _ _ (take c.in-Got.count c.get.new.into) reads.0 reads.1

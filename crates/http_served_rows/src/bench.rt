@@ -1,7 +1,6 @@
-//! A floor in memory with its clock and its options: the turns of clients and the daemon, and callers that are served at it.
+//! A floor in memory with its clock and its setting: the turns of clients and the daemon, and callers that are served at it.
 
 ghost use Rattle.std.specs.Prelude.{◌<◌, IfOk, IfSome};
-ghost use Rattle.nsq_base.specs.Options.{IsInRange};
 ghost use Rattle.desk.specs.Calls.{CanCall};
 
 use crate::conn::SlowConn;
@@ -10,7 +9,7 @@ use crate::setting::{Setting, options_of};
 use desk::{Call, FloorDesk, Turned, Turner};
 use http_api::serve_http;
 use http_exchange::EndedHttp;
-use nsq_base::{Memory, Options};
+use nsq_base::Memory;
 use std::alloc::Global;
 use std::sync::Wait;
 use std::sync::atomic::{AtomicU64, Ordering};
@@ -25,17 +24,16 @@ const LIMITS: Limits = Limits {
 // More than the messages of any client.
 const MANY: usize = 100;
 
-/// A floor in memory, its clock and its options.
+/// A floor in memory, its clock, and what it was opened with.
 #[derive(Drop)]
 pub struct Bench<'a> {
     alloc: Global,
     floor: MemFloor<'a>,
     clock: &'a AtomicU64,
-    options: Options,
+    setting: Setting,
     // The number of the next caller.
     number: u64,
     ghost counted: { 0 < number },
-    ghost in_range: { IsInRange options },
 }
 
 /// A floor over an empty folder, opened as a setting says; its clock is this.
@@ -51,7 +49,7 @@ pub fn bench_of<'a>(
         alloc,
         floor,
         clock,
-        options,
+        setting,
         number: 1_000,
     })
 }
@@ -95,7 +93,8 @@ impl Bench<'_> {
     }
 
     /// Serves a caller.
-    pub fn serve<R: Wait>(&mut self, rt: &R, conn: &mut SlowConn) -> EndedHttp {
+    pub fn serve<R: Wait>(&mut self, rt: &R, conn: &mut SlowConn) -> Result<EndedHttp, Memory> {
+        let options = options_of(self.alloc, self.setting)?;
         let number = self.number;
         self.number = number.saturating_add(1);
         let began = self.floor.began();
@@ -104,15 +103,7 @@ impl Bench<'_> {
             number,
             wanted: 0,
         };
-        serve_http(
-            rt,
-            self.alloc,
-            number,
-            conn,
-            &mut desk,
-            &self.options,
-            began,
-        )
+        Ok(serve_http(rt, self.alloc, number, conn, &mut desk, &options, began))
     }
 }
 

@@ -81,7 +81,7 @@ fn is_served<R: Wait>(
     let mut wanted = Vec::new(alloc);
     put_gets(&mut wanted, caller.gets)?;
     let mut conn = conn_of(alloc, caller, pieces)?;
-    let ended = bench.serve(rt, &mut conn);
+    let ended = bench.serve(rt, &mut conn)?;
     got.clear();
     put(got, conn.written())?;
     Ok(ended == caller.ended && got.as_slice() == wanted.as_slice())

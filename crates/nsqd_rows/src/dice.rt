@@ -58,6 +58,42 @@ static HANDLINGS: [(&[u8], &[u8]); 6] = [
     (b"REQ ", b" 500\n"),
 ];
 
+// What a caller of HTTP sends. Most of it fits somewhere.
+static REQUESTS: [&[u8]; 32] = [
+    b"POST /pub?topic=t HTTP/1.1\r\nContent-Length: 1\r\n\r\nx",
+    b"POST /pub?topic=t HTTP/1.1\r\nHost: h\r\nContent-Length: 2\r\n\r\nyy",
+    b"POST /pub?topic=u%23ephemeral HTTP/1.1\r\nContent-Length: 1\r\n\r\nx",
+    b"POST /pub?topic=t&defer=0 HTTP/1.1\r\nContent-Length: 1\r\n\r\nd",
+    b"POST /pub?topic=t&defer=300 HTTP/1.1\r\nContent-Length: 1\r\n\r\nd",
+    b"POST /mpub?topic=t HTTP/1.1\r\nContent-Length: 5\r\n\r\naa\n\nb",
+    b"POST /mpub?topic=t&binary=true HTTP/1.1\r\nContent-Length: 15\r\n\r\n\0\0\0\x02\0\0\0\x02aa\0\0\0\x01b",
+    b"GET /stats?format=json HTTP/1.1\r\n\r\n",
+    b"GET /stats?format=json HTTP/1.0\r\n\r\n",
+    b"GET /stats?format=json&topic=t&channel=a HTTP/1.1\r\n\r\n",
+    b"POST /topic/create?topic=t HTTP/1.1\r\n\r\n",
+    b"POST /channel/create?topic=t&channel=a HTTP/1.1\r\n\r\n",
+    b"POST /channel/create?topic=t&channel=b%23ephemeral HTTP/1.1\r\n\r\n",
+    b"POST /topic/pause?topic=t HTTP/1.1\r\n\r\n",
+    b"POST /topic/unpause?topic=t HTTP/1.1\r\n\r\n",
+    b"POST /channel/pause?topic=t&channel=a HTTP/1.1\r\n\r\n",
+    b"POST /channel/unpause?topic=t&channel=a HTTP/1.1\r\n\r\n",
+    b"POST /topic/empty?topic=t HTTP/1.1\r\n\r\n",
+    b"POST /channel/empty?topic=t&channel=a HTTP/1.1\r\n\r\n",
+    b"POST /channel/delete?topic=t&channel=a HTTP/1.1\r\n\r\n",
+    b"POST /topic/delete?topic=t HTTP/1.1\r\n\r\n",
+    b"POST /stop HTTP/1.1\r\n\r\n",
+    b"POST /stop HTTP/1.1\r\n\r\nGET /ping HTTP/1.1\r\n\r\n",
+    b"GET /ping HTTP/1.1\r\n\r\n",
+    b"GET /info HTTP/1.1\r\n\r\n",
+    b"GET /x HTTP/1.1\r\n\r\n",
+    b"GET /pub?topic=t HTTP/1.1\r\n\r\n",
+    b"POST /pub?topic=t HTTP/1.1\r\n\r\n",
+    b"POST /pub?topic=t HTTP/1.1\r\nContent-Length: 3\r\n\r\nxy",
+    b"POST /pub?topic=t HTTP/1.1\r\nTransfer-Encoding: chunked\r\n\r\n1\r\nx\r\n0\r\n\r\n",
+    b"POST /pub?topic=t HTTP/1.1\r\nContent-Length: 1073741824\r\n\r\nx",
+    b"  V2PUB t\n\0\0\0\x01x\n\n",
+];
+
 const DIGITS: &[u8] = b"0123456789abcdef";
 
 impl Dice {
@@ -100,6 +136,11 @@ impl Dice {
             self.add_command(&mut bytes, epoch)?;
         }
         Ok(bytes)
+    }
+
+    /// What a caller of HTTP sends, as bytes.
+    pub fn request(&mut self, alloc: Global) -> Result<Vec<u8>, Memory> {
+        Ok(Vec::from_slice(alloc, self.text(&REQUESTS))?)
     }
 
     fn add_command(&mut self, bytes: &mut Vec<u8>, epoch: u64) -> Result<(), Memory> {

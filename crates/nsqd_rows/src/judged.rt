@@ -1,6 +1,9 @@
-//! The plain programs' judgement: what an opening finds in files, whether a run's entries are legal behind that, whether each caller had a conversation,
-//! and whether all was kept.
+//! The plain programs' judgement: what an opening finds in files, whether a run's entries are legal behind that, whether each caller had a conversation or
+//! an exchange, and whether all was kept.
 
+ghost use Rattle.nsq_base.specs.Options.{IsInRange};
+
+use crate::exchanges::is_exchange;
 use crate::hosts::Outcome;
 use broker_files::{Finding, FoundNames, found, is_all_left, start};
 use broker_history::{Ended, Entry};
@@ -140,14 +143,18 @@ fn one_leaves(alloc: Global, states: &[State], names: &FoundNames) -> Result<boo
     Ok(false)
 }
 
-/// Whether the caller at this place was handed back under its number: one of TCP had a conversation that ended in one of these ways, and of one of HTTP
-/// nothing was read, nothing was written to it, and it has no conversation.
+/// Whether the caller at this place was handed back under its number: one of TCP had a conversation that ended in one of these ways, one of HTTP an
+/// exchange.
 pub fn is_served(
     alloc: Global,
+    options: &Options,
+    began: u64,
     outcome: &Outcome,
     place: usize,
     endings: &[Ended],
-) -> Result<bool, Memory> {
+) -> Result<bool, Memory>
+    requires { IsInRange options.now }
+{
     let Some((number, kind, conn)) = outcome.caller(place) else {
         return Ok(false);
     };
@@ -156,18 +163,8 @@ pub fn is_served(
     }
     match kind {
         Kind::Tcp => is_talk(alloc, outcome, number, conn, endings),
-        Kind::Http => Ok(is_untouched(outcome, number, conn)),
+        Kind::Http => is_exchange(alloc, options, began, outcome, number, conn),
     }
-}
-
-// Whether nothing came of a connection.
-fn is_untouched(outcome: &Outcome, number: u64, conn: &MemConn) -> bool {
-    for (entry, _) in outcome.entries() {
-        if entry.conn == number {
-            return false;
-        }
-    }
-    conn.pieces_read().is_empty() && conn.bytes_written().is_empty()
 }
 
 // Whether what a connection sent, its entries and what it got are a conversation that ended in one of these ways.

@@ -8,6 +8,8 @@
 #[cfg(test)]
 mod dice;
 #[cfg(test)]
+mod exchanges;
+#[cfg(test)]
 mod files;
 #[cfg(test)]
 mod hosts;

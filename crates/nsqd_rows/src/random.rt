@@ -1,15 +1,18 @@
-//! Random runs: five callers with commands that fit and that don't, cut anywhere, over a folder and connections that fail at random, and then a second such run on
-//! the folder. What each run noted is legal, each caller had a conversation, and where the status was 0 all that was left is found.
+//! Random runs: five callers of both kinds with commands and requests that fit and that don't, cut anywhere, over a folder and connections that fail at random,
+//! and then a second such run on the folder. What each run noted is legal, each caller had a conversation or an exchange, and where the status was 0 all that was
+//! left is found. Nobody is served behind a caller that stops the daemon.
+
+ghost use Rattle.nsq_base.specs.Options.{IsInRange};
 
 use crate::dice::Dice;
 use crate::files::folder_of;
 use crate::hosts::{Given, Outcome, run_with};
 use crate::judged::{Judged, is_served, judge};
 use crate::setting::{DEFAULTS, SECOND, Setting, options_of, words_of};
-use broker_history::Ended;
-use nsq_base::Memory;
+use broker_history::{Act, Ended, Entry};
+use nsq_base::{Memory, Options};
 use nsq_fakes::MemConn;
-use nsq_outside::Kind;
+use nsq_outside::{End, Kind};
 use queue_plain::NamedFile;
 use std::alloc::Global;
 use std::sync::Wait;
@@ -41,7 +44,11 @@ static SETTINGS: [Setting; 3] = [
         timeout: SECOND,
         ..DEFAULTS
     },
-    DEFAULTS,
+    Setting {
+        words: &["--http-stop"],
+        stops: true,
+        ..DEFAULTS
+    },
 ];
 
 // A seed's dice, and what its runs are given.
@@ -62,16 +69,24 @@ fn seed_of(number: u64) -> Seed {
 }
 
 fn caller_of(alloc: Global, dice: &mut Dice, epoch: u64) -> Result<(Kind, MemConn), Memory> {
-    let kind = if dice.below(10) == 0 {
+    let kind = if dice.below(5) < 2 {
         Kind::Http
     } else {
         Kind::Tcp
     };
-    let bytes = dice.stream(alloc, epoch)?;
+    let bytes = bytes_of(alloc, dice, kind, epoch)?;
     let pieces = dice.pieces(alloc, &bytes)?;
     let reads = dice.failing(alloc)?;
     let writes = dice.failing(alloc)?;
     Ok((kind, MemConn::new(alloc, pieces, reads, writes)?))
+}
+
+// What a caller of this kind sends.
+fn bytes_of(alloc: Global, dice: &mut Dice, kind: Kind, epoch: u64) -> Result<Vec<u8>, Memory> {
+    match kind {
+        Kind::Tcp => dice.stream(alloc, epoch),
+        Kind::Http => dice.request(alloc),
+    }
 }
 
 fn callers_of(alloc: Global, dice: &mut Dice, epoch: u64) -> Result<Vec<(Kind, MemConn)>, Memory> {
@@ -124,8 +139,9 @@ fn outcome_wrong(
     files: &mut Vec<NamedFile>,
     outcome: Outcome,
 ) -> Result<Option<&'static str>, Memory> {
-    let shown = shown_wrong(alloc, seed, &outcome)?;
-    let judged = judged(alloc, seed, began, files, &outcome)?;
+    let options = options_of(alloc, seed.setting)?;
+    let shown = shown_wrong(alloc, &options, seed, began, &outcome)?;
+    let judged = judge(alloc, &options, began, files, &outcome)?;
     *files = outcome.leave(alloc)?;
     if shown.is_some() {
         return Ok(shown);
@@ -136,39 +152,45 @@ fn outcome_wrong(
 // What is wrong with the status of a run of a seed, or with its callers.
 fn shown_wrong(
     alloc: Global,
+    options: &Options,
     seed: &Seed,
+    began: u64,
     outcome: &Outcome,
-) -> Result<Option<&'static str>, Memory> {
+) -> Result<Option<&'static str>, Memory>
+    requires { IsInRange options.now }
+{
     if !is_status(seed, outcome.status) {
         return Ok(Some("the status"));
     }
-    let served = if outcome.has_opened() { CALLERS } else { 0 };
-    if outcome.count() != served {
+    let served = if outcome.has_opened() {
+        served_in(outcome.entries())
+    } else {
+        0
+    };
+    if outcome.count() as u64 != served {
         return Ok(Some("how many are handed back"));
     }
-    for place in 0..served {
-        if !is_served(alloc, outcome, place, &ENDINGS)? {
-            return Ok(Some("a conversation"));
+    for place in 0..outcome.count() {
+        if !is_served(alloc, options, began, outcome, place, &ENDINGS)? {
+            return Ok(Some("a conversation or an exchange"));
         }
     }
     Ok(None)
 }
 
+// How many callers are served: none behind one that stops the daemon.
+fn served_in(entries: &[(Entry, End)]) -> u64 {
+    for (entry, _) in entries {
+        if entry.conn != 0 && matches!(entry.act, Act::Stop) {
+            return entry.conn;
+        }
+    }
+    CALLERS as u64
+}
+
 // Whether a run of a seed may end with this status.
 fn is_status(seed: &Seed, status: u8) -> bool {
     status == 0 || seed.fails && (status == 2 || status == 3)
-}
-
-// How what a run of a seed over these files noted is judged.
-fn judged(
-    alloc: Global,
-    seed: &Seed,
-    began: u64,
-    files: &[NamedFile],
-    outcome: &Outcome,
-) -> Result<Judged, Memory> {
-    let options = options_of(alloc, seed.setting)?;
-    judge(alloc, &options, began, files, outcome)
 }
 
 // What is wrong with what a run noted, or with the files that it left.

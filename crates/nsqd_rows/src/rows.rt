@@ -1,12 +1,14 @@
 //! Rows, what differs in one, and the test over all tables.
 
+ghost use Rattle.nsq_base.specs.Options.{IsInRange};
+
 use crate::files::{File, add_files, bytes_of, folder_of};
 use crate::hosts::{Given, Outcome, run_with};
 use crate::judged::{Judged, is_served, judge};
 use crate::setting::{DEFAULTS, Setting, options_of, words_of};
 use crate::tables::tables;
 use broker_history::Ended;
-use nsq_base::{Body, Memory};
+use nsq_base::{Body, Memory, Options};
 use nsq_fakes::{Failing, MemConn, Piece};
 use nsq_outside::Kind;
 use queue_plain::NamedFile;
@@ -29,9 +31,9 @@ pub struct Caller {
     pub kind: Kind,
     /// Where one is empty nothing comes.
     pub sends: &'static [&'static [u8]],
-    /// The frames, in order.
+    /// The frames, or the parts of an answer, in order.
     pub gets: &'static [&'static [u8]],
-    /// How it ends, if it is served.
+    /// How it ends, if it speaks the TCP protocol.
     pub ended: Ended,
 }
 
@@ -41,6 +43,12 @@ pub const CALLER: Caller = Caller {
     sends: &[],
     gets: &[],
     ended: Ended::EndOfInput,
+};
+
+/// A caller of HTTP that ends at once.
+pub const ASKER: Caller = Caller {
+    kind: Kind::Http,
+    ..CALLER
 };
 
 /// What the clock shows, in nanoseconds.
@@ -62,6 +70,8 @@ pub struct Run {
     pub fails: &'static [Failing],
     pub clock: Shows,
     pub callers: &'static [Caller],
+    /// How many of them, the last ones, are behind a served stop, and aren't accepted.
+    pub behind: usize,
     /// How many bytes of a caller come at a time.
     pub size: usize,
     pub status: u8,
@@ -79,6 +89,7 @@ pub const RUN: Run = Run {
     fails: &[],
     clock: Shows::These(&[]),
     callers: &[],
+    behind: 0,
     size: WHOLE,
     status: 0,
     line: b"",
@@ -187,8 +198,9 @@ fn outcome_differs(
     files: &mut Vec<NamedFile>,
     outcome: Outcome,
 ) -> Result<Option<&'static str>, Memory> {
-    let shown = shown_differs(alloc, run, &outcome)?;
-    let judged = judged(alloc, run, files, &outcome)?;
+    let options = options_of(alloc, run.setting)?;
+    let shown = shown_differs(alloc, &options, run, &outcome)?;
+    let judged = judge(alloc, &options, began(run.clock), files, &outcome)?;
     *files = outcome.leave(alloc)?;
     if shown.is_some() {
         return Ok(shown);
@@ -199,9 +211,12 @@ fn outcome_differs(
 // What differs in what a run showed.
 fn shown_differs(
     alloc: Global,
+    options: &Options,
     run: &Run,
     outcome: &Outcome,
-) -> Result<Option<&'static str>, Memory> {
+) -> Result<Option<&'static str>, Memory>
+    requires { IsInRange options.now }
+{
     if outcome.status != run.status {
         return Ok(Some("the status"));
     }
@@ -211,30 +226,41 @@ fn shown_differs(
     if outcome.printed() != run.printed {
         return Ok(Some("what is printed"));
     }
-    callers_differ(alloc, run.callers, outcome)
-}
-
-// What differs in the callers.
-fn callers_differ(
-    alloc: Global,
-    callers: &[Caller],
-    outcome: &Outcome,
-) -> Result<Option<&'static str>, Memory> {
-    if outcome.count() != callers.len() {
+    let count = run.callers.len().saturating_sub(run.behind);
+    if outcome.count() != count {
         return Ok(Some("how many are handed back"));
     }
+    callers_differ(
+        alloc,
+        options,
+        began(run.clock),
+        &run.callers[..count],
+        outcome,
+    )
+}
+
+// What differs in the callers that are handed back.
+fn callers_differ(
+    alloc: Global,
+    options: &Options,
+    began: u64,
+    callers: &[Caller],
+    outcome: &Outcome,
+) -> Result<Option<&'static str>, Memory>
+    requires { IsInRange options.now }
+{
     for (place, caller) in callers.iter().enumerate() {
         if !has_got(outcome, place, caller.gets) {
             return Ok(Some("what a caller gets"));
         }
-        if !is_served(alloc, outcome, place, &[caller.ended])? {
-            return Ok(Some("a conversation"));
+        if !is_served(alloc, options, began, outcome, place, &[caller.ended])? {
+            return Ok(Some("a conversation or an exchange"));
         }
     }
     Ok(None)
 }
 
-// Whether the caller at this place got these frames.
+// Whether the caller at this place got these frames, or these parts of an answer.
 fn has_got(outcome: &Outcome, place: usize, frames: &[&[u8]]) -> bool {
     let Some((_, _, conn)) = outcome.caller(place) else {
         return false;
@@ -247,17 +273,6 @@ fn has_got(outcome: &Outcome, place: usize, frames: &[&[u8]]) -> bool {
         }
     }
     rest.is_empty()
-}
-
-// How what a run over these files noted is judged.
-fn judged(
-    alloc: Global,
-    run: &Run,
-    files: &[NamedFile],
-    outcome: &Outcome,
-) -> Result<Judged, Memory> {
-    let options = options_of(alloc, run.setting)?;
-    judge(alloc, &options, began(run.clock), files, outcome)
 }
 
 // What the clock shows at the opening.

@@ -21,6 +21,8 @@ pub struct Setting {
     pub timeout: u64,
     /// How long a queue may be unsaved, in nanoseconds.
     pub unsaved: u64,
+    /// Whether a stop is served over HTTP.
+    pub stops: bool,
 }
 
 /// No words, and the default options.
@@ -29,6 +31,7 @@ pub const DEFAULTS: Setting = Setting {
     memory: 10_000,
     timeout: 60 * SECOND,
     unsaved: 2 * SECOND,
+    stops: false,
 };
 
 /// The options of a setting.
@@ -39,6 +42,7 @@ pub fn options_of(alloc: Global, setting: Setting) -> Result<Options, Memory>
     options.mem_queue_size = setting.memory;
     options.msg_timeout = setting.timeout;
     options.sync_timeout = setting.unsaved;
+    options.http_stop = setting.stops;
     if options.in_range() {
         Ok(options)
     } else {

@@ -2,6 +2,7 @@
 
 mod channels;
 mod faults;
+mod http;
 mod moments;
 mod openings;
 mod publishes;
@@ -11,7 +12,7 @@ mod words;
 use crate::rows::{CALLER, Caller, Row};
 use crate::texts::{OK, PUBLISH};
 
-pub fn tables() -> [&'static [Row]; 7] {
+pub fn tables() -> [&'static [Row]; 8] {
     [
         publishes::rows(),
         channels::rows(),
@@ -20,6 +21,7 @@ pub fn tables() -> [&'static [Row]; 7] {
         words::rows(),
         openings::rows(),
         faults::rows(),
+        http::rows(),
     ]
 }
 

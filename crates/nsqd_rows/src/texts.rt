@@ -35,3 +35,27 @@ pub const NO_TOPIC: &[u8] = br#"{"id_epoch":1,"topics":[],"version":"1.0.0"}"#;
 /// The names where `t` is the one durable topic.
 pub const ONE_TOPIC: &[u8] =
     br#"{"id_epoch":1,"topics":[{"channels":[],"name":"t","paused":false}],"version":"1.0.0"}"#;
+
+/// The answer to a publish, a ping or a stop over HTTP.
+pub const HTTP_OK: &[u8] =
+    b"HTTP/1.1 200 OK\r\nContent-Type: text/plain; charset=utf-8\r\nContent-Length: 2\r\nConnection: close\r\n\r\nOK";
+
+/// The answer to what is done over HTTP and is no publish.
+pub const HTTP_DONE: &[u8] =
+    b"HTTP/1.1 200 OK\r\nContent-Type: text/plain; charset=utf-8\r\nContent-Length: 0\r\nConnection: close\r\n\r\n";
+
+/// The answer to an unknown call.
+pub const HTTP_NOT_FOUND: &[u8] =
+    b"HTTP/1.1 404 Not Found\r\nContent-Type: application/json; charset=utf-8\r\nContent-Length: 23\r\nConnection: close\r\n\r\n{\"message\":\"NOT_FOUND\"}";
+
+/// The answer to a call that wants a topic that isn't there.
+pub const HTTP_NO_TOPIC: &[u8] =
+    b"HTTP/1.1 404 Not Found\r\nContent-Type: application/json; charset=utf-8\r\nContent-Length: 29\r\nConnection: close\r\n\r\n{\"message\":\"TOPIC_NOT_FOUND\"}";
+
+/// The answer to a body that is too big.
+pub const HTTP_TOO_BIG: &[u8] =
+    b"HTTP/1.1 413 Payload Too Large\r\nContent-Type: application/json; charset=utf-8\r\nContent-Length: 26\r\nConnection: close\r\n\r\n{\"message\":\"BODY_TOO_BIG\"}";
+
+/// The answer to what a disk fault keeps off.
+pub const HTTP_DISK_FAULT: &[u8] =
+    b"HTTP/1.1 500 Internal Server Error\r\nContent-Type: application/json; charset=utf-8\r\nContent-Length: 24\r\nConnection: close\r\n\r\n{\"message\":\"DISK_FAULT\"}";

@@ -1,10 +1,9 @@
 //! Publishes, what is refused, what a client says of itself, and callers of both kinds.
 
 use super::PUBLISHER;
-use crate::rows::{CALLER, Caller, RUN, Row, Run};
-use crate::texts::{DATA, META, NAMES, NO_TOPIC, OK, ONE_RECORD, ONE_TOPIC, RECORD};
+use crate::rows::{ASKER, CALLER, Caller, RUN, Row, Run};
+use crate::texts::{DATA, HTTP_OK, META, NAMES, NO_TOPIC, OK, ONE_RECORD, ONE_TOPIC, RECORD};
 use broker_history::Ended;
-use nsq_outside::Kind;
 
 const KEPT: Run = Run {
     callers: &[PUBLISHER],
@@ -109,24 +108,20 @@ static ROWS: [Row; 8] = [
         }],
     },
     Row {
-        name: "callers of both kinds are handed back once, under their numbers, those of HTTP unread",
+        name: "callers of both kinds are served one after another, and handed back under their numbers",
         runs: &[Run {
             callers: &[
                 Caller {
-                    kind: Kind::Http,
                     sends: &[b"GET /ping HTTP/1.1\r\n\r\n"],
-                    ..CALLER
+                    gets: &[HTTP_OK],
+                    ..ASKER
                 },
                 PUBLISHER,
-                Caller {
-                    kind: Kind::Http,
-                    ..CALLER
-                },
+                ASKER,
                 CALLER,
                 Caller {
-                    kind: Kind::Http,
                     sends: &[b"  V2PUB u\n\0\0\0\x02hi"],
-                    ..CALLER
+                    ..ASKER
                 },
             ],
             ..KEPT

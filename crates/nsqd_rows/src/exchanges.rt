@@ -1,0 +1,205 @@
+//! The plain judgement of an exchange over HTTP: whether what its caller sent, the entries of its connection and what it got fit each other.
+
+ghost use Rattle.std.specs.Prelude.{IfOk};
+ghost use Rattle.nsq_base.specs.Options.{IsInRange};
+ghost use Rattle.http_wire.specs.Answer.{IsStatus};
+ghost use Rattle.http_calls.specs.Calls.{HasStatus};
+
+use crate::hosts::Outcome;
+use broker_history::{Act, Ask, Entry, Said};
+use http_calls::{HttpAnswer, HttpCall, Refusal, answer_to, call_of, publishes, stop_answer};
+use http_plain::{Plain, request_of};
+use http_wire::write_answer;
+use nsq_base::{Memory, Options};
+use nsq_fakes::MemConn;
+use nsq_outside::End;
+use std::alloc::Global;
+
+/// Whether a connection of this number, at a daemon with these options that was opened at this moment, was an exchange.
+///
+/// Bytes that are no whole request have no entry and no answer, unless they are refused. Of an answer a part from its front may have gone out.
+pub fn is_exchange(
+    alloc: Global,
+    options: &Options,
+    began: u64,
+    outcome: &Outcome,
+    number: u64,
+    conn: &MemConn,
+) -> Result<bool, Memory>
+    requires { IsInRange options.now }
+{
+    let own = own_of(alloc, outcome.entries(), number)?;
+    let out = conn.bytes_written();
+    let bytes = joined(alloc, conn.pieces_read())?;
+    match request_of(alloc, options.max_body_size, &bytes)? {
+        Plain::Unfinished => Ok(own.is_none() && out.is_empty()),
+        Plain::BadHead => is_refused(alloc, Refusal::BadRequest, &own, out),
+        Plain::NoLength => is_refused(alloc, Refusal::LengthRequired, &own, out),
+        Plain::TooBig => is_refused(alloc, Refusal::BodyTooBig, &own, out),
+        Plain::Whole(request) => {
+            let call = call_of(alloc, options, began, request)?;
+            is_call(alloc, began, call, &own, out)
+        }
+    }
+}
+
+fn joined(alloc: Global, pieces: &[Vec<u8>]) -> Result<Vec<u8>, Memory> {
+    let mut bytes = Vec::new(alloc);
+    for piece in pieces {
+        bytes.extend_from_slice(piece)?;
+    }
+    Ok(bytes)
+}
+
+// The entries of a connection.
+#[derive(Drop)]
+struct Own<'a> {
+    // A letter for each of them: `a` what was asked, `s` a Stop, `l` names that are listed behind a Stop, `?` any other.
+    letters: Vec<u8>,
+    // The last one.
+    last: Option<&'a (Entry, End)>,
+}
+
+impl Own<'_> {
+    fn is_none(&self) -> bool {
+        self.letters.is_empty()
+    }
+
+    fn are(&self, letters: &[u8]) -> bool {
+        self.letters.as_slice() == letters
+    }
+}
+
+fn own_of<'a>(alloc: Global, entries: &'a [(Entry, End)], number: u64) -> Result<Own<'a>, Memory> {
+    let mut letters = Vec::new(alloc);
+    let mut last = None;
+    let mut stopped = false;
+    for entry in entries {
+        stopped = stopped || is_stop(&entry.0.act);
+        if entry.0.conn == number {
+            letters.push(letter_of(&entry.0.act, stopped))?;
+            last = Some(entry);
+        }
+    }
+    Ok(Own { letters, last })
+}
+
+fn is_stop(act: &Act) -> bool {
+    matches!(act, Act::Stop)
+}
+
+fn letter_of(act: &Act, stopped: bool) -> u8 {
+    match act {
+        Act::Asked(_, _) => b'a',
+        Act::Stop => b's',
+        Act::Listed(_) if stopped => b'l',
+        _ => b'?',
+    }
+}
+
+// Whether there is no entry, and the answer is that of a refusal.
+fn is_refused(alloc: Global, refusal: Refusal, own: &Own<'_>, out: &[u8]) -> Result<bool, Memory> {
+    let answer = refusal.answer(alloc)?;
+    Ok(own.is_none() && is_answer(alloc, &answer, out)?)
+}
+
+// Whether a call has these entries, and is answered so.
+fn is_call(
+    alloc: Global,
+    began: u64,
+    call: HttpCall,
+    own: &Own<'_>,
+    out: &[u8],
+) -> Result<bool, Memory>
+    requires { HasStatus call }
+{
+    match call {
+        HttpCall::Refused(refusal) => is_refused(alloc, refusal, own, out),
+        HttpCall::Answered(answer) => Ok(own.is_none() && is_answer(alloc, &answer, out)?),
+        HttpCall::Asks(ask) => is_asking(alloc, began, &ask, own, out),
+        HttpCall::Stops => {
+            let answer = stop_answer(alloc)?;
+            Ok((own.are(b"sl") || own.are(b"l")) && is_answer(alloc, &answer, out)?)
+        }
+    }
+}
+
+// Whether this was asked and is answered by what was said, or the daemon stops.
+fn is_asking(
+    alloc: Global,
+    began: u64,
+    ask: &Ask,
+    own: &Own<'_>,
+    out: &[u8],
+) -> Result<bool, Memory> {
+    if own.are(b"l") {
+        let answer = Refusal::Stopping.answer(alloc)?;
+        return is_answer(alloc, &answer, out);
+    }
+    if !own.are(b"a") {
+        return Ok(false);
+    }
+    match own.last {
+        Some(entry) => is_told(alloc, began, ask, entry, out),
+        None => Ok(false),
+    }
+}
+
+// Whether an entry asks this, and the answer is what it says.
+fn is_told(
+    alloc: Global,
+    began: u64,
+    ask: &Ask,
+    entry: &(Entry, End),
+    out: &[u8],
+) -> Result<bool, Memory> {
+    let Act::Asked(asked, said) = &entry.0.act else {
+        return Ok(false);
+    };
+    let answer = answered(alloc, began, ask, said, entry.1)?;
+    Ok(is_same(asked, ask) && is_answer(alloc, &answer, out)?)
+}
+
+// The answer to what is asked where this is said, and its entry ended so.
+fn answered(
+    alloc: Global,
+    began: u64,
+    ask: &Ask,
+    said: &Said,
+    end: End,
+) -> Result<HttpAnswer, Memory>
+    ensures { IfOk result (λ answer. IsStatus answer.status) }
+{
+    match end {
+        End::Done => answer_to(alloc, publishes(ask), began, said),
+        End::Faulted(_) | End::Skip => answer_to(alloc, publishes(ask), began, &Said::Disk),
+    }
+}
+
+fn is_same(a: &Ask, b: &Ask) -> bool {
+    match (a, b) {
+        (Ask::Publish(a, c, e), Ask::Publish(b, d, f)) => a == b && c == d && e == f,
+        (Ask::Stats(a, c), Ask::Stats(b, d)) => a == b && c == d,
+        (Ask::Create(a, c), Ask::Create(b, d)) => a == b && c == d,
+        (Ask::Delete(a, c), Ask::Delete(b, d)) => a == b && c == d,
+        (Ask::Empty(a, c), Ask::Empty(b, d)) => a == b && c == d,
+        (Ask::Pause(a, c), Ask::Pause(b, d)) => a == b && c == d,
+        (Ask::Unpause(a, c), Ask::Unpause(b, d)) => a == b && c == d,
+        _ => false,
+    }
+}
+
+// Whether these bytes are an answer's, or a part of them from the front.
+fn is_answer(alloc: Global, answer: &HttpAnswer, out: &[u8]) -> Result<bool, Memory>
+    requires { IsStatus answer.now.status }
+{
+    let mut bytes = Vec::new(alloc);
+    write_answer(
+        alloc,
+        answer.status,
+        answer.json,
+        answer.body.bytes(),
+        &mut bytes,
+    )?;
+    Ok(bytes.starts_with(out))
+}

@@ -1,5 +1,6 @@
 -- What a drill's run did, from what is said of any run.
-use Rattle.std.proofs.Common.{◌≡◌, ◌≢◌, ◌⊎◌, ℕ, ◌+◌, ◌<◌, Bool, true, false, List, [], Option, Some, None, IfOk, IfSome, IsSome, Result, Ok, Err, option_map, ap, sym, subst, ◌∙◌, refl, inl, inr, arith}
+use Rattle.std.proofs.Common.{◌≡◌, ◌≢◌, ◌⊎◌, ℕ, ◌+◌, ◌<◌, Bool, true, false, List, [], ◌++◌, map, Option, Some, None, IfOk, IfSome, IsSome, Result, Ok, Err, option_map, ap, sym, subst, ◌∙◌, refl, inl, inr, arith}
+use Rattle.std.specs.List.{AllByRecursion}
 use Rattle.std.proofs.lemmas.Bool.{false≢true}
 use Rattle.std.proofs.lemmas.Option.{none-some, same_Some}
 use Rattle.nsq_base.specs.declared.options.Options.{Options}
@@ -18,6 +19,10 @@ use Rattle.path_image.specs.Data.{data_name}
 use Rattle.path_image.specs.Found.{BadData, EpochSpent, Finding, Found, IsFound, Names}
 use Rattle.path_image.specs.Found.IsFound.{bad_queue, fresh, names, spent, spoilt}
 use Rattle.broker_history.specs.declared.entry.Entry.{Entry}
+use Rattle.broker_history.specs.Entries.{History}
+use Rattle.broker_history.specs.Found.{start, started}
+use Rattle.broker_history.specs.Moments.{moment_of}
+use Rattle.broker_history.specs.State.{State}
 use Rattle.daemon_run.specs.Asked.{StartsOnce}
 use Rattle.daemon_run.specs.Parts.{KeepsFaults}
 use Rattle.daemon_run.specs.Runs.{HasRun, HasWorked, IsRefused, Runs, StayedHome}
@@ -25,12 +30,23 @@ use Rattle.daemon_run.specs.Sights.{Both, Sight, sight, sight_of}
 use Rattle.daemon_run.specs.declared.ending.ServeEnd.{ServeEnd}
 use Rattle.daemon_run.specs.declared.ending.ServeEnd.TheVariants as end
 use Rattle.daemon_run.specs.Endings.{status_of}
+use Rattle.drill_laws.specs.Conserving.{HaveOnes}
+use Rattle.drill_laws.specs.Counts.{left_in, left_of}
+use Rattle.drill_laws.specs.Replying.{tried}
+use Rattle.drill_laws.proofs.Conserved.{conserved, no_topics, ones_stay}
+use Rattle.drill_laws.proofs.Replying.{replied, stays}
 use Rattle.drill.specs.Drills.{HasCounted, HasDrilled, HasNames, HasRunDrill, IsFaultless, seen, seen_with}
 use Rattle.drill.specs.Draws.{publishes}
 use Rattle.drill.specs.Hosts.{IsDrillHost, MemKit, drill_options}
 use Rattle.drill.specs.declared.draws.Publish.{Publish}
 use Rattle.drill.specs.declared.run.Drilled.{Drilled}
-use Rattle.drill.proofs.Epochs.{epoch_stays}
+use Rattle.drill.specs.Callers.{senders}
+use Rattle.drill.specs.Counting.{finished_in, published_in}
+use Rattle.drill.specs.Left.{messages_in}
+use Rattle.drill.proofs.Entering.{all_entered, all_send, calls}
+use Rattle.drill.proofs.Leaving.{all_found}
+use Rattle.drill.proofs.Spelling.{IsShort, publishes_short}
+use Rattle.drill.proofs.Tallying.{IsEntered, entries_keep, only_c, tallied}
 
 -- what is seen where both kits are at home
 abbrev seen_of : HostState MemFolder MemClock (MemJournal Entry) → HostContent MemConn → Option (Sight MemConn)
@@ -108,37 +124,71 @@ has_run_home all first host options ended is_first same clean keeps home accept 
         has_run all host (first, is_first) kit ended clean keeps e accept (subst (λ (x : Option MemKit). IfSome x (λ k. faults_of k.folder ≡ 0)) e folder)
         (subst (λ (o : Options). Both (seen_of (state_of first) (content_of first)) (seen_of (state_of host) (content_of host)) (Runs seen o ended)) same both)
 
--- the epoch that is found in an empty folder
+-- what is found in an empty folder
+abbrev nothing_found : Found
+nothing_found = record { epoch = 0; topics = [] }
+
 abbrev IsFirst : Finding → Type 0
 IsFirst BadData = Unit {0}
 IsFirst EpochSpent = Unit {0}
-IsFirst (Names found) = found.epoch ≡ 0
+IsFirst (Names found) = found ≡ nothing_found
 
-first_epoch : (files : Files) (x : Finding) → files data_name ≡ None → IsFound files x → IsFirst x
-first_epoch files x e (fresh f) = refl
-first_epoch files x e (spoilt t f b) = tt
-first_epoch files x e (spent t k f b l) = tt
-first_epoch files x e (bad_queue t k f b l q) = tt
-first_epoch files x e (names t k f b l m p) = absurd (none-some t (sym e ∙ f))
+found_first : (files : Files) (x : Finding) → files data_name ≡ None → IsFound files x → IsFirst x
+found_first files x e (fresh f) = refl
+found_first files x e (spoilt t f b) = tt
+found_first files x e (spent t k f b l) = tt
+found_first files x e (bad_queue t k f b l q) = tt
+found_first files x e (names t k f b l m p) = absurd (none-some t (sym e ∙ f))
 
--- all that a drill left is found
-pub finds_names : (all : List Publish) (host : MemHost Entry) (r : HasRunDrill all host) → HasNames r.kit
-finds_names all host r =
+-- all that a drill left is found, and that is what was published and not finished
+pub record FindsLeft {all : List Publish} {host : MemHost Entry} (r : HasRunDrill all host) : Type 0 where
+  pub found : Found
+  pub is_found : IsFound (files_in r.kit.folder) (Names found)
+  pub sum : published_in (notes_of r.kit.journal) ≡ finished_in (notes_of r.kit.journal) + messages_in found
+
+pub finds_left : (all : List Publish) (host : MemHost Entry) (r : HasRunDrill all host) → AllByRecursion IsShort all → FindsLeft r
+finds_left all host r short =
     let run = r.run in
     let history = run.history in
-    let zero = first_epoch (files_in r.is_first.kit.folder) (Names history.found) (r.is_first.is_new.files data_name) history.is_found in
-    let left = (run.left (inl refl)).left (omega (arith, zero, epoch_stays history.legal)) in
-    (left.found, left.is_found)
+    let callers = run.callers in
+    let stops = run.stops in
+    let notes : History = notes_of r.kit.journal in
+    let first : history.found ≡ nothing_found = found_first (files_in r.is_first.kit.folder) (Names history.found) (r.is_first.is_new.files data_name) history.is_found in
+    let begun : State = start history.found drill_options (moment_of (coming_of r.is_first.kit.clock) 1) in
+    let none : begun.topics ≡ [] = ap (λ (f : Found). map started f.topics) first in
+    let ones : HaveOnes only_c begun.topics = subst (λ ts. HaveOnes only_c ts) (sym none) (no_topics only_c) in
+    let came : map calls (senders all) ≡ callers.callers ++ (content_of host).coming = ap (λ (c : HostContent MemConn). c.coming) (sym r.is_first.content) ∙ callers.came in
+    let entered : AllByRecursion IsEntered notes =
+    all_entered seen (moment_of (coming_of r.is_first.kit.clock) 1) notes callers.callers (content_of host).coming callers.back (senders all) came (all_send all short) callers.served callers.no_other run.in_turn stops.last in
+    let keep = entries_keep notes entered in
+    let sum = conserved only_c begun run.to notes ones keep history.legal in
+    let tally = tallied begun.options (begun.ids_used + tried notes) notes entered (replied begun run.to notes history.legal) in
+    let stay = stays begun run.to notes history.legal in
+    let epoch = stay.epoch in
+    let zero : history.found.epoch ≡ 0 = ap (λ (f : Found). f.epoch) first in
+    let left = (run.left (inl refl)).left (omega (arith, zero, epoch)) in
+    let same = all_found only_c run.to left.found (ones_stay only_c begun run.to notes ones keep history.legal) left.is_all in
+    let nothing : left_of begun ≡ 0 = ap left_in none in
+    let a = tally.accepted in
+    let f = tally.finishes in
+    record { found = left.found; is_found = left.is_found; sum = omega (arith, sum, nothing, same, a, f) }
+
+pub finds_names : (all : List Publish) (host : MemHost Entry) (r : HasRunDrill all host) → AllByRecursion IsShort all → HasNames r.kit
+finds_names all host r short = let l = finds_left all host r short in (l.found, l.is_found)
 
 -- the same, of the kit that is at home
-pub home_names : (all : List Publish) (host : MemHost Entry) → HasRunDrill all host → IfSome (state_of host).kit HasNames
-home_names all host r = subst (λ (s : HostState MemFolder MemClock (MemJournal Entry)). IfSome s.kit HasNames) (sym r.faultless.state) (finds_names all host r)
+pub home_names : (all : List Publish) (host : MemHost Entry) → AllByRecursion IsShort all → HasRunDrill all host → IfSome (state_of host).kit HasNames
+home_names all host short r = subst (λ (s : HostState MemFolder MemClock (MemJournal Entry)). IfSome s.kit HasNames) (sym r.faultless.state) (finds_names all host r short)
 
 -- a drill that ran and was counted
 drilled_of : (seed count : ℕ) (host : MemHost Entry) (d : Drilled) (r : HasRunDrill (publishes seed count) d.host) → HasCounted r.kit d → HasDrilled seed count d
 drilled_of seed count host d r c =
-    let n = finds_names (publishes seed count) d.host r in
-    record { ran = r; published = c.published; sent = c.sent; finished = c.finished; left = record { found = n.0; is_found = n.1; count_is = c.left n.0 n.1 } }
+    let l = finds_left (publishes seed count) d.host r (publishes_short seed count) in
+    let found = c.left l.found l.is_found in
+    let p = c.published in
+    let f = c.finished in
+    let sum = l.sum in
+    record { ran = r; published = p; sent = c.sent; finished = f; left = record { found = l.found; is_found = l.is_found; count_is = found }; conserved = omega (arith, p, f, found, sum) }
 
 counted_home : (all : List Publish) (host : MemHost Entry) (d : Drilled) (r : HasRunDrill all host) → IfSome (state_of host).kit (λ kit. HasCounted kit d) → HasCounted r.kit d
 counted_home all host d r h = subst (λ (s : HostState MemFolder MemClock (MemJournal Entry)). IfSome s.kit (λ kit. HasCounted kit d)) r.faultless.state h

@@ -1,5 +1,8 @@
 pub mod Lists
 pub mod Lefts
 pub mod Hosting
-pub mod Epochs
+pub mod Spelling
+pub mod Tallying
+pub mod Leaving
+pub mod Entering
 pub mod Drilling

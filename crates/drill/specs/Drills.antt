@@ -1,5 +1,5 @@
 -- What a drill did.
-use Rattle.std.specs.Prelude.{◌≡◌, ℕ, false, List, Some}
+use Rattle.std.specs.Prelude.{◌≡◌, ℕ, ◌+◌, false, List, Some}
 use Rattle.nsq_fakes.specs.MemClocks.{coming_of}
 use Rattle.nsq_fakes.specs.MemConns.{has_ended, left_of, pieces_of, read_faults_of, write_faults_of, written_of}
 use Rattle.nsq_fakes.specs.MemFolders.{faults_of, files_in}
@@ -55,10 +55,11 @@ abbrev pub HasNames : MemKit → Type 0
 HasNames kit = (found : Found) × IsFound (files_in kit.folder) (Names found)
 
 -- the drill of this seed with so many publishes was run, and these are its host and its numbers: how many messages were accepted, how many were sent and how many
--- FINs succeeded in its history, and how many messages an opening of its folder finds
+-- FINs succeeded in its history, and how many messages an opening of its folder finds. No message is lost or doubled: those that were accepted were finished, or are left
 pub record HasDrilled (seed count : ℕ) (drilled : Drilled) : Type 0 where
   pub ran : HasRunDrill (publishes seed count) drilled.host
   pub published : drilled.published ≡ published_in (notes_of ran.kit.journal)
   pub sent : drilled.sent ≡ sent_in (notes_of ran.kit.journal)
   pub finished : drilled.finished ≡ finished_in (notes_of ran.kit.journal)
   pub left : FindsMessages (files_in ran.kit.folder) drilled.left
+  pub conserved : drilled.published ≡ drilled.finished + drilled.left

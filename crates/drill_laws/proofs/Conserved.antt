@@ -1,12 +1,13 @@
 -- Messages along a history that keeps them all.
 use Rattle.std.proofs.Common.{ℕ, List, [], ◌∷◌, ◌++◌, refl, arith}
 use Rattle.std.proofs.lemmas.List.Sums.{sum_by_push}
+use Rattle.std.proofs.lemmas.List.Elements.{All-nil}
 use Rattle.nsq_outside.specs.declared.journal.End.{End}
 use Rattle.broker_history.specs.declared.entry.Entry.{Entry}
 use Rattle.broker_history.specs.Entries.{History}
 use Rattle.broker_history.specs.Legal.{Legal, more, none}
 use Rattle.broker_history.specs.State.{State}
-use Rattle.drill_laws.specs.Conserving.{HaveOnes, KeepAll, Keeps, MessagesAreConserved, OnesStay}
+use Rattle.drill_laws.specs.Conserving.{HasOne, HaveOnes, KeepAll, Keeps, MessagesAreConserved, OnesStay}
 use Rattle.drill_laws.specs.Counts.{finished, finished_by, published, published_by}
 use Rattle.drill_laws.proofs.Acts.{step_keeps}
 use Rattle.drill_laws.proofs.States.{StateKeeps, state_same}
@@ -37,3 +38,7 @@ conserved only s u h ones all legal = let k = history_keeps only ones all legal 
 
 pub ones_stay : OnesStay
 ones_stay only s u h ones all legal = let k = history_keeps only ones all legal in k.ones
+
+-- without topics there is nothing to keep
+pub no_topics : (only : List ℕ → List ℕ) → HaveOnes only []
+no_topics only = record { ascending = λ i j d l m. absurd (omega (arith, m)); each = All-nil (HasOne only) }

@@ -1,11 +1,15 @@
-use Rattle.std.proofs.Common.{◌≡◌, subst, ◌∙◌}
+use Rattle.std.proofs.Common.{◌≡◌, subst, sym, ◌∙◌}
+use Rattle.std.specs.List.{AllByRecursion}
 use Rattle.drill.specs.Draws.{publishes}
 use Rattle.drill.specs.Drills.{HasRunDrill}
 use Rattle.drill.proofs.Drilling.{has_drilled, home_names}
+use Rattle.drill.proofs.Spelling.{IsShort, publishes_short}
 use Rattle.drill.proofs.run.drill.Goals as goal
 
 pub conclude-requires-clause-names : goal.conclude-requires-clause-names
-conclude-requires-clause-names g c = home_names c.deref.result.now c.in_ok-host.host c.in_ok-host.ensures
+conclude-requires-clause-names g c =
+    let drawn : c.deref.result.now ≡ publishes c.args.seed c.args.count = c.deref.ensures.value ∙ c.in_ok-publishes.ensures in
+    home_names c.deref.result.now c.in_ok-host.host (subst (λ all. AllByRecursion IsShort all) (sym drawn) (publishes_short c.args.seed c.args.count)) c.in_ok-host.ensures
 
 pub returns : goal.returns
 returns g c =

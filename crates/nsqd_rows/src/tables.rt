@@ -12,7 +12,7 @@ mod words;
 use crate::rows::{CALLER, Caller, Row};
 use crate::texts::{OK, PUBLISH};
 
-pub fn tables() -> [&'static [Row]; 8] {
+pub fn tables() -> [&'static [Row]; 11] {
     [
         publishes::rows(),
         channels::rows(),
@@ -21,7 +21,10 @@ pub fn tables() -> [&'static [Row]; 8] {
         words::rows(),
         openings::rows(),
         faults::rows(),
-        http::rows(),
+        http::publishes::rows(),
+        http::pauses::rows(),
+        http::stops::rows(),
+        http::faults::rows(),
     ]
 }
 

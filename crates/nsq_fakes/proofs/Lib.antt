@@ -3,3 +3,4 @@ pub mod Listings
 pub mod Lists
 pub mod Outcomes
 pub mod PassedBytes
+pub mod Shown

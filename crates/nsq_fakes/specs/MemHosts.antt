@@ -1,11 +1,16 @@
 -- What a host in memory shows.
-use Rattle.std.specs.Prelude.{ℕ, ◌≡◌, ◌<◌, List, [], drop, map, length, IsSomeAnd, slice_get}
+use Rattle.std.specs.Prelude.{ℕ, ◌≡◌, ◌<◌, List, [], drop, map, length, IsSomeAnd, slice_get, true}
 use Rattle.nsq_outside.specs.Hosts.{DialerContent, HostContent, HostState, IsFreshCaller}
 use Rattle.nsq_fakes.specs.MemConns.{left_of, has_ended, pieces_of, written_of, read_faults_of, write_faults_of, IsRestarted}
+use Rattle.nsq_fakes.specs.MemCalls.{FailsAt, IsFailing, Counts}
 use Rattle.nsq_fakes.specs.MemDialers.{dialled_of}
+use Rattle.nsq_outside.specs.Causes.{CountsFault}
+use Rattle.nsq_outside.specs.declared.did.Did.{Did}
+use Rattle.nsq_outside.specs.declared.did.Did.TheVariants.{Failed as NotDone}
 use Rattle.nsq_outside.specs.declared.host.Kind.{Kind}
 use Rattle.nsq_outside.specs.declared.host.Accept.{Accept}
 use Rattle.nsq_outside.specs.declared.host.Accept.TheVariants.{Caller, Nothing, Halt, Failed}
+use Rattle.nsq_fakes.specs.declared.calls.Calls.{Calls}
 use Rattle.nsq_fakes.specs.declared.clock.MemClock.{MemClock}
 use Rattle.nsq_fakes.specs.declared.conn.MemConn.{MemConn}
 use Rattle.nsq_fakes.specs.declared.folder.MemFolder.{MemFolder}
@@ -26,7 +31,7 @@ content_of host = record {
 
 -- its kit, whether callers get threads, and its counts of faults
 abbrev pub state_of : {E : Type 0} → MemHost E → HostState MemFolder MemClock (MemJournal E)
-state_of host = record { kit = host.kit; beside = host.beside; accept_faults = host.accept_faults.count; print_faults = host.print_faults.count; tell_faults = host.tell_faults.count }
+state_of host = record { kit = host.kit; beside = host.beside; accept_faults = host.accepts.faults.count; print_faults = host.prints.faults.count; tell_faults = host.tells.faults.count }
 
 -- what was dialled, and what the connections to come will send
 abbrev pub dials_of : {E : Type 0} → MemHost E → DialerContent
@@ -54,6 +59,60 @@ callers_of host = host.callers.items
 -- the connections that dials will give
 abbrev pub to_link_of : {E : Type 0} → MemHost E → List MemConn
 to_link_of host = host.dialer.coming.items
+
+-- the accepts and starts, which are counted together: which of them fail, and how many came and failed
+abbrev pub accepts_of : {E : Type 0} → MemHost E → Calls
+accepts_of host = host.accepts
+
+-- the prints: which of them fail, and how many came and failed
+abbrev pub prints_of : {E : Type 0} → MemHost E → Calls
+prints_of host = host.prints
+
+-- the lines to be told: which of them fail, and how many came and failed
+abbrev pub tells_of : {E : Type 0} → MemHost E → Calls
+tells_of host = host.tells
+
+-- no call is counted yet, and the accepts and starts, the prints and the tells of these numbers fail
+pub record FailsAtHostCalls {E : Type 0} (accepts prints tells : List ℕ) (host : MemHost E) : Type 0 where
+  pub at_accepts : FailsAt accepts (accepts_of host)
+  pub at_prints : FailsAt prints (prints_of host)
+  pub at_tells : FailsAt tells (tells_of host)
+
+-- no call was counted and no fault, and the same ones fail
+pub record KeepsCalls {E : Type 0} (old new : MemHost E) : Type 0 where
+  pub accepts : accepts_of new ≡ accepts_of old
+  pub prints : prints_of new ≡ prints_of old
+  pub tells : tells_of new ≡ tells_of old
+
+-- a start is counted, and fails where its number is listed
+pub record CountsStart {E : Type 0} (old new : MemHost E) (result : Did) : Type 0 where
+  pub counted : Counts (accepts_of old) (accepts_of new)
+  pub failing : IsFailing (accepts_of old) → result ≡ NotDone
+  pub prints : prints_of new ≡ prints_of old
+  pub tells : tells_of new ≡ tells_of old
+
+-- while callers are to come an accept is counted, and fails where its number is listed; once none is, it isn't counted
+pub record CountsAccept {E : Type 0} (old new : MemHost E) (result : Accept MemConn) : Type 0 where
+  pub counted : 0 < length (callers_of old) → Counts (accepts_of old) (accepts_of new)
+  pub failing : 0 < length (callers_of old) → IsFailing (accepts_of old) → result ≡ Failed
+  pub over : callers_of old ≡ [] → accepts_of new ≡ accepts_of old
+  pub prints : prints_of new ≡ prints_of old
+  pub tells : tells_of new ≡ tells_of old
+
+-- a print is counted, and fails where its number is listed
+pub record CountsPrint {E : Type 0} (old new : MemHost E) (result : Did) : Type 0 where
+  pub counted : Counts (prints_of old) (prints_of new)
+  pub failing : IsFailing (prints_of old) → result ≡ NotDone
+  pub accepts : accepts_of new ≡ accepts_of old
+  pub tells : tells_of new ≡ tells_of old
+
+-- a line to be told is counted, and where its number is listed it isn't told, and its fault is counted
+pub record CountsTell {E : Type 0} (old new : MemHost E) : Type 0 where
+  pub counted : Counts (tells_of old) (tells_of new)
+  pub untold : IsFailing (tells_of old) → content_of new ≡ content_of old
+  pub failing : IsFailing (tells_of old) → CountsFault (tells_of old).faults.count (tells_of new).faults.count true
+  pub accepts : accepts_of new ≡ accepts_of old
+  pub prints : prints_of new ≡ prints_of old
 
 -- the first of the callers to come is given, its connection restarted, and the others are still to come; or all are
 abbrev pub GivesFirst : List (Kind × MemConn) → List (Kind × MemConn) → Accept MemConn → Type 0

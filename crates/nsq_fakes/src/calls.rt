@@ -26,6 +26,16 @@ impl Calls {
         }
     }
 
+    /// From now on the calls with these numbers fail, and no other by its number: the next call has the number 0. What
+    /// failed so far stays counted.
+    pub fn fail_at(&mut self, fails: Vec<u64>)
+        ensures fails { FailsAt fails.items self.new }
+        ensures faults { self.new.faults ≡ self.old.faults }
+    {
+        self.fails = fails;
+        self.next = 0;
+    }
+
     /// Counts a call. Answers whether it fails, and then its fault is counted.
     pub fn next_fails(&mut self) -> bool
         ensures failing { IsTrue result ↔ IsFailing self.old }

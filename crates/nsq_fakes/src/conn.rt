@@ -26,7 +26,7 @@ pub struct MemConn {
 }
 
 impl MemConn {
-    ghost use Rattle.nsq_fakes.specs.MemConns.{pieces_of, left_of, written_of, IsUnused, IsToGive, IsRestarted, FailsAtCalls};
+    ghost use Rattle.nsq_fakes.specs.MemConns.{pieces_of, left_of, read_faults_of, written_of, write_faults_of, IsUnused, IsToGive, IsRestarted, FailsAtCalls};
 
     /// A connection that gives these pieces, and fails at the reads and the writes of these numbers, counted from 0.
     pub fn new(
@@ -63,6 +63,20 @@ impl MemConn {
         ensures { result.now ≡ written_of self.now }
     {
         &self.written
+    }
+
+    /// How often a read failed; at most 2^64 - 1, where the count stops.
+    pub fn read_faults(&self) -> u64
+        ensures { result ≡ read_faults_of self.now }
+    {
+        self.reads.faults.count
+    }
+
+    /// How often a write failed; at most 2^64 - 1, where the count stops.
+    pub fn write_faults(&self) -> u64
+        ensures { result ≡ write_faults_of self.now }
+    {
+        self.writes.faults.count
     }
 
     /// As if nothing had been read or written yet. What is to come stays, and so do the calls that fail.

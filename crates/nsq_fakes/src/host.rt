@@ -1,5 +1,6 @@
 ghost use Rattle.std.specs.Prelude.{◌≡◌, ◌+◌, ◌≤◌, ◌++◌, ◌∷◌, [], map, false, true, None, Some, IfOk, OnOk, OnErr, option_copied, string_bytes, length, vec_len, vec_capacity};
 
+use crate::calls::Calls;
 use crate::clock::MemClock;
 use crate::conn::MemConn;
 use crate::dialer::MemDialer;
@@ -7,7 +8,7 @@ use crate::folder::MemFolder;
 use crate::journal::MemJournal;
 use crate::start::Start;
 use nsq_base::Memory;
-use nsq_outside::{Accept, Dialer, Dialled, Did, Faults, Host, Kind, Kit, Twin};
+use nsq_outside::{Accept, Dialer, Dialled, Did, Host, Kind, Kit, Twin};
 use std::alloc::Global;
 use std::collections::VecDeque;
 use std::sync::Wait;
@@ -15,7 +16,8 @@ use std::sync::Wait;
 /// A host in memory: a list of callers, a list of connections that dials give, and a kit. It keeps what it is told.
 ///
 /// It gives the callers in order, and answers `Halt` once they are used up. Past the last of its connections a dial fails.
-/// What finds no memory to be kept fails too.
+/// What finds no memory to be kept fails too, and so do the accepts, starts, prints and tells that `fail_at` names. One of
+/// these that fails changes nothing but the counts of calls and of faults.
 #[derive(Drop)]
 pub struct MemHost<E: Drop> {
     alloc: Global,
@@ -29,16 +31,17 @@ pub struct MemHost<E: Drop> {
     lines: Vec<Vec<u8>>,
     kit: Option<Kit<MemFolder, MemClock, MemJournal<E>>>,
     beside: bool,
-    accept_faults: Faults,
-    print_faults: Faults,
-    tell_faults: Faults,
+    accepts: Calls,
+    prints: Calls,
+    tells: Calls,
     ghost room: { vec_len given + vec_len dialer.linked ≤ vec_capacity back },
     ghost order: { length back.items ≤ length given.items + length dialer.linked.items },
+    ghost at_halt: { halted ≡ true → callers.items ≡ [] },
 }
 
 impl<E: Drop> MemHost<E> {
     ghost use Rattle.nsq_fakes.specs.MemConns.{left_of};
-    ghost use Rattle.nsq_fakes.specs.MemHosts.{content_of, state_of, dials_of, dial_faults_of, callers_of, to_link_of};
+    ghost use Rattle.nsq_fakes.specs.MemHosts.{content_of, state_of, dials_of, dial_faults_of, callers_of, to_link_of, FailsAtHostCalls, KeepsCalls};
 
     /// A host with these callers, connections to be dialled and kit. `beside` says whether each caller gets a thread of its own.
     pub fn new(
@@ -54,6 +57,7 @@ impl<E: Drop> MemHost<E> {
         ensures callers { IfOk result (λ host. callers_of host ≡ callers.items) }
         ensures to_link { IfOk result (λ host. to_link_of host ≡ dialled.items) }
         ensures state { IfOk result (λ host. state_of host ≡ record { kit = Some kit; beside = beside; accept_faults = 0; print_faults = 0; tell_faults = 0 }) }
+        ensures fails { IfOk result (FailsAtHostCalls [] [] []) }
     {
         Ok(MemHost {
             alloc,
@@ -67,10 +71,26 @@ impl<E: Drop> MemHost<E> {
             lines: Vec::new(alloc),
             kit: Some(kit),
             beside,
-            accept_faults: Faults::none(),
-            print_faults: Faults::none(),
-            tell_faults: Faults::none(),
+            accepts: Calls::new(Vec::new(alloc)),
+            prints: Calls::new(Vec::new(alloc)),
+            tells: Calls::new(Vec::new(alloc)),
         })
+    }
+
+    /// From now on the accepts and starts, the prints and the tells of these numbers fail, each counted from 0. Accepts and
+    /// starts are counted together. An accept that finds nobody to come isn't counted, and answers `Halt`.
+    pub fn fail_at(&mut self, accepts: Vec<u64>, prints: Vec<u64>, tells: Vec<u64>)
+        ensures fails { FailsAtHostCalls accepts.items prints.items tells.items self.new }
+        ensures content { content_of self.new ≡ content_of self.old }
+        ensures state { state_of self.new ≡ state_of self.old }
+        ensures dials { dials_of self.new ≡ dials_of self.old }
+        ensures dial_faults { dial_faults_of self.new ≡ dial_faults_of self.old }
+        ensures callers { callers_of self.new ≡ callers_of self.old }
+        ensures to_link { to_link_of self.new ≡ to_link_of self.old }
+    {
+        self.accepts.fail_at(accepts);
+        self.prints.fail_at(prints);
+        self.tells.fail_at(tells);
     }
 
     /// The connections that it took back, each with its number.
@@ -119,21 +139,21 @@ impl<E: Drop> MemHost<E> {
     pub fn accept_faults(&self) -> u64
         ensures { result ≡ (state_of self.now).accept_faults }
     {
-        self.accept_faults.count
+        self.accepts.faults.count
     }
 
     /// How often it failed to print; at most 2^64 - 1, where the count stops.
     pub fn print_faults(&self) -> u64
         ensures { result ≡ (state_of self.now).print_faults }
     {
-        self.print_faults.count
+        self.prints.faults.count
     }
 
     /// How often it failed to tell a line; at most 2^64 - 1, where the count stops.
     pub fn tell_faults(&self) -> u64
         ensures { result ≡ (state_of self.now).tell_faults }
     {
-        self.tell_faults.count
+        self.tells.faults.count
     }
 
     /// The addresses that it was asked to dial. One for which it found no memory is missing.
@@ -150,6 +170,7 @@ impl<E: Drop> MemHost<E> {
         ensures dialer { self.new.dialer ≡ self.old.dialer }
         ensures callers { self.new.callers ≡ self.old.callers }
         ensures given { vec_len self.new.given ≡ vec_len self.old.given }
+        ensures calls { KeepsCalls self.old self.new }
         ensures room { OnOk result (vec_len self.new.given + vec_len self.new.dialer.linked + 1 ≤ vec_capacity self.new.back) }
     {
         self.back
@@ -159,7 +180,7 @@ impl<E: Drop> MemHost<E> {
 }
 
 impl<E: Drop> Dialer for MemHost<E> {
-    ghost use Rattle.nsq_fakes.specs.MemHosts.{content_of, state_of, dials_of, dial_faults_of, callers_of, to_link_of};
+    ghost use Rattle.nsq_fakes.specs.MemHosts.{content_of, state_of, dials_of, dial_faults_of, callers_of, to_link_of, KeepsCalls};
     ghost use Rattle.nsq_fakes.specs.MemConns.{left_of, IsUnusedLink, LinksFirst};
     ghost use Rattle.nsq_outside.specs.Hosts.{Dials, LinkFails, LinkCounts};
 
@@ -182,6 +203,7 @@ impl<E: Drop> Dialer for MemHost<E> {
         ensures counted { LinkCounts (dial_faults_of self.old) (dial_faults_of self.new) result }
         ensures first { LinksFirst (to_link_of self.old) (to_link_of self.new) result }
         ensures callers { callers_of self.new ≡ callers_of self.old }
+        ensures calls { KeepsCalls self.old self.new }
     {
         if self.make_room().is_err() {
             return self.dialer.fail();
@@ -193,7 +215,7 @@ impl<E: Drop> Dialer for MemHost<E> {
 }
 
 impl<E: Drop + Twin + Send> Host<E> for MemHost<E> {
-    ghost use Rattle.nsq_fakes.specs.MemHosts.{content_of, state_of, dials_of, dial_faults_of, callers_of, to_link_of, IsUnusedCaller, AnswersAtOnce, GivesFirst};
+    ghost use Rattle.nsq_fakes.specs.MemHosts.{content_of, state_of, dials_of, dial_faults_of, callers_of, to_link_of, IsUnusedCaller, AnswersAtOnce, GivesFirst, KeepsCalls, CountsStart, CountsAccept, CountsPrint, CountsTell};
     ghost use Rattle.nsq_fakes.specs.MemConns.{left_of};
     ghost use Rattle.nsq_outside.specs.Hosts.{Starts, Accepts, AcceptFails, AcceptCounts, Prints, Tells, TellCounts, OnlyAcceptFaults, OnlyPrintFaults, OnlyTellFaults};
     ghost use Rattle.nsq_outside.specs.Causes.{DidFails, DidCounts};
@@ -220,9 +242,14 @@ impl<E: Drop + Twin + Send> Host<E> for MemHost<E> {
         ensures dial_faults { dial_faults_of self.new ≡ dial_faults_of self.old }
         ensures callers { callers_of self.new ≡ callers_of self.old }
         ensures to_link { to_link_of self.new ≡ to_link_of self.old }
+        ensures calls { CountsStart self.old self.new result }
+        ensures failed { result ≡ Did.Failed → content_of self.new ≡ content_of self.old }
     {
+        if self.accepts.next_fails() {
+            return Did::Failed;
+        }
         if keep_start(self.alloc, &mut self.starts, tcp, http, path).is_err() {
-            self.accept_faults.add();
+            self.accepts.add_fault();
             return Did::Failed;
         }
         Did::Done
@@ -239,13 +266,17 @@ impl<E: Drop + Twin + Send> Host<E> for MemHost<E> {
         ensures dial_faults { dial_faults_of self.new ≡ dial_faults_of self.old }
         ensures first { GivesFirst (callers_of self.old) (callers_of self.new) result }
         ensures to_link { to_link_of self.new ≡ to_link_of self.old }
+        ensures calls { CountsAccept self.old self.new result }
     {
         if self.callers.is_empty() {
             self.halted = true;
             return Accept::Halt;
         }
+        if self.accepts.next_fails() {
+            return Accept::Failed;
+        }
         if self.make_room().is_err() || self.given.reserve(1).is_err() {
-            self.accept_faults.add();
+            self.accepts.add_fault();
             return Accept::Failed;
         }
         let Some((kind, mut conn)) = self.callers.pop_front() else {
@@ -264,6 +295,7 @@ impl<E: Drop + Twin + Send> Host<E> for MemHost<E> {
         ensures dial_faults { dial_faults_of self.new ≡ dial_faults_of self.old }
         ensures callers { callers_of self.new ≡ callers_of self.old }
         ensures to_link { to_link_of self.new ≡ to_link_of self.old }
+        ensures calls { KeepsCalls self.old self.new }
     {
         let _ = self.back.push((number, conn));
     }
@@ -281,6 +313,7 @@ impl<E: Drop + Twin + Send> Host<E> for MemHost<E> {
         ensures dial_faults { dial_faults_of self.new ≡ dial_faults_of self.old }
         ensures callers { callers_of self.new ≡ callers_of self.old }
         ensures to_link { to_link_of self.new ≡ to_link_of self.old }
+        ensures calls { KeepsCalls self.old self.new }
     {
         match self.kit.take() {
             Some(
@@ -306,6 +339,7 @@ impl<E: Drop + Twin + Send> Host<E> for MemHost<E> {
         ensures dial_faults { dial_faults_of self.new ≡ dial_faults_of self.old }
         ensures callers { callers_of self.new ≡ callers_of self.old }
         ensures to_link { to_link_of self.new ≡ to_link_of self.old }
+        ensures calls { KeepsCalls self.old self.new }
     {
         self.kit = Some(home);
     }
@@ -323,9 +357,14 @@ impl<E: Drop + Twin + Send> Host<E> for MemHost<E> {
         ensures dial_faults { dial_faults_of self.new ≡ dial_faults_of self.old }
         ensures callers { callers_of self.new ≡ callers_of self.old }
         ensures to_link { to_link_of self.new ≡ to_link_of self.old }
+        ensures calls { CountsPrint self.old self.new result }
+        ensures failed { result ≡ Did.Failed → content_of self.new ≡ content_of self.old }
     {
+        if self.prints.next_fails() {
+            return Did::Failed;
+        }
         if self.printed.extend_from_slice(text).is_err() {
-            self.print_faults.add();
+            self.prints.add_fault();
             return Did::Failed;
         }
         Did::Done
@@ -339,9 +378,13 @@ impl<E: Drop + Twin + Send> Host<E> for MemHost<E> {
         ensures dial_faults { dial_faults_of self.new ≡ dial_faults_of self.old }
         ensures callers { callers_of self.new ≡ callers_of self.old }
         ensures to_link { to_link_of self.new ≡ to_link_of self.old }
+        ensures calls { CountsTell self.old self.new }
     {
+        if self.tells.next_fails() {
+            return;
+        }
         if keep_line(self.alloc, &mut self.lines, line).is_err() {
-            self.tell_faults.add();
+            self.tells.add_fault();
         }
     }
 
@@ -349,7 +392,7 @@ impl<E: Drop + Twin + Send> Host<E> for MemHost<E> {
 
     ghost back_given = { λ h told. Prim.simp length-map h.order };
 
-    ghost faults_fit = { λ h. record { accept = h.accept_faults.fits; print = h.print_faults.fits; tell = h.tell_faults.fits } };
+    ghost faults_fit = { λ h. record { accept = h.accepts.faults.fits; print = h.prints.faults.fits; tell = h.tells.faults.fits } };
 }
 
 /// Appends copies of what a host was started with.

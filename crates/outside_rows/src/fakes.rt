@@ -4,6 +4,7 @@ mod clock;
 mod conn;
 mod folder;
 mod host;
+mod host_faults;
 mod journal;
 mod threads;
 

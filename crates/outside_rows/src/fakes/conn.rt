@@ -23,6 +23,8 @@ struct Row {
     /// The pieces that were read.
     read: &'static [&'static [u8]],
     written: &'static [u8],
+    /// How many reads and writes failed.
+    faults: (u64, u64),
 }
 
 /// A piece of 5 bytes, a mark, a piece of 0 bytes and one that nobody reads.
@@ -44,6 +46,7 @@ const ROWS: [Row; 2] = [
         ],
         read: &[b"hell", b"o"],
         written: b"",
+        faults: (1, 0),
     },
     Row {
         name: "what is written is kept, but for a write that fails",
@@ -56,6 +59,7 @@ const ROWS: [Row; 2] = [
         ],
         read: &[],
         written: b"yes",
+        faults: (0, 1),
     },
 ];
 
@@ -89,7 +93,11 @@ fn holds<R: Wait>(rt: &R, alloc: Global, row: &Row) -> Result<bool, Memory> {
             return Ok(false);
         }
     }
-    Ok(keeps(&conn, row.read, row.written))
+    Ok(
+        keeps(&conn, row.read, row.written)
+            && conn.read_faults() == row.faults.0
+            && conn.write_faults() == row.faults.1,
+    )
 }
 
 #[test]

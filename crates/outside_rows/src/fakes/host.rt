@@ -127,7 +127,7 @@ fn serve_link<R: Wait, H: Host<Seen>>(rt: &R, host: &mut H, address: &str) -> bo
 }
 
 /// A kit with the clock at 7.
-fn home_kit(alloc: Global) -> Result<Kit<MemFolder, MemClock, MemJournal<Seen>>, Memory> {
+pub fn home_kit(alloc: Global) -> Result<Kit<MemFolder, MemClock, MemJournal<Seen>>, Memory> {
     Ok(Kit {
         folder: MemFolder::new(alloc, Vec::new(alloc), Vec::new(alloc))?,
         clock: MemClock::new(alloc, [7].to_vec(alloc)?)?,
@@ -169,7 +169,7 @@ fn is_back(back: &[(u64, MemConn)], want: &[(u64, &[u8])]) -> bool {
 }
 
 /// Whether these lines were told.
-fn is_told(lines: &[Vec<u8>], want: &[&[u8]]) -> bool {
+pub fn is_told(lines: &[Vec<u8>], want: &[&[u8]]) -> bool {
     let mut all = lines.len() == want.len();
     for (line, want) in lines.iter().zip(want) {
         all = all && line.as_slice() == *want;

@@ -13,7 +13,7 @@ use Rattle.http_exchange.specs.declared.ended.EndedHttp.TheVariants.{Closed, Rea
 use Rattle.http_exchange.specs.Exchange.{AreRead, nothing, piece, IsOpen, IsListing, ListsBehindStop, IsExchange, IsExchangeIn}
 use Rattle.http_api.specs.declared.reading.Came.{Came}
 use Rattle.http_api.specs.declared.reading.Came.TheVariants.{Whole, Refused, Over, Memory}
-use Rattle.http_api.specs.Comings.{Looks, HasRead, HasBegun, IsReading, ComesTo, ended_at}
+use Rattle.http_api.specs.Comings.{Looks, HasRead, HasBegun, IsReading, ComesTo, EndsOtherwise, ended_at}
 use Rattle.http_api.proofs.ListLemmas.{lists_none}
 
 -- the bytes of pieces and of one more
@@ -25,6 +25,18 @@ bytes_of-next (p ∷ ps) next = ap (λ x. p ++ x) (bytes_of-next ps next) ∙ sy
 some_last : (pieces : List (List ℕ)) (next : List ℕ) → pieces ++ next ∷ [] ≢ []
 some_last [] next e = cc
 some_last (p ∷ ps) next e = cc
+
+-- bytes that were looked at are no end of the exchange
+pub looked_otherwise : (limit : ℕ) (bytes : List ℕ) (came : Came) → Looks limit bytes (Some came) → EndsOtherwise came
+looked_otherwise limit bytes (Whole request) l = tt
+looked_otherwise limit bytes (Refused refusal) l = tt
+looked_otherwise limit bytes (Over ended) l = absurd l
+looked_otherwise limit bytes Memory l = tt
+
+-- nor is the end of the input one for want of memory
+pub ended_otherwise : (begun : Bool) (ended : EndedHttp) → ended ≡ ended_at begun → EndsOtherwise (Over ended)
+ended_otherwise true ended is = subst (λ (x : EndedHttp). EndsOtherwise (Over x)) (sym is) tt
+ended_otherwise false ended is = subst (λ (x : EndedHttp). EndsOtherwise (Over x)) (sym is) tt
 
 -- nothing was read and nothing noted
 pub reads_none : (o : Options) (number : ℕ) (pieces : List (List ℕ)) (seen : History) → pieces ≡ [] → own number seen ≡ [] → HasRead o number pieces seen

@@ -14,10 +14,11 @@ use Rattle.http_calls.specs.Calls.{call_for}
 use Rattle.http_calls.specs.Refusals.{refused_answer}
 use Rattle.http_exchange.specs.declared.ended.EndedHttp.{EndedHttp}
 use Rattle.http_exchange.specs.declared.ended.EndedHttp.TheVariants.{Answered, EndOfInput, Cut, Closed, ReadFault, WriteFault, Memory}
-use Rattle.http_exchange.specs.Exchange.{AreRead, Answers, refused, Fits, IsGivenUp, IsExchange, IsExchangeIn, HasCause, ListsBehindStop, written_of}
+use Rattle.http_exchange.specs.Exchange.{AreRead, Answers, refused, Fits, IsGivenUp, IsExchange, IsExchangeIn, IsWarnedHttp, HasCause, ListsBehindStop, written_of}
 use Rattle.http_api.specs.Written.{memory_bytes, WritesFirst, Sends, Finishes}
-use Rattle.http_api.specs.Responses.{AnswersCall, IsWanting, RespondsTo}
-use Rattle.http_api.specs.Comings.{IsRefused, HasRead}
+use Rattle.http_api.specs.Responses.{AnswersCall, RespondsTo}
+use Rattle.http_api.specs.declared.reading.Came.TheVariants.{Over}
+use Rattle.http_api.specs.Comings.{IsRefused, HasRead, EndsOtherwise}
 use Rattle.http_api.proofs.ListLemmas.{lists_none}
 use Rattle.http_api.proofs.ResponseLemmas.{answers_call}
 
@@ -87,3 +88,24 @@ cause_since WriteFault at_end r r' r'' w w' w'' more_r more_w c = omega (arith, 
 cause_since Answered at_end r r' r'' w w' w'' more_r more_w c = tt
 cause_since Closed at_end r r' r'' w w' w'' more_r more_w c = tt
 cause_since Memory at_end r r' r'' w w' w'' more_r more_w c = tt
+
+-- who was told since later counts was told since earlier ones
+pub warned_since : (ended : EndedHttp) (out out' out'' : List ℕ) (w w' w'' : ℕ) → out' ≡ out → w ≤ w' → IsWarnedHttp ended out' out'' w' w'' → IsWarnedHttp ended out out'' w w''
+warned_since Memory out out' out'' w w' w'' same more (inl all) = inl (all ∙ ap (λ (x : List ℕ). x ++ memory_bytes) same)
+warned_since Memory out out' out'' w w' w'' same more (inr rose) = inr (omega (arith, more, rose))
+warned_since Answered out out' out'' w w' w'' same more t = tt
+warned_since EndOfInput out out' out'' w w' w'' same more t = tt
+warned_since Cut out out' out'' w w' w'' same more t = tt
+warned_since Closed out out' out'' w w' w'' same more t = tt
+warned_since ReadFault out out' out'' w w' w'' same more t = tt
+warned_since WriteFault out out' out'' w w' w'' same more t = tt
+
+-- an exchange that ended otherwise
+pub warned_otherwise : (ended : EndedHttp) (out out' : List ℕ) (w w' : ℕ) → EndsOtherwise (Over ended) → IsWarnedHttp ended out out' w w'
+warned_otherwise Memory out out' w w' other = absurd other
+warned_otherwise Answered out out' w w' other = tt
+warned_otherwise EndOfInput out out' w w' other = tt
+warned_otherwise Cut out out' w w' other = tt
+warned_otherwise Closed out out' w w' other = tt
+warned_otherwise ReadFault out out' w w' other = tt
+warned_otherwise WriteFault out out' w w' other = tt

@@ -1,10 +1,9 @@
 -- How a call is answered, by what was noted for it.
-use Rattle.std.proofs.Common.{◌≡◌, ◌⊎◌, ℕ, List, [], ◌∷◌, ◌++◌, refl, sym, ap, subst, ◌∙◌, inl, inr, Result, Ok, Err, IfOk, Option, Some, IsErr, Bool, false, true}
+use Rattle.std.proofs.Common.{◌≡◌, ◌⊎◌, ℕ, List, [], ◌∷◌, ◌++◌, refl, sym, ap, subst, ◌∙◌, inl, inr, Result, Ok, Err, IfOk, Some, IsErr, Bool, false, true}
 use Rattle.nsq_base.specs.declared.memory.Memory.{Memory as NoMemory}
 use Rattle.nsq_base.specs.declared.options.Options.{Options}
 use Rattle.nsq_outside.specs.declared.journal.End.{End}
 use Rattle.broker_history.specs.declared.ask.Ask.{Ask}
-use Rattle.broker_history.specs.declared.ask.Said.{Said}
 use Rattle.broker_history.specs.declared.entry.Act.TheVariants.{Listed}
 use Rattle.broker_history.specs.declared.entry.Entry.{Entry}
 use Rattle.broker_history.specs.Entries.{History, own}
@@ -15,11 +14,11 @@ use Rattle.http_calls.specs.declared.call.HttpCall.{HttpCall}
 use Rattle.http_calls.specs.declared.call.HttpCall.TheVariants as call
 use Rattle.http_calls.specs.Answers.{publishes, answer_for, stop_answer}
 use Rattle.http_calls.specs.Calls.{call_for}
-use Rattle.http_exchange.specs.Exchange.{Answers, refused, alone, told, stopping, stopped, answer_alone, ListsBehindStop}
+use Rattle.http_exchange.specs.Exchange.{Answers, alone, told, stopping, stopped, answer_alone, ListsBehindStop}
 use Rattle.http_api.specs.declared.turns.Asked.{Asked}
 use Rattle.http_api.specs.declared.turns.Asked.TheVariants as asked
 use Rattle.http_api.specs.Noted.{AsksTo, IsStopped}
-use Rattle.http_api.specs.Responses.{told_answer, IsTold, AnswersCall, IsWanting, RespondsTo}
+use Rattle.http_api.specs.Responses.{told_answer, AnswersCall, IsWanting, RespondsTo}
 use Rattle.http_api.proofs.ListLemmas.{lists_none}
 use Rattle.http_api.proofs.TurnLemmas.{stopped_lists}
 

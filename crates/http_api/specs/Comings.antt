@@ -8,7 +8,7 @@ use Rattle.http_wire.specs.Request as request
 use Rattle.http_wire.specs.Reading.{Fed}
 use Rattle.http_calls.specs.declared.refusal.Refusal.{Refusal}
 use Rattle.http_exchange.specs.declared.ended.EndedHttp.{EndedHttp}
-use Rattle.http_exchange.specs.declared.ended.EndedHttp.TheVariants.{EndOfInput, Cut}
+use Rattle.http_exchange.specs.declared.ended.EndedHttp.TheVariants.{EndOfInput, Cut, Memory as OutOfMemory}
 use Rattle.http_exchange.specs.Exchange.{AreRead, refusal_at, IsExchangeIn, HasCause}
 use Rattle.http_api.specs.declared.reading.Came.{Came}
 use Rattle.http_api.specs.declared.reading.Came.TheVariants.{Whole, Refused, Over, Memory}
@@ -60,6 +60,16 @@ Fetches o number pieces seen reader begun (Some came) = ComesTo o number pieces 
 abbrev pub ended_at : Bool → EndedHttp
 ended_at true = Cut
 ended_at false = EndOfInput
+
+-- where the reading came to the end of the exchange, it isn't for want of memory: that is what Memory says
+abbrev pub EndsOtherwise : Came → Type 0
+EndsOtherwise (Over OutOfMemory) = ⊥
+EndsOtherwise _ = Unit {0}
+
+-- the same, where it came to something
+abbrev pub FetchEndsOtherwise : Option Came → Type 0
+FetchEndsOtherwise None = Unit {0}
+FetchEndsOtherwise (Some came) = EndsOtherwise came
 
 -- an ending that the reading came to had its cause
 abbrev pub HasCameCause : Came → (at_end : Bool) → (read_faults read_faults' write_faults write_faults' : ℕ) → Type 0

@@ -3,7 +3,7 @@ ghost use Rattle.nsq_base.specs.declared.options.Options.{Options};
 ghost use Rattle.broker_history.specs.Entries.{own};
 ghost use Rattle.broker_history.specs.Talk.{bytes_of, longest_piece};
 ghost use Rattle.http_exchange.specs.Exchange.{IsOpen};
-ghost use Rattle.http_api.specs.Comings.{Looks, IsReading, ComesTo, Fetches, HasCameCause, HasFetchCause, ended_at};
+ghost use Rattle.http_api.specs.Comings.{Looks, IsReading, ComesTo, Fetches, HasCameCause, HasFetchCause, EndsOtherwise, FetchEndsOtherwise, ended_at};
 
 use crate::turns::{Ticked, tick};
 use desk::Desk;
@@ -56,6 +56,7 @@ pub(crate) fn read_request<R: Wait, K: Conn, D: Desk>(
     ensures came { (o : Options) → o.max_body_size ≡ limit → IsTrue K.tells_pieces → IsTrue D.tells → K.pieces conn.old ≡ [] → own number (D.seen desk.old) ≡ []
         → ComesTo o number (K.pieces conn.new) (D.seen desk.new) result }
     ensures cause { HasCameCause result (K.ended conn.new) (K.read_faults conn.old) (K.read_faults conn.new) (K.write_faults conn.old) (K.write_faults conn.new) }
+    ensures otherwise { EndsOtherwise result }
     ensures stream { IsTrue K.tells_pieces → bytes_of (K.pieces conn.new) ++ K.left conn.new ≡ bytes_of (K.pieces conn.old) ++ K.left conn.old }
     ensures written { K.written conn.new ≡ K.written conn.old }
     ensures read_faults { K.read_faults conn.old ≤ K.read_faults conn.new }
@@ -94,6 +95,7 @@ fn read_on<R: Wait, K: Conn, D: Desk>(
     ensures came { (o : Options) → IsTrue K.tells_pieces → IsTrue D.tells → IsReading o number (K.pieces conn.old) (D.seen desk.old) intake.old.reader intake.old.begun
         → ComesTo o number (K.pieces conn.new) (D.seen desk.new) result }
     ensures cause { HasCameCause result (K.ended conn.new) (K.read_faults conn.old) (K.read_faults conn.new) (K.write_faults conn.old) (K.write_faults conn.new) }
+    ensures otherwise { EndsOtherwise result }
     ensures stream { IsTrue K.tells_pieces → bytes_of (K.pieces conn.new) ++ K.left conn.new ≡ bytes_of (K.pieces conn.old) ++ K.left conn.old }
     ensures written { K.written conn.new ≡ K.written conn.old }
     ensures read_faults { K.read_faults conn.old ≤ K.read_faults conn.new }
@@ -145,6 +147,7 @@ fn fetch<R: Wait, K: Conn, D: Desk>(
     ensures came { (o : Options) → IsTrue K.tells_pieces → IsTrue D.tells → IsReading o number (K.pieces conn.old) (D.seen desk.old) intake.old.reader intake.old.begun
         → IsOpen o (K.pieces conn.old) → Fetches o number (K.pieces conn.new) (D.seen desk.new) intake.new.reader intake.new.begun result }
     ensures cause { HasFetchCause result (K.ended conn.new) (K.read_faults conn.old) (K.read_faults conn.new) (K.write_faults conn.old) (K.write_faults conn.new) }
+    ensures otherwise { FetchEndsOtherwise result }
     ensures stream { IsTrue K.tells_pieces → bytes_of (K.pieces conn.new) ++ K.left conn.new ≡ bytes_of (K.pieces conn.old) ++ K.left conn.old }
     ensures written { K.written conn.new ≡ K.written conn.old }
     ensures read_faults { K.read_faults conn.old ≤ K.read_faults conn.new }

@@ -2,7 +2,7 @@ ghost use Rattle.std.specs.Prelude.{◌≡◌, ◌<◌, ◌≤◌, ◌++◌, [],
 ghost use Rattle.nsq_base.specs.Options.{IsInRange};
 ghost use Rattle.broker_history.specs.Entries.{own};
 ghost use Rattle.broker_history.specs.Talk.{bytes_of};
-ghost use Rattle.http_exchange.specs.Exchange.{HasCause, IsExchangeIn};
+ghost use Rattle.http_exchange.specs.Exchange.{HasCause, IsExchangeIn, IsWarnedHttp};
 
 use crate::asking::respond;
 use crate::reading::{Came, read_request};
@@ -42,6 +42,7 @@ pub fn serve_http<R: Wait, K: Conn, D: Desk>(
     requires options { IsInRange options.now }
     ensures exchange { IsTrue K.tells_pieces → IsTrue K.tells_written → IsTrue D.tells → K.pieces conn.old ≡ [] → K.written conn.old ≡ []
         → IsExchangeIn options.now began number (D.seen desk.new) (K.pieces conn.new) (K.written conn.new) result }
+    ensures warned { IsTrue K.tells_written → IsWarnedHttp result (K.written conn.old) (K.written conn.new) (K.write_faults conn.old) (K.write_faults conn.new) }
     ensures cause { HasCause result (K.ended conn.new) (K.read_faults conn.old) (K.read_faults conn.new) (K.write_faults conn.old) (K.write_faults conn.new) }
     ensures stream { IsTrue K.tells_pieces → bytes_of (K.pieces conn.new) ++ K.left conn.new ≡ bytes_of (K.pieces conn.old) ++ K.left conn.old }
     ensures read_faults { K.read_faults conn.old ≤ K.read_faults conn.new }

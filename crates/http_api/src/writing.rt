@@ -2,7 +2,7 @@ ghost use Rattle.std.specs.Prelude.{◌≡◌, ◌≤◌, false, IfOk, IsTrue};
 ghost use Rattle.nsq_outside.specs.Causes.{Rose};
 ghost use Rattle.http_wire.specs.Answer.{IsStatus};
 ghost use Rattle.http_exchange.specs.declared.ended.EndedHttp.TheVariants.{Memory as OutOfMemory};
-ghost use Rattle.http_exchange.specs.Exchange.{HasCause};
+ghost use Rattle.http_exchange.specs.Exchange.{HasCause, IsWarnedHttp};
 ghost use Rattle.http_api.specs.Written.{memory_bytes, WritesFirst, WritesAll, WritesUnlessFault, Sends, Finishes};
 
 use http_calls::HttpAnswer;
@@ -26,6 +26,7 @@ pub(crate) fn finish<R: Wait, K: Conn>(
 ) -> EndedHttp
     requires status { IfOk answer (λ a. IsStatus a.status) }
     ensures told { IsTrue K.tells_written → Finishes answer (K.written conn.old) (K.written conn.new) result }
+    ensures warned { IsTrue K.tells_written → IsWarnedHttp result (K.written conn.old) (K.written conn.new) (K.write_faults conn.old) (K.write_faults conn.new) }
     ensures cause { HasCause result (K.ended conn.new) (K.read_faults conn.old) (K.read_faults conn.new) (K.write_faults conn.old) (K.write_faults conn.new) }
     ensures write_faults { K.write_faults conn.old ≤ K.write_faults conn.new }
     ensures read_faults { K.read_faults conn.old ≤ K.read_faults conn.new }
@@ -42,6 +43,7 @@ pub(crate) fn finish<R: Wait, K: Conn>(
 fn send<R: Wait, K: Conn>(rt: &R, alloc: Global, conn: &mut K, answer: &HttpAnswer) -> EndedHttp
     requires status { IsStatus answer.now.status }
     ensures told { IsTrue K.tells_written → Sends answer.now (K.written conn.old) (K.written conn.new) result }
+    ensures warned { IsTrue K.tells_written → IsWarnedHttp result (K.written conn.old) (K.written conn.new) (K.write_faults conn.old) (K.write_faults conn.new) }
     ensures cause { HasCause result (K.ended conn.new) (K.read_faults conn.old) (K.read_faults conn.new) (K.write_faults conn.old) (K.write_faults conn.new) }
     ensures write_faults { K.write_faults conn.old ≤ K.write_faults conn.new }
     ensures read_faults { K.read_faults conn.old ≤ K.read_faults conn.new }
@@ -66,18 +68,30 @@ fn send<R: Wait, K: Conn>(rt: &R, alloc: Global, conn: &mut K, answer: &HttpAnsw
     EndedHttp::Answered
 }
 
-/// Writes the answer for want of memory, which takes no memory, whole unless a write fails, and answers Memory.
+/// Writes the answer for want of memory, whole unless a write fails, and answers Memory.
 pub(crate) fn give_up<R: Wait, K: Conn>(rt: &R, conn: &mut K) -> EndedHttp
     ensures told { IsTrue K.tells_written → WritesFirst memory_bytes (K.written conn.old) (K.written conn.new) }
-    ensures whole { IsTrue K.tells_written → WritesUnlessFault memory_bytes (K.written conn.old) (K.written conn.new) (K.write_faults conn.old) (K.write_faults conn.new) }
+    ensures warned { IsTrue K.tells_written → IsWarnedHttp result (K.written conn.old) (K.written conn.new) (K.write_faults conn.old) (K.write_faults conn.new) }
     ensures memory { result ≡ OutOfMemory }
     ensures write_faults { K.write_faults conn.old ≤ K.write_faults conn.new }
     ensures read_faults { K.read_faults conn.old ≤ K.read_faults conn.new }
     ensures pieces { K.pieces conn.new ≡ K.pieces conn.old }
     ensures left { K.left conn.new ≡ K.left conn.old }
 {
-    let _ = write_all(rt, conn, MEMORY_ANSWER);
+    write_memory_answer(rt, conn);
     EndedHttp::Memory
+}
+
+/// Writes the answer for want of memory, which takes no memory, whole unless a write fails.
+fn write_memory_answer<R: Wait, K: Conn>(rt: &R, conn: &mut K)
+    ensures told { IsTrue K.tells_written → WritesFirst memory_bytes (K.written conn.old) (K.written conn.new) }
+    ensures whole { IsTrue K.tells_written → WritesUnlessFault memory_bytes (K.written conn.old) (K.written conn.new) (K.write_faults conn.old) (K.write_faults conn.new) }
+    ensures write_faults { K.write_faults conn.old ≤ K.write_faults conn.new }
+    ensures read_faults { K.read_faults conn.old ≤ K.read_faults conn.new }
+    ensures pieces { K.pieces conn.new ≡ K.pieces conn.old }
+    ensures left { K.left conn.new ≡ K.left conn.old }
+{
+    let _ = write_all(rt, conn, MEMORY_ANSWER);
 }
 
 /// Writes all the bytes, or as many of the first ones as are taken before a write fails. It says whether all were taken.

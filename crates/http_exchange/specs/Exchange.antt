@@ -177,3 +177,8 @@ HasCause Cut at_end read_faults read_faults' write_faults write_faults' = at_end
 HasCause ReadFault at_end read_faults read_faults' write_faults write_faults' = Rose read_faults read_faults'
 HasCause WriteFault at_end read_faults read_faults' write_faults write_faults' = Rose write_faults write_faults'
 HasCause _ at_end read_faults read_faults' write_faults write_faults' = Unit {0}
+
+-- an exchange that ended by want of memory wrote the whole answer that says so, or a write failed
+abbrev pub IsWarnedHttp : EndedHttp → (written written' : List ℕ) → (write_faults write_faults' : ℕ) → Type 0
+IsWarnedHttp Memory written written' write_faults write_faults' = (written' ≡ written ++ written_of (refused_answer refusal.OutOfMemory)) ⊎ Rose write_faults write_faults'
+IsWarnedHttp _ written written' write_faults write_faults' = Unit {0}

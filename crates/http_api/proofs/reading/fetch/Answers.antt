@@ -2,7 +2,7 @@ use Rattle.std.proofs.Common.{◌≤◌, ◌<◌, ◌∙◌, sym, subst, take, d
 use Rattle.http_exchange.specs.declared.ended.EndedHttp.{EndedHttp}
 use Rattle.http_api.specs.declared.reading.Came.TheVariants.{Over}
 use Rattle.http_api.specs.Comings.{ComesTo}
-use Rattle.http_api.proofs.ComingLemmas.{has_read_next, reads_next, reads_same, comes_end, comes_fault, comes_closed, fed_front, read_stream, same_stream}
+use Rattle.http_api.proofs.ComingLemmas.{has_read_next, reads_next, reads_same, comes_end, comes_fault, comes_closed, ended_otherwise, fed_front, read_stream, same_stream}
 use Rattle.http_api.proofs.reading.fetch.Goals as goal
 
 pub returns-then-is_err-clause-came : goal.returns-then-is_err-clause-came
@@ -54,6 +54,9 @@ returns-in-Memory-clause-stream g c = λ told. let reads = c.in-Nothing.ensures.
 pub returns-in-End-clause-came : goal.returns-in-End-clause-came
 returns-in-End-clause-came g c = λ o told tells r opens.
     subst (λ (x : EndedHttp). ComesTo o c.args.number (g.K.Source.pieces c.get.new.conn) (g.D.Desk.seen c.args.desk.now) (Over x)) (sym c.ended_at.ensures) (comes_end o c.args.number _ _ _ _ _ r opens (c.in-End.ensures.told told).0)
+
+pub returns-in-End-clause-otherwise : goal.returns-in-End-clause-otherwise
+returns-in-End-clause-otherwise g c = ended_otherwise c.args.intake.now.begun c.ended_at.result c.ended_at.ensures
 
 pub returns-in-End-clause-stream : goal.returns-in-End-clause-stream
 returns-in-End-clause-stream g c = λ told. let reads = c.in-End.ensures.told told in same_stream _ _ _ _ reads.0 reads.1

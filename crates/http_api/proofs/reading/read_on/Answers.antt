@@ -1,7 +1,7 @@
 use Rattle.std.proofs.Common.{◌∙◌, sym, subst, arith}
 use Rattle.http_wire.specs.Reading.{Fed}
 use Rattle.http_api.specs.Comings.{IsReading}
-use Rattle.http_api.proofs.ComingLemmas.{open_reading, comes_looked}
+use Rattle.http_api.proofs.ComingLemmas.{open_reading, comes_looked, looked_otherwise}
 use Rattle.http_api.proofs.reading.read_on.Goals as goal
 
 pub reads-preserved : goal.reads-preserved
@@ -32,3 +32,6 @@ pub returns-in-Some-look-clause-came : goal.returns-in-Some-look-clause-came
 returns-in-Some-look-clause-came g c = λ o told tells first.
     let r = c.reads.invariant.reading o told tells first in
     comes_looked o c.args.number _ (g.K.Source.pieces c.reads.conn) _ _ _ r c.in-Some-look.came c.in-Some-look.ensures.looks
+
+pub returns-in-Some-look-clause-otherwise : goal.returns-in-Some-look-clause-otherwise
+returns-in-Some-look-clause-otherwise g c = looked_otherwise _ _ c.in-Some-look.came c.in-Some-look.ensures.looks

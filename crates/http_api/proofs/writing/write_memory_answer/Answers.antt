@@ -1,7 +1,7 @@
 use Rattle.std.specs.Fmt.{digits}
 use Rattle.http_api.specs.Written.{memory_bytes}
 use Rattle.http_api.proofs.WriteLemmas.{some_first, all_unless_fault}
-use Rattle.http_api.proofs.writing.give_up.Goals as goal
+use Rattle.http_api.proofs.writing.write_memory_answer.Goals as goal
 
 pub returns-clause-told : goal.returns-clause-told
 unfolding digits

@@ -13,6 +13,7 @@ mod listeners;
 mod open_files;
 mod outbox;
 mod sys_clock;
+mod talker;
 mod tcp_conn;
 mod tcp_dialer;
 
@@ -22,5 +23,6 @@ pub use forgetful::Forgetful;
 pub use listeners::Listeners;
 pub use outbox::Outbox;
 pub use sys_clock::SysClock;
+pub use talker::{Talker, hear_out};
 pub use tcp_conn::TcpConn;
 pub use tcp_dialer::TcpDialer;

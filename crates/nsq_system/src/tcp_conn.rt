@@ -2,9 +2,11 @@ ghost use Rattle.std.specs.Prelude.{◌≡◌, ◌≢◌, ◌<◌, ◌≤◌, []
 ghost use Rattle.nsq_outside.specs.Causes.{DidFails, DidCounts, CountsFault};
 ghost use Rattle.nsq_outside.specs.Streams.{IsAmountRead};
 
+mod closing;
 mod socket;
 
 use crate::outbox::Outbox;
+use closing::Closing;
 use mio::unix::SourceFd;
 use mio::{Events, Interest, Poll, Token};
 use nsq_outside::{Conn, Did, Faults, Kind, Read, Sink, Source, Write};
@@ -38,6 +40,9 @@ const STREAM: Token = Token(0);
 ///
 /// A read waits up to 20 ms for bytes, and a send up to 5 s for the peer to take a byte. After a read or a send failed,
 /// nothing is read or sent any more, so that no byte is missing between two that were sent.
+///
+/// A connection that is dropped sends no more, and is closed at once where the peer sent nothing that is unread. Else what
+/// the peer sends is dropped first, until it ends, is silent for 200 ms, or 2 s or 64 MiB are over.
 pub struct TcpConn {
     outbox: Outbox<Socket>,
     poll: Poll,
@@ -267,13 +272,14 @@ impl Drop for TcpConn {
         // Nobody is left to be told that the bytes couldn't be sent.
         let _ = self.flush();
         let TcpConn {
-            outbox: _outbox,
-            poll: _poll,
-            events: _events,
+            outbox,
+            poll,
+            events,
             kind: _kind,
             writes: _writes,
             ended: _ended,
             read_faults: _read_faults,
         } = self;
+        Closing::new(outbox, poll, events).close();
     }
 }

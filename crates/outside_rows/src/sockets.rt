@@ -2,6 +2,7 @@
 
 mod answers;
 mod callers;
+mod closings;
 mod dials;
 mod outbox;
 mod talks;

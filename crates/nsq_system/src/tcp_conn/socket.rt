@@ -6,7 +6,8 @@ ghost use Rattle.nsq_outside.specs.Streams.{IsAmountRead};
 use nsq_outside::Read;
 use std::io;
 use std::io::{ErrorKind, Read as _, Write as _};
-use std::net::TcpStream;
+use std::net::{Shutdown, TcpStream};
+use std::os::fd::{AsRawFd, RawFd};
 
 /// An open stream that doesn't block.
 #[derive(Drop)]
@@ -22,6 +23,16 @@ impl Socket {
             stream,
             stuck: false,
         }
+    }
+
+    /// Its number in the system.
+    pub(super) fn descriptor(&self) -> RawFd {
+        self.stream.as_raw_fd()
+    }
+
+    /// Sends no more, which the peer learns.
+    pub(super) fn finish(&self) -> io::Result<()> {
+        self.stream.shutdown(Shutdown::Write)
     }
 
     /// Receives a piece of what has come. An interrupted call is `Nothing`, and every error that isn't for want of bytes is

@@ -1,0 +1,71 @@
+// A connection whose last bytes were sent.
+ghost use Rattle.std.specs.Prelude.{◌<◌, length};
+ghost use Rattle.nsq_outside.specs.Streams.{IsAmountRead};
+
+use super::socket::Socket;
+use crate::outbox::Outbox;
+use crate::talker::{Talker, hear_out};
+use mio::unix::SourceFd;
+use mio::{Events, Poll};
+use nsq_outside::Read;
+use std::time::Duration;
+
+/// How long a wait for the peer is, in milliseconds.
+const WAIT: u64 = 1;
+
+/// A connection whose last bytes were sent, and that is to be closed.
+#[derive(Drop)]
+pub(super) struct Closing {
+    outbox: Outbox<Socket>,
+    poll: Poll,
+    events: Events,
+}
+
+impl Closing {
+    pub(super) fn new(outbox: Outbox<Socket>, poll: Poll, events: Events) -> Closing {
+        Closing {
+            outbox,
+            poll,
+            events,
+        }
+    }
+
+    /// Ends what is sent, and closes the stream. Where bytes of the peer are unread it hears the peer out first: the system
+    /// would answer them by a reset, in which the peer may lose what was sent last.
+    pub(super) fn close(mut self) {
+        if self.outbox.is_broken() || self.outbox.writer().finish().is_err() {
+            return;
+        }
+        if self.is_unread() {
+            // What comes doesn't cut a wait short any more, so that the time of all waits is known without a clock.
+            let descriptor = self.outbox.writer().descriptor();
+            let _ = self.poll.registry().deregister(&mut SourceFd(&descriptor));
+            hear_out(&mut self);
+        }
+    }
+
+    /// Whether bytes of the peer were there, some of which it drops.
+    fn is_unread(&self) -> bool {
+        match self.outbox.writer().receive(&mut [0u8; 64]) {
+            Read::Got(_) => true,
+            Read::Nothing | Read::End | Read::Failed => false,
+        }
+    }
+}
+
+impl Talker for Closing {
+    ghost reads = { λ _. 0 };
+
+    ghost waits = { λ _. 0 };
+
+    fn read(&mut self, into: &mut [u8]) -> Read {
+        self.outbox.writer().receive(into)
+    }
+
+    fn wait(&mut self) {
+        // Where it fails the peer is read from once more than it would be.
+        let _ = self
+            .poll
+            .poll(&mut self.events, Some(Duration::from_millis(WAIT)));
+    }
+}

@@ -1,0 +1,209 @@
+use nsq_outside::{Kind, Read, Sink, Source, Write};
+use nsq_system::{Talker, TcpConn, hear_out};
+use std::alloc::Global;
+use std::io;
+use std::io::{Read as _, Write as _};
+use std::net::{Net, Shutdown, TcpListener, TcpStream};
+use std::sync::Wait;
+use std::test::Fail;
+use std::time::Duration;
+
+/// What a peer in memory says to the reads of it.
+#[derive(Clone, Copy)]
+enum Speech {
+    Silence,
+    /// It gives what fits at each read.
+    Flood,
+    /// It gives a byte at each so-many-th read.
+    Drip(u32),
+    /// It floods up to a read of this number, and then it ends.
+    Ends(u32),
+    /// It floods up to a read of this number, which fails.
+    Fails(u32),
+}
+
+/// A peer in memory. It counts how often it is read from and waited for.
+#[derive(Drop)]
+struct Scripted {
+    speech: Speech,
+    reads: u32,
+    waits: u32,
+}
+
+/// The answer to a read of this number that has so much room.
+fn answer(speech: Speech, read: u32, room: usize) -> Read {
+    match speech {
+        Speech::Drip(every) if every != 0 && read % every == 0 => Read::Got(1),
+        Speech::Silence | Speech::Drip(_) => Read::Nothing,
+        Speech::Ends(last) if last <= read => Read::End,
+        Speech::Fails(last) if last <= read => Read::Failed,
+        Speech::Flood | Speech::Ends(_) | Speech::Fails(_) => Read::Got(room),
+    }
+}
+
+impl Talker for Scripted {
+    ghost reads = { λ peer. peer.reads };
+
+    ghost waits = { λ peer. peer.waits };
+
+    fn read(&mut self, into: &mut [u8]) -> Read {
+        self.reads = self.reads.saturating_add(1);
+        answer(self.speech, self.reads, into.len())
+    }
+
+    fn wait(&mut self) {
+        self.waits = self.waits.saturating_add(1);
+    }
+}
+
+struct Hearing {
+    name: &'static str,
+    speech: Speech,
+    /// How often the peer is read from and waited for.
+    reads: u32,
+    waits: u32,
+}
+
+const HEARINGS: [Hearing; 8] = [
+    Hearing {
+        name: "the end is there",
+        speech: Speech::Ends(1),
+        reads: 1,
+        waits: 0,
+    },
+    Hearing {
+        name: "the end behind some pieces",
+        speech: Speech::Ends(5),
+        reads: 5,
+        waits: 0,
+    },
+    Hearing {
+        name: "a failure behind some pieces",
+        speech: Speech::Fails(3),
+        reads: 3,
+        waits: 0,
+    },
+    Hearing {
+        name: "silence",
+        speech: Speech::Silence,
+        reads: 201,
+        waits: 200,
+    },
+    Hearing {
+        name: "a peer that sends for ever",
+        speech: Speech::Flood,
+        reads: 4_096,
+        waits: 0,
+    },
+    Hearing {
+        name: "a peer that sends a byte now and then, for ever",
+        speech: Speech::Drip(2),
+        reads: 4_001,
+        waits: 2_000,
+    },
+    Hearing {
+        name: "a byte that comes just before it is silent",
+        speech: Speech::Drip(201),
+        reads: 2_011,
+        waits: 2_000,
+    },
+    Hearing {
+        name: "a byte that comes too late",
+        speech: Speech::Drip(202),
+        reads: 201,
+        waits: 200,
+    },
+];
+
+fn hearing_holds(row: &Hearing) -> bool {
+    let mut peer = Scripted {
+        speech: row.speech,
+        reads: 0,
+        waits: 0,
+    };
+    hear_out(&mut peer);
+    peer.reads == row.reads && peer.waits == row.waits
+}
+
+/// A connection that is dropped while bytes of its peer are unread.
+struct Closing {
+    name: &'static str,
+    kind: Kind,
+    /// The peer sends so many bytes, as far as the system takes them while nobody reads.
+    sends: usize,
+    /// It sends no more after that.
+    stops: bool,
+}
+
+const CLOSINGS: [Closing; 3] = [
+    Closing {
+        name: "HTTP, and the peer goes on listening",
+        kind: Kind::Http,
+        sends: 1_000_000,
+        stops: false,
+    },
+    Closing {
+        name: "HTTP, and the peer has ended",
+        kind: Kind::Http,
+        sends: 1_000_000,
+        stops: true,
+    },
+    Closing {
+        name: "the TCP protocol, a few bytes",
+        kind: Kind::Tcp,
+        sends: 11,
+        stops: false,
+    },
+];
+
+const ANSWER: &[u8] = b"too large";
+
+/// The connection reads 10 bytes and writes an answer, and is dropped.
+fn answers_and_closes<R: Wait>(rt: &R, mut conn: TcpConn) -> bool {
+    let read = conn.read(rt, &mut [0u8; 10]);
+    read == Read::Got(10) && conn.write(rt, ANSWER) == Write::Took(ANSWER.len())
+}
+
+/// Whether the peer gets the answer and the end behind it, and no reset.
+fn gets_all(peer: &mut TcpStream) -> io::Result<bool> {
+    let mut came = [0u8; 9];
+    peer.read_exact(&mut came)?;
+    Ok(came.as_slice() == ANSWER && peer.read(&mut came)? == 0)
+}
+
+fn closing_holds<R: Wait + Net<Listener = TcpListener, Stream = TcpStream>>(
+    rt: &R,
+    alloc: Global,
+    row: &Closing,
+) -> io::Result<bool> {
+    let listener = TcpListener::bind(rt, "127.0.0.1:0")?;
+    let mut peer = TcpStream::connect(rt, listener.local_addr()?)?;
+    let (stream, _) = listener.accept()?;
+    let conn = TcpConn::new(rt, alloc, stream, row.kind)?;
+    peer.set_nonblocking(true)?;
+    let sent = peer.write(&vec![in alloc; 7; row.sends]?)?;
+    peer.set_nonblocking(false)?;
+    peer.set_read_timeout(Some(Duration::from_secs(1)))?;
+    if row.stops {
+        peer.shutdown(Shutdown::Write)?;
+    }
+    let all = answers_and_closes(rt, conn);
+    Ok(10 < sent && all && gets_all(&mut peer)?)
+}
+
+#[test]
+fn hearings(rt: HostRuntime) -> Result<(), Fail> {
+    for row in &HEARINGS {
+        assert!(rt; hearing_holds(row), "{}", row.name);
+    }
+    Ok(())
+}
+
+#[test]
+fn closings(rt: HostRuntime) -> Result<(), Fail> {
+    for row in &CLOSINGS {
+        let holds = closing_holds(&rt, rt.alloc(), row)?;
+        assert!(rt; holds, "{}", row.name);
+    }
+    Ok(())
+}

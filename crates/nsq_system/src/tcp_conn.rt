@@ -42,7 +42,7 @@ const STREAM: Token = Token(0);
 /// nothing is read or sent any more, so that no byte is missing between two that were sent.
 ///
 /// A connection that is dropped sends no more, and is closed at once where the peer sent nothing that is unread. Else what
-/// the peer sends is dropped first, until it ends, is silent for 200 ms, or 2 s or 64 MiB are over.
+/// the peer sends is dropped first, until it ends, is silent for some 200 ms, or some 2 s or 64 MiB are over.
 pub struct TcpConn {
     outbox: Outbox<Socket>,
     poll: Poll,

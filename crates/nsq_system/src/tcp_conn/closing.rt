@@ -63,7 +63,7 @@ impl Talker for Closing {
     }
 
     fn wait(&mut self) {
-        // Where it fails the peer is read from once more than it would be.
+        // A wait that fails is over at once, and counts.
         let _ = self
             .poll
             .poll(&mut self.events, Some(Duration::from_millis(WAIT)));

@@ -3,7 +3,7 @@ use Rattle.std.specs.Prelude.{ℕ, ◌≡◌, Bool, true, is_some}
 use Rattle.nsq_outside.specs.Hosts.{IsFreshCaller}
 use Rattle.nsq_system.specs.TcpConns.{no_pieces, no_bytes, ended_of, read_faults_of, write_faults_of, kind_of, IsNewTcpConn}
 use Rattle.nsq_outside.specs.declared.host.Kind.{Kind}
-use Rattle.nsq_outside.specs.declared.host.Kind.TheVariants.{Http}
+use Rattle.nsq_outside.specs.declared.host.Kind.TheVariants.{Http, Tcp}
 use Rattle.nsq_outside.specs.declared.host.Accept.{Accept}
 use Rattle.nsq_outside.specs.declared.host.Accept.TheVariants.{Caller, Nothing, Halt, Failed}
 use Rattle.nsq_system.specs.declared.tcp_conn.TcpConn.{TcpConn}
@@ -64,3 +64,11 @@ IsOfKind here (Stream kind stream) = kind ≡ here
 IsOfKind here Nobody = Unit {0}
 IsOfKind here Shortage = Unit {0}
 IsOfKind here Broken = Unit {0}
+
+-- the kind of caller that is looked for first behind this: the other one than that of a caller, and where none came the same as before
+abbrev pub kind_behind : Kind → Tried → Kind
+kind_behind first (Stream Tcp stream) = Http
+kind_behind first (Stream Http stream) = Tcp
+kind_behind first Nobody = first
+kind_behind first Shortage = first
+kind_behind first Broken = first

@@ -1,5 +1,5 @@
 ghost use Rattle.std.specs.Prelude.{◌≡◌, ◌≤◌, IfOk, is_some};
-ghost use Rattle.nsq_system.specs.Listeners.{IsHeardStream, IsOfKind};
+ghost use Rattle.nsq_system.specs.Listeners.{IsHeardStream, IsOfKind, kind_behind};
 ghost use Rattle.nsq_outside.specs.Hosts.{AcceptFails, AcceptCounts};
 
 use crate::answers::{NoCaller, no_caller};
@@ -28,13 +28,16 @@ const SHORTAGE_PAUSE: u64 = 10;
 const MOST_TRIES: u32 = 100;
 
 /// The listeners of a daemon: one for the TCP protocol, and one for HTTP where there is one. Each has the longest backlog
-/// that the system allows. `N` is the runtime.
+/// that the system allows. Where callers of both wait they take turns: behind one of a kind comes one of the other. `N` is
+/// the runtime.
 #[derive(Drop)]
 pub struct Listeners<N> {
     rt: N,
     alloc: Global,
     tcp: TcpListener,
     http: Option<TcpListener>,
+    /// The kind of caller that is looked for first.
+    first: Kind,
     poll: Poll,
     events: Events,
     faults: Faults,
@@ -77,6 +80,7 @@ impl<N: Net + Clock> Listeners<N> {
             alloc,
             tcp,
             http,
+            first: Kind::Tcp,
             poll,
             events,
             faults: Faults::none(),
@@ -143,7 +147,7 @@ impl<N: Net + Clock> Listeners<N> {
         ensures heard { IsHeardStream (has_http self.old) result }
         ensures http { has_http self.new ≡ has_http self.old }
     {
-        match try_both(&self.tcp, &self.http) {
+        match self.try_in_turn() {
             Tried::Nobody => {}
             tried => return tried,
         }
@@ -151,7 +155,24 @@ impl<N: Net + Clock> Listeners<N> {
         if self.poll.poll(&mut self.events, Some(most)).is_err() {
             return Tried::Broken;
         }
-        try_both(&self.tcp, &self.http)
+        self.try_in_turn()
+    }
+
+    /// A caller of either listener, of the kind that is looked for first where both have one. Behind a caller that is the
+    /// other kind.
+    fn try_in_turn(&mut self) -> Tried
+        ensures turns { self.new.first ≡ kind_behind self.old.first result }
+        ensures faults { accept_faults_of self.new ≡ accept_faults_of self.old }
+        ensures heard { IsHeardStream (has_http self.old) result }
+        ensures http { has_http self.new ≡ has_http self.old }
+    {
+        let tried = try_both(&self.tcp, &self.http, self.first);
+        match &tried {
+            Tried::Stream(Kind::Tcp, _) => self.first = Kind::Http,
+            Tried::Stream(Kind::Http, _) => self.first = Kind::Tcp,
+            Tried::Nobody | Tried::Shortage | Tried::Broken => {}
+        }
+        tried
     }
 }
 
@@ -175,12 +196,20 @@ fn bind<N: Net>(rt: &N, address: &str) -> io::Result<TcpListener> {
     Err(last)
 }
 
-/// A caller of the first listener, or else of the second.
-fn try_both(tcp: &TcpListener, http: &Option<TcpListener>) -> Tried
+/// A caller of the listener of this kind, or else of the other.
+fn try_both(tcp: &TcpListener, http: &Option<TcpListener>, first: Kind) -> Tried
     ensures { IsHeardStream (is_some http.now) result }
 {
-    match (try_accept(tcp, Kind::Tcp), http) {
-        (Tried::Nobody, Some(http)) => try_accept(http, Kind::Http),
+    let Some(http) = http else {
+        return try_accept(tcp, Kind::Tcp);
+    };
+    let tried = match first {
+        Kind::Tcp => try_accept(tcp, Kind::Tcp),
+        Kind::Http => try_accept(http, Kind::Http),
+    };
+    match (tried, first) {
+        (Tried::Nobody, Kind::Tcp) => try_accept(http, Kind::Http),
+        (Tried::Nobody, Kind::Http) => try_accept(tcp, Kind::Tcp),
         (tried, _) => tried,
     }
 }

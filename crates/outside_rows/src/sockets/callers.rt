@@ -79,6 +79,28 @@ fn address_of<R: Net + Clock>(
     }
 }
 
+/// Whether callers of both kinds that wait are given in turn: two of the TCP protocol who called first, and one of HTTP
+/// between them.
+fn take_turns<R: Wait + Clock + Clone + Drop + Send + Net<Stream = TcpStream>>(
+    rt: &R,
+    alloc: Global,
+) -> io::Result<bool> {
+    let mut listeners = Listeners::open(rt.clone()?, alloc, HERE, Some(HERE))?;
+    let mut dialer = TcpDialer::new(rt.clone()?, alloc);
+    let tcp = address_of(alloc, &listeners, Kind::Tcp)?;
+    let http = address_of(alloc, &listeners, Kind::Http)?;
+    let _first = linked(dialer.dial(rt, tcp.as_str()));
+    let _second = linked(dialer.dial(rt, tcp.as_str()));
+    let _third = linked(dialer.dial(rt, http.as_str()));
+    for kind in [Kind::Tcp, Kind::Http, Kind::Tcp] {
+        match caller(listeners.accept()) {
+            Some((given, _conn)) if given == kind => {}
+            _ => return Ok(false),
+        }
+    }
+    Ok(true)
+}
+
 /// Whether nobody calls, and then one of this kind, whose bytes come.
 fn holds<R: Wait + Clock + Clone + Drop + Send + Net<Stream = TcpStream>>(
     rt: &R,
@@ -110,5 +132,7 @@ fn rows(rt: HostRuntime) -> Result<(), Fail> {
         let holds = holds(&rt, rt.alloc(), row)?;
         assert!(rt; holds, "{}", row.name);
     }
+    let turns = take_turns(&rt, rt.alloc())?;
+    assert!(rt; turns, "callers of both kinds take turns");
     Ok(())
 }

@@ -168,7 +168,8 @@ fn answers_and_closes<R: Wait>(rt: &R, mut conn: TcpConn) -> bool {
 fn gets_all(peer: &mut TcpStream) -> io::Result<bool> {
     let mut came = [0u8; 9];
     peer.read_exact(&mut came)?;
-    Ok(came.as_slice() == ANSWER && peer.read(&mut came)? == 0)
+    let answered = came.as_slice() == ANSWER && peer.read(&mut came)? == 0;
+    Ok(answered && peer.take_error()?.is_none())
 }
 
 fn closing_holds<R: Wait + Net<Listener = TcpListener, Stream = TcpStream>>(

@@ -9,7 +9,7 @@ use Rattle.broker_history.specs.Entries.{History, is_own, is_stop, own}
 use Rattle.broker_history.specs.Talk.{bytes_of}
 use Rattle.broker_history.proofs.Own.{own-append}
 use Rattle.http_exchange.specs.declared.ended.EndedHttp.{EndedHttp}
-use Rattle.http_exchange.specs.Exchange.{HasCause, IsExchange, IsExchangeIn, before_stop, is_listed}
+use Rattle.http_exchange.specs.Exchange.{HasCause, IsExchange, IsExchangeIn, IsWarnedHttp, before_stop, is_listed}
 
 pub own_stays : (k : ℕ) (h es : History) → own k es ≡ [] → own k (h ++ es) ≡ own k h
 own_stays k h es none = own-append k h es ∙ ap (λ x. own k h ++ x) none ∙ append-nil (own k h)
@@ -53,6 +53,10 @@ exchange_stays o began k h es pieces out ended none x = record {
 -- an ending's cause, of a connection that had no fault before
 pub cause_from_0 : (ended : EndedHttp) (at_end : Bool) (r r' w w' : ℕ) → r ≡ 0 → w ≡ 0 → HasCause ended at_end r r' w w' → HasCause ended at_end 0 r' 0 w'
 cause_from_0 ended at_end r r' w w' no_r no_w c = subst (λ n. HasCause ended at_end 0 r' n w') no_w (subst (λ n. HasCause ended at_end n r' w w') no_r c)
+
+-- whether its caller was told of want of memory, of a connection to which nothing was written and that had no fault before
+pub warned_from_0 : (ended : EndedHttp) (out out' : List ℕ) (w w' : ℕ) → out ≡ [] → w ≡ 0 → IsWarnedHttp ended out out' w w' → IsWarnedHttp ended [] out' 0 w'
+warned_from_0 ended out out' w w' none no_w t = subst (λ n. IsWarnedHttp ended [] out' n w') no_w (subst (λ x. IsWarnedHttp ended x out' w w') none t)
 
 -- what was read and what is left of a connection that was new are the bytes that it had
 pub stream_whole : (pieces pieces' : List (List ℕ)) (left left' : List ℕ) → pieces ≡ [] → bytes_of pieces' ++ left' ≡ bytes_of pieces ++ left → bytes_of pieces' ++ left' ≡ left

@@ -53,7 +53,7 @@ module _ {K : Type 0} (seen : Views K) (o : Options) (began : ℕ) where
         cause = s.cause;
         stream = s.stream;
       }
-  one_stays h es k Http bytes conn none s = record { ended = s.ended; exchange = exchange_stays o began k h es (seen.pieces conn) (seen.written conn) s.ended none s.exchange; cause = s.cause; stream = s.stream }
+  one_stays h es k Http bytes conn none s = record { ended = s.ended; exchange = exchange_stays o began k h es (seen.pieces conn) (seen.written conn) s.ended none s.exchange; warned = s.warned; cause = s.cause; stream = s.stream }
 
   all_stay : (h es : History) (first : ℕ) (cs : List (Kind × List ℕ)) (xs : List (ℕ × K)) → ((k : ℕ) → first ≤ k → k < first + length cs → own k es ≡ []) → AreServed seen o began h first cs xs → AreServed seen o began (h ++ es) first cs xs
   all_stay h es first [] [] none s = tt

@@ -15,7 +15,7 @@ use Rattle.broker_history.specs.Talk.{Allows, IsTalkIn, bytes_of}
 use Rattle.desk.specs.Calls.{IsHere}
 use Rattle.v2_session.specs.Sessions.{IsWarned}
 use Rattle.http_exchange.specs.declared.ended.EndedHttp.{EndedHttp}
-use Rattle.http_exchange.specs.Exchange.{HasCause, IsExchangeIn}
+use Rattle.http_exchange.specs.Exchange.{HasCause, IsExchangeIn, IsWarnedHttp}
 
 -- what is seen of a connection: the pieces read, the bytes still to come, whether it ended, the bytes written, and how often a read and a write failed
 pub record Views (K : Type 0) : Type 0 where
@@ -60,10 +60,11 @@ pub record IsServedTcp {K : Type 0} (seen : Views K) (limits : Limits) (h : Hist
   pub stream : bytes_of (seen.pieces conn) ++ seen.left conn ≡ bytes
 
 -- a caller of HTTP was served: what it sent, its entries and what it got are an exchange, under these options and with this moment of the opening, with an ending
--- that has its cause; what it sent is from the bytes that it had
+-- that has its cause; where it ended by want of memory the caller got the whole answer that says so, or a write failed; what it sent is from the bytes that it had
 pub record IsServedHttp {K : Type 0} (seen : Views K) (o : Options) (began : ℕ) (h : History) (number : ℕ) (bytes : List ℕ) (conn : K) : Type 0 where
   pub ended : EndedHttp
   pub exchange : IsExchangeIn o began number h (seen.pieces conn) (seen.written conn) ended
+  pub warned : IsWarnedHttp ended [] (seen.written conn) 0 (seen.write_faults conn)
   pub cause : HasCause ended (seen.ended conn) 0 (seen.read_faults conn) 0 (seen.write_faults conn)
   pub stream : bytes_of (seen.pieces conn) ++ seen.left conn ≡ bytes
 

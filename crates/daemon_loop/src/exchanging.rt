@@ -3,7 +3,7 @@ ghost use Rattle.nsq_base.specs.Options.{IsInRange};
 ghost use Rattle.nsq_outside.specs.Hosts.{IsFresh};
 ghost use Rattle.broker_history.specs.Entries.{own};
 ghost use Rattle.broker_history.specs.Talk.{bytes_of};
-ghost use Rattle.http_exchange.specs.Exchange.{HasCause, IsExchangeIn};
+ghost use Rattle.http_exchange.specs.Exchange.{HasCause, IsExchangeIn, IsWarnedHttp};
 ghost use Rattle.daemon_loop.specs.Served.{views, IsServedHttp};
 
 use crate::caller_desk::CallerDesk;
@@ -50,6 +50,7 @@ fn exchange<R: Wait, K: Conn, T: Turner>(
     requires new { IsTrue T.tells → own number (T.notes floor.old) ≡ [] }
     ensures exchange { IsTrue K.tells_pieces → IsTrue K.tells_written → IsTrue T.tells → K.pieces conn.old ≡ [] → K.written conn.old ≡ []
         → IsExchangeIn options.now began number (T.notes floor.new) (K.pieces conn.new) (K.written conn.new) result }
+    ensures warned { IsTrue K.tells_written → IsWarnedHttp result (K.written conn.old) (K.written conn.new) (K.write_faults conn.old) (K.write_faults conn.new) }
     ensures cause { HasCause result (K.ended conn.new) (K.read_faults conn.old) (K.read_faults conn.new) (K.write_faults conn.old) (K.write_faults conn.new) }
     ensures stream { IsTrue K.tells_pieces → bytes_of (K.pieces conn.new) ++ K.left conn.new ≡ bytes_of (K.pieces conn.old) ++ K.left conn.old }
     ensures leads { T.leads number floor.old floor.new }

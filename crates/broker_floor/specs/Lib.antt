@@ -1,3 +1,4 @@
 pub mod Ending
+pub mod Floors
 pub mod Held
 pub mod Ticks

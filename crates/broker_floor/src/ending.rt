@@ -4,6 +4,7 @@ ghost use Rattle.floor_rooms.specs.Changes.{OnlyQueueFiles};
 ghost use Rattle.floor_rooms.specs.Kept.{hall_kept};
 ghost use Rattle.floor_rooms.specs.Standing.{HoldsFor};
 ghost use Rattle.floor_saving.specs.Flushing.{LeavesOthers, LeavesWhere};
+ghost use Rattle.broker_floor.specs.Floors.{faults_of, files_of, flushed_of, hall_of, held_of, kit_of};
 ghost use Rattle.broker_floor.specs.Ending.{FloorFlushFails, flushed_at};
 
 use crate::Floor;
@@ -21,16 +22,16 @@ impl<F: Folder, C: Clock, J: Journal<Entry>> Floor<F, C, J> {
     /// paying all that was owed the answer is Fault, whatever was written. It takes no memory. After it no turn is taken: nothing is claimed of the states
     /// that the floor stands for. Requires that it wasn't flushed before.
     pub fn flush(&mut self) -> Flushed
-        requires { self.old.held.flushed ≡ false }
-        ensures left { IsTrue F.tells_files → (s : State) → HoldsFor self.old.held.hall (F.files self.old.folder) s → LeavesWhere result s (F.files self.new.folder) }
-        ensures others { IsTrue F.tells_files → LeavesOthers result (F.folder_faults self.old.folder) (F.folder_faults self.new.folder) self.old.held.hall (F.files self.old.folder) (F.files self.new.folder) }
-        ensures kept { hall_kept self.new.held.hall ≡ hall_kept self.old.held.hall }
-        ensures held { self.new.held ≡ record { hall = record (self.old.held.hall) { rooms = self.new.held.hall.rooms }; flushed = true } }
-        ensures clock { self.new.clock ≡ self.old.clock }
-        ensures journal { self.new.journal ≡ self.old.journal }
-        ensures files { IsTrue F.tells_files → OnlyQueueFiles (F.files self.old.folder) (F.files self.new.folder) }
-        ensures faults { F.folder_faults self.old.folder ≤ F.folder_faults self.new.folder }
-        ensures cause { FloorFlushFails self.old.held.hall.stuck (F.folder_faults self.old.folder) (F.folder_faults self.new.folder) result }
+        requires { flushed_of self.old ≡ false }
+        ensures left { IsTrue F.tells_files → (s : State) → HoldsFor (hall_of self.old) (files_of self.old) s → LeavesWhere result s (files_of self.new) }
+        ensures others { IsTrue F.tells_files → LeavesOthers result (faults_of self.old) (faults_of self.new) (hall_of self.old) (files_of self.old) (files_of self.new) }
+        ensures kept { hall_kept (hall_of self.new) ≡ hall_kept (hall_of self.old) }
+        ensures held { held_of self.new ≡ record { hall = record (hall_of self.old) { rooms = (hall_of self.new).rooms }; flushed = true } }
+        ensures clock { (kit_of self.new).clock ≡ (kit_of self.old).clock }
+        ensures journal { (kit_of self.new).journal ≡ (kit_of self.old).journal }
+        ensures files { IsTrue F.tells_files → OnlyQueueFiles (files_of self.old) (files_of self.new) }
+        ensures faults { faults_of self.old ≤ faults_of self.new }
+        ensures cause { FloorFlushFails (hall_of self.old).stuck (faults_of self.old) (faults_of self.new) result }
     {
         self.flush_in::<Brand>(Blank::new(1))
     }
@@ -40,16 +41,16 @@ impl<F: Folder, C: Clock, J: Journal<Entry>> Floor<F, C, J> {
         requires name { blank.name ≡ L.name }
         requires parts { blank.parts ≡ L.parts }
         requires some { 0 < L.parts }
-        requires unflushed { self.old.held.flushed ≡ false }
-        ensures left { IsTrue F.tells_files → (s : State) → HoldsFor self.old.held.hall (F.files self.old.folder) s → LeavesWhere result s (F.files self.new.folder) }
-        ensures others { IsTrue F.tells_files → LeavesOthers result (F.folder_faults self.old.folder) (F.folder_faults self.new.folder) self.old.held.hall (F.files self.old.folder) (F.files self.new.folder) }
-        ensures kept { hall_kept self.new.held.hall ≡ hall_kept self.old.held.hall }
-        ensures held { self.new.held ≡ record { hall = record (self.old.held.hall) { rooms = self.new.held.hall.rooms }; flushed = true } }
-        ensures clock { self.new.clock ≡ self.old.clock }
-        ensures journal { self.new.journal ≡ self.old.journal }
-        ensures files { IsTrue F.tells_files → OnlyQueueFiles (F.files self.old.folder) (F.files self.new.folder) }
-        ensures faults { F.folder_faults self.old.folder ≤ F.folder_faults self.new.folder }
-        ensures cause { FloorFlushFails self.old.held.hall.stuck (F.folder_faults self.old.folder) (F.folder_faults self.new.folder) result }
+        requires unflushed { flushed_of self.old ≡ false }
+        ensures left { IsTrue F.tells_files → (s : State) → HoldsFor (hall_of self.old) (files_of self.old) s → LeavesWhere result s (files_of self.new) }
+        ensures others { IsTrue F.tells_files → LeavesOthers result (faults_of self.old) (faults_of self.new) (hall_of self.old) (files_of self.old) (files_of self.new) }
+        ensures kept { hall_kept (hall_of self.new) ≡ hall_kept (hall_of self.old) }
+        ensures held { held_of self.new ≡ record { hall = record (hall_of self.old) { rooms = (hall_of self.new).rooms }; flushed = true } }
+        ensures clock { (kit_of self.new).clock ≡ (kit_of self.old).clock }
+        ensures journal { (kit_of self.new).journal ≡ (kit_of self.old).journal }
+        ensures files { IsTrue F.tells_files → OnlyQueueFiles (files_of self.old) (files_of self.new) }
+        ensures faults { faults_of self.old ≤ faults_of self.new }
+        ensures cause { FloorFlushFails (hall_of self.old).stuck (faults_of self.old) (faults_of self.new) result }
     {
         let mut steps: Steps<L> = Steps::new(blank);
         let stuck = self.held.get().stuck;

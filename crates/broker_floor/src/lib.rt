@@ -6,6 +6,8 @@
 mod adding;
 mod ending;
 mod floor;
+mod making;
+mod naming;
 mod serving;
 mod sound;
 mod turning;

@@ -3,9 +3,9 @@ ghost use Rattle.broker_history.specs.Entries.{own};
 ghost use Rattle.desk.specs.Answers.{Adds, Grows, IsAnswerTo, IsShortAnswer, StopsSeen};
 ghost use Rattle.desk.specs.Calls.{CanCall, MayCall};
 ghost use Rattle.desk.specs.declared.turned.Turned.TheVariants.{Strange};
-ghost use Rattle.floor_turns.specs.Scenes.{scene};
 ghost use Rattle.floor_turns.specs.Timely.{TicksTimely};
 ghost use Rattle.floor_turns.specs.Turns.{IsTurn};
+ghost use Rattle.broker_floor.specs.Floors.{faults_of, flushed_of, hall_of, notes_of, scene_of};
 
 use crate::Floor;
 use broker_history::Entry;
@@ -22,15 +22,15 @@ impl<F: Folder, C: Clock, J: Journal<Entry>> Floor<F, C, J> {
     /// one that a Stop keeps off is answered Stopping: neither moves anything. After Memory the moves that were made stand, and no act was made. Requires that
     /// the floor wasn't flushed.
     pub fn turn(&mut self, alloc: Global, number: u64, call: Call) -> Turned
-        requires unflushed { self.old.held.flushed ≡ false }
+        requires unflushed { flushed_of self.old ≡ false }
         requires can { CanCall call }
-        requires may { IsTrue J.tells_notes → MayCall number (own number (J.notes self.old.journal)) call }
-        ensures unflushed { self.new.held.flushed ≡ false }
-        ensures turn { IsTurn J.tells_notes F.tells_files C.tells_readings number call result (scene self.old.held.hall (J.notes self.old.journal) (F.files self.old.folder) (F.folder_faults self.old.folder) (C.coming self.old.clock)) (scene self.new.held.hall (J.notes self.new.journal) (F.files self.new.folder) (F.folder_faults self.new.folder) (C.coming self.new.clock)) }
-        ensures timely { TicksTimely call result self.new.held.hall (F.folder_faults self.old.folder) (F.folder_faults self.new.folder) }
-        ensures grows { IsTrue J.tells_notes → Grows (J.notes self.old.journal) (J.notes self.new.journal) }
-        ensures adds { IsTrue J.tells_notes → Adds number (own number (J.notes self.old.journal)) (own number (J.notes self.new.journal)) call result }
-        ensures stopping { IsTrue J.tells_notes → StopsSeen (J.notes self.new.journal) result }
+        requires may { IsTrue J.tells_notes → MayCall number (own number (notes_of self.old)) call }
+        ensures unflushed { flushed_of self.new ≡ false }
+        ensures turn { IsTurn J.tells_notes F.tells_files C.tells_readings number call result (scene_of self.old) (scene_of self.new) }
+        ensures timely { TicksTimely call result (hall_of self.new) (faults_of self.old) (faults_of self.new) }
+        ensures grows { IsTrue J.tells_notes → Grows (notes_of self.old) (notes_of self.new) }
+        ensures adds { IsTrue J.tells_notes → Adds number (own number (notes_of self.old)) (own number (notes_of self.new)) call result }
+        ensures stopping { IsTrue J.tells_notes → StopsSeen (notes_of self.new) result }
         ensures told { IsTrue J.tells_notes → result ≢ Strange }
         ensures answer { IsAnswerTo call result }
         ensures short { IsShortAnswer result }
@@ -43,11 +43,11 @@ impl<F: Folder, C: Clock, J: Journal<Entry>> Floor<F, C, J> {
         requires name { blank.name ≡ L.name }
         requires parts { blank.parts ≡ L.parts }
         requires some { 0 < L.parts }
-        requires unflushed { self.old.held.flushed ≡ false }
+        requires unflushed { flushed_of self.old ≡ false }
         requires can { CanCall call }
-        requires may { IsTrue J.tells_notes → MayCall number (own number (J.notes self.old.journal)) call }
-        ensures unflushed { self.new.held.flushed ≡ false }
-        ensures turn { IsTurn J.tells_notes F.tells_files C.tells_readings number call result (scene self.old.held.hall (J.notes self.old.journal) (F.files self.old.folder) (F.folder_faults self.old.folder) (C.coming self.old.clock)) (scene self.new.held.hall (J.notes self.new.journal) (F.files self.new.folder) (F.folder_faults self.new.folder) (C.coming self.new.clock)) }
+        requires may { IsTrue J.tells_notes → MayCall number (own number (notes_of self.old)) call }
+        ensures unflushed { flushed_of self.new ≡ false }
+        ensures turn { IsTurn J.tells_notes F.tells_files C.tells_readings number call result (scene_of self.old) (scene_of self.new) }
     {
         let mut steps: Steps<L> = Steps::new(blank);
         let reading = self.clock.now();
@@ -67,14 +67,14 @@ impl<F: Folder, C: Clock, J: Journal<Entry>> Floor<F, C, J> {
 impl<F: Folder, C: Clock, J: Journal<Entry>> Turner for Floor<F, C, J> {
     ghost use Rattle.std.proofs.Common.{◌≡◌, ◌∙◌, refl};
     ghost use Rattle.floor_turns.specs.Leads.{Leads};
-    ghost use Rattle.floor_turns.specs.Scenes.{scene};
     ghost use Rattle.floor_turns.proofs.Following.{leads_follow, leads_stay};
+    ghost use Rattle.broker_floor.specs.Floors.{flushed_of, notes_of, scene_of};
 
     ghost tells = { J.tells_notes };
 
-    ghost notes = { λ f. J.notes f.journal };
+    ghost notes = { λ f. notes_of f };
 
-    ghost leads = { λ n a b. (b.held.flushed ≡ a.held.flushed) × Leads J.tells_notes F.tells_files C.tells_readings n (scene a.held.hall (J.notes a.journal) (F.files a.folder) (F.folder_faults a.folder) (C.coming a.clock)) (scene b.held.hall (J.notes b.journal) (F.files b.folder) (F.folder_faults b.folder) (C.coming b.clock)) };
+    ghost leads = { λ n a b. (flushed_of b ≡ flushed_of a) × Leads J.tells_notes F.tells_files C.tells_readings n (scene_of a) (scene_of b) };
 
     ghost stays = { λ n f. (refl, leads_stay _ _ _ _ _) };
 

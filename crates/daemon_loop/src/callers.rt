@@ -2,7 +2,7 @@ ghost use Rattle.std.specs.Prelude.{◌≡◌, [], IsTrue, false};
 ghost use Rattle.nsq_base.specs.Options.{IsInRange};
 ghost use Rattle.nsq_outside.specs.Causes.{Rose};
 ghost use Rattle.nsq_outside.specs.Hosts.{OnlyAcceptFaults};
-ghost use Rattle.floor_turns.specs.Scenes.{scene};
+ghost use Rattle.broker_floor.specs.Floors.{flushed_of, kit_of, notes_of, scene_of};
 ghost use Rattle.daemon_loop.specs.Going.{Went};
 ghost use Rattle.daemon_loop.specs.Rounds.{LoopsOver};
 ghost use Rattle.daemon_loop.specs.Served.{views, AllTell, ListenersFailedLast};
@@ -49,13 +49,12 @@ pub fn serve_callers<R: Wait, H: Host<Entry>>(
     floor: &mut Floor<H::Folder, H::Clock, H::Journal>,
 ) -> LoopEnd
     requires options { IsInRange options.now }
-    requires unflushed { floor.old.held.flushed ≡ false }
-    requires empty { IsTrue H.Journal.tells_notes → H.Journal.notes floor.old.journal ≡ [] }
-    ensures unflushed { floor.new.held.flushed ≡ false }
+    requires unflushed { flushed_of floor.old ≡ false }
+    requires empty { IsTrue H.Journal.tells_notes → notes_of floor.old ≡ [] }
+    ensures unflushed { flushed_of floor.new ≡ false }
     ensures over { LoopsOver (AllTell H.tells H.Conn.tells_pieces H.Conn.tells_written H.Journal.tells_notes) H.tells H.Journal.tells_notes H.Folder.tells_files H.Clock.tells_readings
         (views H.Conn.pieces H.Conn.left H.Conn.ended H.Conn.written H.Conn.read_faults H.Conn.write_faults) options.now began result (H.state host.old).accept_faults (H.state host.new).accept_faults
-        (scene floor.old.held.hall (H.Journal.notes floor.old.journal) (H.Folder.files floor.old.folder) (H.Folder.folder_faults floor.old.folder) (H.Clock.coming floor.old.clock))
-        (scene floor.new.held.hall (H.Journal.notes floor.new.journal) (H.Folder.files floor.new.folder) (H.Folder.folder_faults floor.new.folder) (H.Clock.coming floor.new.clock))
+        (scene_of floor.old) (scene_of floor.new)
         (H.content host.old) (H.content host.new) }
     ensures state { OnlyAcceptFaults (H.state host.old) (H.state host.new) }
     ensures cause { result ≡ Failed → Rose (H.state host.old).accept_faults (H.state host.new).accept_faults }
@@ -89,12 +88,10 @@ pub fn serve_callers<R: Wait, H: Host<Entry>>(
 
 /// Saves the file of names where names changed. A saving that fails is tried again later: the names are still said to be unsaved.
 fn save_changed<F: Folder, C: Clock, J: Journal<Entry>>(alloc: Global, floor: &mut Floor<F, C, J>)
-    requires unflushed { floor.old.held.flushed ≡ false }
-    ensures unflushed { floor.new.held.flushed ≡ false }
-    ensures went { Went J.tells_notes F.tells_files C.tells_readings
-        (scene floor.old.held.hall (J.notes floor.old.journal) (F.files floor.old.folder) (F.folder_faults floor.old.folder) (C.coming floor.old.clock))
-        (scene floor.new.held.hall (J.notes floor.new.journal) (F.files floor.new.folder) (F.folder_faults floor.new.folder) (C.coming floor.new.clock)) }
-    ensures journal { floor.new.journal ≡ floor.old.journal }
+    requires unflushed { flushed_of floor.old ≡ false }
+    ensures unflushed { flushed_of floor.new ≡ false }
+    ensures went { Went J.tells_notes F.tells_files C.tells_readings (scene_of floor.old) (scene_of floor.new) }
+    ensures journal { (kit_of floor.new).journal ≡ (kit_of floor.old).journal }
 {
     if floor.changed() {
         let _saved = save(alloc, floor);

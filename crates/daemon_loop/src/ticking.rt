@@ -1,5 +1,5 @@
 ghost use Rattle.std.specs.Prelude.{◌≡◌, false};
-ghost use Rattle.floor_turns.specs.Scenes.{scene};
+ghost use Rattle.broker_floor.specs.Floors.{flushed_of, scene_of};
 ghost use Rattle.daemon_loop.specs.Rounds.{Ticks, ticked_of};
 
 use broker_floor::Floor;
@@ -25,11 +25,9 @@ pub(crate) fn tick<F: Folder, C: Clock, J: Journal<Entry>>(
     alloc: Global,
     floor: &mut Floor<F, C, J>,
 ) -> Ticked
-    requires unflushed { floor.old.held.flushed ≡ false }
-    ensures unflushed { floor.new.held.flushed ≡ false }
-    ensures ticks { Ticks J.tells_notes F.tells_files C.tells_readings
-        (scene floor.old.held.hall (J.notes floor.old.journal) (F.files floor.old.folder) (F.folder_faults floor.old.folder) (C.coming floor.old.clock))
-        (scene floor.new.held.hall (J.notes floor.new.journal) (F.files floor.new.folder) (F.folder_faults floor.new.folder) (C.coming floor.new.clock)) result }
+    requires unflushed { flushed_of floor.old ≡ false }
+    ensures unflushed { flushed_of floor.new ≡ false }
+    ensures ticks { Ticks J.tells_notes F.tells_files C.tells_readings (scene_of floor.old) (scene_of floor.new) result }
 {
     let turned = floor.turn(alloc, 0, Call::Tick);
     answer_of(&turned)

@@ -3,7 +3,7 @@ ghost use Rattle.nsq_base.specs.Options.{IsInRange};
 ghost use Rattle.nsq_base.specs.Text.{IsText};
 ghost use Rattle.nsq_outside.specs.Causes.{DidFails};
 ghost use Rattle.nsq_outside.specs.Hosts.{OnlyAcceptFaults, Starts};
-ghost use Rattle.floor_turns.specs.Scenes.{scene};
+ghost use Rattle.broker_floor.specs.Floors.{flushed_of, notes_of, scene_of};
 ghost use Rattle.path_opening.specs.Opening.{HaveBytes};
 ghost use Rattle.daemon_loop.specs.Served.{AllTell, ListenersFailedLast, OnlyCallersChange, views};
 ghost use Rattle.daemon_run.specs.Asked.{HasAsked};
@@ -124,12 +124,11 @@ fn run<R: Wait, H: Host<Entry>>(
     floor: Floor<H::Folder, H::Clock, H::Journal>,
 ) -> (ServeEnd, Kit<H::Folder, H::Clock, H::Journal>)
     requires options { IsInRange options.now }
-    requires unflushed { floor.held.flushed ≡ false }
-    requires empty { IsTrue H.Journal.tells_notes → H.Journal.notes floor.journal ≡ [] }
+    requires unflushed { flushed_of floor ≡ false }
+    requires empty { IsTrue H.Journal.tells_notes → notes_of floor ≡ [] }
     ensures runs { RunsOn (AllTell H.tells H.Conn.tells_pieces H.Conn.tells_written H.Journal.tells_notes) H.tells H.Journal.tells_notes H.Folder.tells_files H.Clock.tells_readings
         (views H.Conn.pieces H.Conn.left H.Conn.ended H.Conn.written H.Conn.read_faults H.Conn.write_faults) options.now began result.0 (H.state host.old).accept_faults (H.state host.new).accept_faults
-        (scene floor.held.hall (H.Journal.notes floor.journal) (H.Folder.files floor.folder) (H.Folder.folder_faults floor.folder) (H.Clock.coming floor.clock))
-        (H.Folder.files result.1.folder) (H.Journal.notes result.1.journal) (H.Clock.coming result.1.clock) (H.Folder.folder_faults result.1.folder) (H.content host.old) (H.content host.new) }
+        (scene_of floor) (H.Folder.files result.1.folder) (H.Journal.notes result.1.journal) (H.Clock.coming result.1.clock) (H.Folder.folder_faults result.1.folder) (H.content host.old) (H.content host.new) }
     ensures rest { IsTrue H.tells → OnlyCallersChange (H.content host.old) (H.content host.new) }
     ensures state { OnlyAcceptFaults (H.state host.old) (H.state host.new) }
     ensures listeners { IsTrue H.tells → result.0 ≡ AcceptFailed → ListenersFailedLast H.state H.content host.old host.new }

@@ -5,6 +5,7 @@
 
 ghost use Rattle.std.specs.Prelude.{◌≡◌, IfOk, false};
 ghost use Rattle.nsq_base.specs.Options.{IsInRange};
+ghost use Rattle.broker_floor.specs.Floors.{flushed_of};
 
 use crate::answers::{put_answer, put_told};
 use crate::calls::{call_of, parted};
@@ -82,7 +83,7 @@ pub fn floor_of<'a>(
     dials: &'a Dials,
 ) -> Result<MemFloor<'a>, Memory>
     requires { IsInRange options.now }
-    ensures { IfOk result (λ floor. floor.held.flushed ≡ false) }
+    ensures { IfOk result (λ floor. flushed_of floor ≡ false) }
 {
     let kit = Kit {
         folder,
@@ -106,12 +107,12 @@ pub struct Bench<'a> {
     // The greatest reading so far.
     moment: u64,
     done: Vec<Done>,
-    ghost open: { floor.held.flushed ≡ false },
+    ghost open: { flushed_of floor ≡ false },
 }
 
 impl<'a> Bench<'a> {
     pub fn new(alloc: Global, floor: MemFloor<'a>, dials: &'a Dials) -> Bench<'a>
-        requires { floor.held.flushed ≡ false }
+        requires { flushed_of floor ≡ false }
     {
         Bench {
             alloc,

@@ -6,6 +6,7 @@ ghost use Rattle.names_file.specs.Texts.{kept_of};
 ghost use Rattle.broker_history.specs.State.{State};
 ghost use Rattle.floor_rooms.specs.Kept.{hall_kept};
 ghost use Rattle.floor_rooms.specs.Standing.{HoldsFor};
+ghost use Rattle.broker_floor.specs.Floors.{faults_of, files_of, flushed_of, hall_of, held_of, kit_of};
 ghost use Rattle.path_closing.specs.Closings.{HeldBehind, IsTextOf, KeepsNames, OldOrNew, SaveFails, WhereSaved, WhereSaveWants};
 
 use broker_floor::Floor;
@@ -33,17 +34,17 @@ pub fn save<F: Folder, C: Clock, J: Journal<Entry>>(
     alloc: Global,
     floor: &mut Floor<F, C, J>,
 ) -> Saved
-    requires unflushed { floor.old.held.flushed ≡ false }
-    ensures names { IsTrue F.tells_files → WhereSaved result (KeepsNames (F.files floor.new.folder) (kept_of floor.old.held.hall.epoch (hall_kept floor.old.held.hall))) }
-    ensures held { HeldBehind result floor.old.held floor.new.held }
-    ensures stands { IsTrue F.tells_files → (s : State) → HoldsFor floor.old.held.hall (F.files floor.old.folder) s → HoldsFor floor.new.held.hall (F.files floor.new.folder) s }
-    ensures text { IsTrue F.tells_files → OldOrNew (F.files floor.old.folder) (F.files floor.new.folder) (kept_of floor.old.held.hall.epoch (hall_kept floor.old.held.hall)) }
-    ensures memory { IsTrue F.tells_files → WhereSaveWants result (SameFiles (F.files floor.old.folder) (F.files floor.new.folder)) }
-    ensures others { IsTrue F.tells_files → OnlyTwoChange (F.files floor.old.folder) (F.files floor.new.folder) data_name temp_name }
-    ensures clock { floor.new.clock ≡ floor.old.clock }
-    ensures journal { floor.new.journal ≡ floor.old.journal }
-    ensures faults { F.folder_faults floor.old.folder ≤ F.folder_faults floor.new.folder }
-    ensures cause { SaveFails (F.folder_faults floor.old.folder) (F.folder_faults floor.new.folder) result }
+    requires unflushed { flushed_of floor.old ≡ false }
+    ensures names { IsTrue F.tells_files → WhereSaved result (KeepsNames (files_of floor.new) (kept_of (hall_of floor.old).epoch (hall_kept (hall_of floor.old)))) }
+    ensures held { HeldBehind result (held_of floor.old) (held_of floor.new) }
+    ensures stands { IsTrue F.tells_files → (s : State) → HoldsFor (hall_of floor.old) (files_of floor.old) s → HoldsFor (hall_of floor.new) (files_of floor.new) s }
+    ensures text { IsTrue F.tells_files → OldOrNew (files_of floor.old) (files_of floor.new) (kept_of (hall_of floor.old).epoch (hall_kept (hall_of floor.old))) }
+    ensures memory { IsTrue F.tells_files → WhereSaveWants result (SameFiles (files_of floor.old) (files_of floor.new)) }
+    ensures others { IsTrue F.tells_files → OnlyTwoChange (files_of floor.old) (files_of floor.new) data_name temp_name }
+    ensures clock { (kit_of floor.new).clock ≡ (kit_of floor.old).clock }
+    ensures journal { (kit_of floor.new).journal ≡ (kit_of floor.old).journal }
+    ensures faults { faults_of floor.old ≤ faults_of floor.new }
+    ensures cause { SaveFails (faults_of floor.old) (faults_of floor.new) result }
 {
     let Ok(text) = text_of(alloc, floor) else {
         return Saved::Memory;
@@ -62,8 +63,8 @@ pub(crate) fn text_of<F: Folder, C: Clock, J: Journal<Entry>>(
     alloc: Global,
     floor: &Floor<F, C, J>,
 ) -> Result<Vec<u8>, Memory>
-    requires { floor.now.held.flushed ≡ false }
-    ensures { IfOk result (λ text. IsTextOf text.items (kept_of floor.now.held.hall.epoch (hall_kept floor.now.held.hall))) }
+    requires { flushed_of floor.now ≡ false }
+    ensures { IfOk result (λ text. IsTextOf text.items (kept_of (hall_of floor.now).epoch (hall_kept (hall_of floor.now)))) }
 {
     let kept = floor.kept(alloc)?;
     let mut text = Vec::new(alloc);

@@ -6,6 +6,7 @@ ghost use Rattle.names_file.specs.Texts.{kept_of};
 ghost use Rattle.broker_history.specs.State.{State};
 ghost use Rattle.floor_rooms.specs.Kept.{hall_kept};
 ghost use Rattle.floor_rooms.specs.Standing.{HoldsFor};
+ghost use Rattle.broker_floor.specs.Floors.{faults_of, files_of, flushed_of, hall_of, kit_of};
 ghost use Rattle.path_closing.specs.Closings.{KeepsNames, Leaves, MissesSome, NamesStay, OldOrNew, ShutChanges, ShutFails, ShutsDown, WhereClean, WhereShutWants, shut_end};
 
 use crate::saving::text_of;
@@ -38,17 +39,17 @@ pub fn shut<F: Folder, C: Clock, J: Journal<Entry>>(
     alloc: Global,
     floor: Floor<F, C, J>,
 ) -> (ShutEnd, Kit<F, C, J>)
-    requires unflushed { floor.held.flushed ≡ false }
-    ensures clock { result.1.clock ≡ floor.clock }
-    ensures journal { result.1.journal ≡ floor.journal }
-    ensures names { IsTrue F.tells_files → WhereClean result.0 (KeepsNames (F.files result.1.folder) (kept_of floor.held.hall.epoch (hall_kept floor.held.hall))) }
-    ensures left { IsTrue F.tells_files → (s : State) → HoldsFor floor.held.hall (F.files floor.folder) s → WhereClean result.0 (Leaves s (F.files result.1.folder)) }
-    ensures queues { IsTrue F.tells_files → MissesSome result.0 (F.folder_faults floor.folder) (F.folder_faults result.1.folder) floor.held.hall (F.files floor.folder) (F.files result.1.folder) }
-    ensures text { IsTrue F.tells_files → OldOrNew (F.files floor.folder) (F.files result.1.folder) (kept_of floor.held.hall.epoch (hall_kept floor.held.hall)) }
-    ensures memory { IsTrue F.tells_files → WhereShutWants result.0 (NamesStay (F.files floor.folder) (F.files result.1.folder)) }
-    ensures files { IsTrue F.tells_files → ShutChanges (F.files floor.folder) (F.files result.1.folder) }
-    ensures faults { F.folder_faults floor.folder ≤ F.folder_faults result.1.folder }
-    ensures cause { ShutFails floor.held.hall.stuck (F.folder_faults floor.folder) (F.folder_faults result.1.folder) result.0 }
+    requires unflushed { flushed_of floor ≡ false }
+    ensures clock { result.1.clock ≡ (kit_of floor).clock }
+    ensures journal { result.1.journal ≡ (kit_of floor).journal }
+    ensures names { IsTrue F.tells_files → WhereClean result.0 (KeepsNames (F.files result.1.folder) (kept_of (hall_of floor).epoch (hall_kept (hall_of floor)))) }
+    ensures left { IsTrue F.tells_files → (s : State) → HoldsFor (hall_of floor) (files_of floor) s → WhereClean result.0 (Leaves s (F.files result.1.folder)) }
+    ensures queues { IsTrue F.tells_files → MissesSome result.0 (faults_of floor) (F.folder_faults result.1.folder) (hall_of floor) (files_of floor) (F.files result.1.folder) }
+    ensures text { IsTrue F.tells_files → OldOrNew (files_of floor) (F.files result.1.folder) (kept_of (hall_of floor).epoch (hall_kept (hall_of floor))) }
+    ensures memory { IsTrue F.tells_files → WhereShutWants result.0 (NamesStay (files_of floor) (F.files result.1.folder)) }
+    ensures files { IsTrue F.tells_files → ShutChanges (files_of floor) (F.files result.1.folder) }
+    ensures faults { faults_of floor ≤ F.folder_faults result.1.folder }
+    ensures cause { ShutFails (hall_of floor).stuck (faults_of floor) (F.folder_faults result.1.folder) result.0 }
 {
     let mut floor = floor;
     let end = write_down(alloc, &mut floor);
@@ -60,10 +61,10 @@ fn write_down<F: Folder, C: Clock, J: Journal<Entry>>(
     alloc: Global,
     floor: &mut Floor<F, C, J>,
 ) -> ShutEnd
-    requires unflushed { floor.old.held.flushed ≡ false }
-    ensures shuts { ShutsDown F.tells_files result floor.old.held.hall (F.files floor.old.folder) (F.files floor.new.folder) (F.folder_faults floor.old.folder) (F.folder_faults floor.new.folder) }
-    ensures clock { floor.new.clock ≡ floor.old.clock }
-    ensures journal { floor.new.journal ≡ floor.old.journal }
+    requires unflushed { flushed_of floor.old ≡ false }
+    ensures shuts { ShutsDown F.tells_files result (hall_of floor.old) (files_of floor.old) (files_of floor.new) (faults_of floor.old) (faults_of floor.new) }
+    ensures clock { (kit_of floor.new).clock ≡ (kit_of floor.old).clock }
+    ensures journal { (kit_of floor.new).journal ≡ (kit_of floor.old).journal }
 {
     // The names first, as long as the floor vouches that the file can keep them.
     let text = text_of(alloc, floor);
@@ -80,13 +81,13 @@ fn store_behind<F: Folder, C: Clock, J: Journal<Entry>>(
     floor: &mut Floor<F, C, J>,
     text: &[u8],
 ) -> Did
-    requires { floor.old.held.flushed ≡ true }
-    ensures content { IsTrue F.tells_files → Replaces (F.files floor.old.folder) (F.files floor.new.folder) data_name temp_name text.now result }
-    ensures others { IsTrue F.tells_files → OnlyTwoChange (F.files floor.old.folder) (F.files floor.new.folder) data_name temp_name }
-    ensures clock { floor.new.clock ≡ floor.old.clock }
-    ensures journal { floor.new.journal ≡ floor.old.journal }
-    ensures faults { F.folder_faults floor.old.folder ≤ F.folder_faults floor.new.folder }
-    ensures cause { DidFails (F.folder_faults floor.old.folder) (F.folder_faults floor.new.folder) result }
+    requires { flushed_of floor.old ≡ true }
+    ensures content { IsTrue F.tells_files → Replaces (files_of floor.old) (files_of floor.new) data_name temp_name text.now result }
+    ensures others { IsTrue F.tells_files → OnlyTwoChange (files_of floor.old) (files_of floor.new) data_name temp_name }
+    ensures clock { (kit_of floor.new).clock ≡ (kit_of floor.old).clock }
+    ensures journal { (kit_of floor.new).journal ≡ (kit_of floor.old).journal }
+    ensures faults { faults_of floor.old ≤ faults_of floor.new }
+    ensures cause { DidFails (faults_of floor.old) (faults_of floor.new) result }
 {
     floor.store(NAMES, NAMES_TEMP, text)
 }

@@ -4,6 +4,7 @@ ghost use Rattle.nsq_base.specs.Names.{IsAscendingBy};
 ghost use Rattle.names_file.specs.Kept.{CanKeepAll};
 ghost use Rattle.names_reading.specs.Durable.{AreDurable};
 ghost use Rattle.floor_rooms.specs.Rooms.{room_in};
+ghost use Rattle.broker_floor.specs.Floors.{faults_of, files_of, flushed_of, hall_of, held_of, kit_of};
 ghost use Rattle.path_opening.specs.Adding.{AddsOne, HasOthersOnly, IsAdded, IsNotAdded, IsNotOne, PutsTopic, pauses, why_of};
 
 use crate::opening::Why;
@@ -21,15 +22,15 @@ pub(crate) fn add_topics<F: Folder, C: Clock, J: Journal<Entry>>(
     floor: &mut Floor<F, C, J>,
     topics: &[KeptTopic],
 ) -> Result<(), Why>
-    requires unflushed { floor.old.held.flushed ≡ false }
-    requires empty { floor.old.held.hall.rooms.items ≡ [] }
+    requires unflushed { flushed_of floor.old ≡ false }
+    requires empty { (hall_of floor.old).rooms.items ≡ [] }
     requires can { CanKeepAll topics.now }
     requires durable { AreDurable topics.now }
-    ensures added { OnOk result (IsAdded F.tells_files topics.now floor.old.held floor.new.held (F.files floor.old.folder) (F.files floor.new.folder) (F.folder_faults floor.old.folder) (F.folder_faults floor.new.folder)) }
-    ensures refused { IfErr result (λ why. IsNotAdded why F.tells_files topics.now (F.files floor.old.folder) (F.files floor.new.folder) (F.folder_faults floor.old.folder) (F.folder_faults floor.new.folder)) }
-    ensures clock { floor.new.clock ≡ floor.old.clock }
-    ensures journal { floor.new.journal ≡ floor.old.journal }
-    ensures faults { F.folder_faults floor.old.folder ≤ F.folder_faults floor.new.folder }
+    ensures added { OnOk result (IsAdded F.tells_files topics.now (held_of floor.old) (held_of floor.new) (files_of floor.old) (files_of floor.new) (faults_of floor.old) (faults_of floor.new)) }
+    ensures refused { IfErr result (λ why. IsNotAdded why F.tells_files topics.now (files_of floor.old) (files_of floor.new) (faults_of floor.old) (faults_of floor.new)) }
+    ensures clock { (kit_of floor.new).clock ≡ (kit_of floor.old).clock }
+    ensures journal { (kit_of floor.new).journal ≡ (kit_of floor.old).journal }
+    ensures faults { faults_of floor.old ≤ faults_of floor.new }
 {
     'topics: for topic in topics {
         match add_topic(alloc, floor, topic) {
@@ -46,18 +47,18 @@ fn add_topic<F: Folder, C: Clock, J: Journal<Entry>>(
     floor: &mut Floor<F, C, J>,
     topic: &KeptTopic,
 ) -> Result<(), Why>
-    requires unflushed { floor.old.held.flushed ≡ false }
+    requires unflushed { flushed_of floor.old ≡ false }
     requires durable { is_ephemeral topic.now.name ≡ false }
     requires channels { All (λ c. is_ephemeral c.name ≡ false) topic.now.channels }
     requires order { IsAscendingBy (λ c. c.name) topic.now.channels }
-    requires new { room_in floor.old.held.hall.rooms.items topic.now.name ≡ None }
-    ensures adds { IsTrue F.tells_files → OnOk result (AddsOne topic.now floor.old.held.hall (F.files floor.old.folder) floor.new.held.hall (F.files floor.new.folder)) }
-    ensures puts { OnOk result (PutsTopic topic.now.name floor.old.held.hall floor.new.held.hall) }
-    ensures held { HasOthersOnly floor.old.held floor.new.held }
-    ensures refused { IfErr result (λ why. IsNotOne why F.tells_files topic.now (F.files floor.old.folder) (F.files floor.new.folder) (F.folder_faults floor.old.folder) (F.folder_faults floor.new.folder)) }
-    ensures clock { floor.new.clock ≡ floor.old.clock }
-    ensures journal { floor.new.journal ≡ floor.old.journal }
-    ensures faults { F.folder_faults floor.old.folder ≤ F.folder_faults floor.new.folder }
+    requires new { room_in (hall_of floor.old).rooms.items topic.now.name ≡ None }
+    ensures adds { IsTrue F.tells_files → OnOk result (AddsOne topic.now (hall_of floor.old) (files_of floor.old) (hall_of floor.new) (files_of floor.new)) }
+    ensures puts { OnOk result (PutsTopic topic.now.name (hall_of floor.old) (hall_of floor.new)) }
+    ensures held { HasOthersOnly (held_of floor.old) (held_of floor.new) }
+    ensures refused { IfErr result (λ why. IsNotOne why F.tells_files topic.now (files_of floor.old) (files_of floor.new) (faults_of floor.old) (faults_of floor.new)) }
+    ensures clock { (kit_of floor.new).clock ≡ (kit_of floor.old).clock }
+    ensures journal { (kit_of floor.new).journal ≡ (kit_of floor.old).journal }
+    ensures faults { faults_of floor.old ≤ faults_of floor.new }
 {
     let Ok(channels) = pauses_of(alloc, &topic.channels) else {
         return Err(Why::Memory);

@@ -4,6 +4,7 @@ ghost use Rattle.path_image.specs.Found.{Finding, Found, IsFound, Names};
 ghost use Rattle.broker_history.specs.Found.{start};
 ghost use Rattle.broker_history.specs.Moments.{moment_of};
 ghost use Rattle.floor_rooms.specs.Standing.{HoldsFor};
+ghost use Rattle.broker_floor.specs.Floors.{coming_of, faults_of, files_of, hall_of, held_of, kit_of};
 ghost use Rattle.path_opening.specs.Opening.{FindsAgain, HaveBytes, IsNamesFinding, IsOpenedHall, IsWhy, OnlyOpeningFiles, Raises};
 
 use crate::reading::prepare;
@@ -54,14 +55,14 @@ pub fn open<F: Folder, C: Clock, J: Journal<Entry>>(
     requires empty { IsTrue J.tells_notes → J.notes kit.journal ≡ [] }
     ensures found { IfOk result (λ floor. IsTrue F.tells_files → (f : Finding) → IsFound (F.files kit.folder) f → IsNamesFinding f) }
     ensures finds { IfOk result (λ floor. IsTrue F.tells_files → HaveBytes (F.files kit.folder) → (found : Found) × IsFound (F.files kit.folder) (Names found)) }
-    ensures stands { IfOk result (λ floor. IsTrue F.tells_files → (found : Found) → IsFound (F.files kit.folder) (Names found) → HoldsFor floor.held.hall (F.files floor.folder) (start found options.now floor.held.hall.moment)) }
-    ensures raised { IfOk result (λ floor. IsTrue F.tells_files → Raises (F.files kit.folder) (F.files floor.folder) floor.held.hall.epoch) }
-    ensures hall { IfOk result (λ floor. IsOpenedHall options.now floor.held) }
-    ensures moment { IfOk result (λ floor. IsTrue C.tells_readings → floor.held.hall.moment ≡ moment_of (C.coming kit.clock) 1) }
-    ensures coming { IfOk result (λ floor. IsTrue C.tells_readings → ((n : ℕ) → C.coming floor.clock n ≡ C.coming kit.clock (n + 1))) }
-    ensures journal { IfOk result (λ floor. floor.journal ≡ kit.journal) }
-    ensures faults { IfOk result (λ floor. F.folder_faults kit.folder ≤ F.folder_faults floor.folder) }
-    ensures files { IfOk result (λ floor. IsTrue F.tells_files → OnlyOpeningFiles (F.files kit.folder) (F.files floor.folder)) }
+    ensures stands { IfOk result (λ floor. IsTrue F.tells_files → (found : Found) → IsFound (F.files kit.folder) (Names found) → HoldsFor (hall_of floor) (files_of floor) (start found options.now (hall_of floor).moment)) }
+    ensures raised { IfOk result (λ floor. IsTrue F.tells_files → Raises (F.files kit.folder) (files_of floor) (hall_of floor).epoch) }
+    ensures hall { IfOk result (λ floor. IsOpenedHall options.now (held_of floor)) }
+    ensures moment { IfOk result (λ floor. IsTrue C.tells_readings → (hall_of floor).moment ≡ moment_of (C.coming kit.clock) 1) }
+    ensures coming { IfOk result (λ floor. IsTrue C.tells_readings → ((n : ℕ) → coming_of floor n ≡ C.coming kit.clock (n + 1))) }
+    ensures journal { IfOk result (λ floor. (kit_of floor).journal ≡ kit.journal) }
+    ensures faults { IfOk result (λ floor. F.folder_faults kit.folder ≤ faults_of floor) }
+    ensures files { IfOk result (λ floor. IsTrue F.tells_files → OnlyOpeningFiles (F.files kit.folder) (files_of floor)) }
     ensures why { IfErr result (λ refused. IsWhy refused.why F.tells_files (F.files kit.folder) (F.files refused.kit.folder) (F.folder_faults kit.folder) (F.folder_faults refused.kit.folder)) }
     ensures again { IfErr result (λ refused. IsTrue F.tells_files → FindsAgain (F.files kit.folder) (F.files refused.kit.folder)) }
     ensures back { IfErr result (λ refused. refused.kit.journal ≡ kit.journal) }

@@ -5,6 +5,7 @@ ghost use Rattle.names_file.specs.Kept.{CanKeepAll};
 ghost use Rattle.names_reading.specs.Durable.{AreDurable};
 ghost use Rattle.broker_history.specs.State.{State};
 ghost use Rattle.floor_rooms.specs.Standing.{HoldsFor};
+ghost use Rattle.broker_floor.specs.Floors.{faults_of, files_of, flushed_of, hall_of, held_of, kit_of};
 ghost use Rattle.path_opening.specs.Adding.{HasNames, IsFilled, IsNotFilled, IsNotSaved};
 
 use crate::adding::add_topics;
@@ -21,15 +22,15 @@ pub(crate) fn fill<F: Folder, C: Clock, J: Journal<Entry>>(
     floor: &mut Floor<F, C, J>,
     topics: &[KeptTopic],
 ) -> Result<(), Why>
-    requires unflushed { floor.old.held.flushed ≡ false }
-    requires empty { floor.old.held.hall.rooms.items ≡ [] }
+    requires unflushed { flushed_of floor.old ≡ false }
+    requires empty { (hall_of floor.old).rooms.items ≡ [] }
     requires can { CanKeepAll topics.now }
     requires durable { AreDurable topics.now }
-    ensures filled { OnOk result (IsFilled F.tells_files topics.now floor.old.held floor.new.held (F.files floor.old.folder) (F.files floor.new.folder)) }
-    ensures refused { IfErr result (λ why. IsNotFilled why F.tells_files topics.now floor.old.held.hall.epoch (F.files floor.old.folder) (F.files floor.new.folder) (F.folder_faults floor.old.folder) (F.folder_faults floor.new.folder)) }
-    ensures clock { floor.new.clock ≡ floor.old.clock }
-    ensures journal { floor.new.journal ≡ floor.old.journal }
-    ensures faults { F.folder_faults floor.old.folder ≤ F.folder_faults floor.new.folder }
+    ensures filled { OnOk result (IsFilled F.tells_files topics.now (held_of floor.old) (held_of floor.new) (files_of floor.old) (files_of floor.new)) }
+    ensures refused { IfErr result (λ why. IsNotFilled why F.tells_files topics.now (hall_of floor.old).epoch (files_of floor.old) (files_of floor.new) (faults_of floor.old) (faults_of floor.new)) }
+    ensures clock { (kit_of floor.new).clock ≡ (kit_of floor.old).clock }
+    ensures journal { (kit_of floor.new).journal ≡ (kit_of floor.old).journal }
+    ensures faults { faults_of floor.old ≤ faults_of floor.new }
 {
     match add_topics(alloc, floor, topics) {
         Ok(()) => save(alloc, floor, topics),
@@ -44,14 +45,14 @@ fn save<F: Folder, C: Clock, J: Journal<Entry>>(
     topics: &[KeptTopic],
 ) -> Result<(), Why>
     requires can { CanKeepAll topics.now }
-    ensures saved { IsTrue F.tells_files → OnOk result (HasNames (F.files floor.new.folder) floor.old.held.hall.epoch topics.now) }
-    ensures refused { IfErr result (λ why. IsNotSaved why F.tells_files topics.now floor.old.held.hall.epoch (F.files floor.old.folder) (F.files floor.new.folder) (F.folder_faults floor.old.folder) (F.folder_faults floor.new.folder)) }
-    ensures stands { IsTrue F.tells_files → floor.old.held.flushed ≡ false → (s : State) → HoldsFor floor.old.held.hall (F.files floor.old.folder) s → HoldsFor floor.new.held.hall (F.files floor.new.folder) s }
-    ensures others { IsTrue F.tells_files → OnlyTwoChange (F.files floor.old.folder) (F.files floor.new.folder) data_name temp_name }
-    ensures held { floor.new.held ≡ floor.old.held }
-    ensures clock { floor.new.clock ≡ floor.old.clock }
-    ensures journal { floor.new.journal ≡ floor.old.journal }
-    ensures faults { F.folder_faults floor.old.folder ≤ F.folder_faults floor.new.folder }
+    ensures saved { IsTrue F.tells_files → OnOk result (HasNames (files_of floor.new) (hall_of floor.old).epoch topics.now) }
+    ensures refused { IfErr result (λ why. IsNotSaved why F.tells_files topics.now (hall_of floor.old).epoch (files_of floor.old) (files_of floor.new) (faults_of floor.old) (faults_of floor.new)) }
+    ensures stands { IsTrue F.tells_files → flushed_of floor.old ≡ false → (s : State) → HoldsFor (hall_of floor.old) (files_of floor.old) s → HoldsFor (hall_of floor.new) (files_of floor.new) s }
+    ensures others { IsTrue F.tells_files → OnlyTwoChange (files_of floor.old) (files_of floor.new) data_name temp_name }
+    ensures held { held_of floor.new ≡ held_of floor.old }
+    ensures clock { (kit_of floor.new).clock ≡ (kit_of floor.old).clock }
+    ensures journal { (kit_of floor.new).journal ≡ (kit_of floor.old).journal }
+    ensures faults { faults_of floor.old ≤ faults_of floor.new }
 {
     let mut text = Vec::new(alloc);
     if write_names(alloc, floor.epoch(), topics, &mut text).is_err() {

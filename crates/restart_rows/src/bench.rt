@@ -2,6 +2,7 @@
 
 ghost use Rattle.std.specs.Prelude.{◌≡◌, false};
 ghost use Rattle.nsq_base.specs.Options.{IsInRange};
+ghost use Rattle.broker_floor.specs.Floors.{flushed_of};
 
 use crate::answers::put_answer;
 use crate::calls::{call_of, parted};
@@ -35,7 +36,7 @@ pub enum Opened {
 pub struct Bench {
     alloc: Global,
     floor: MemFloor,
-    ghost open: { floor.held.flushed ≡ false },
+    ghost open: { flushed_of floor ≡ false },
 }
 
 /// Opens a folder, over a clock that gives these readings.

@@ -1,17 +1,16 @@
 use Rattle.std.proofs.Common.{◌≡◌, false}
 use Rattle.nsq_outside.specs.Hosts.{OnlyAcceptFaults}
-use Rattle.floor_turns.specs.Scenes.{scene}
+use Rattle.broker_floor.specs.Floors.{flushed_of, scene_of}
 use Rattle.daemon_loop.specs.Rounds.{Rounds}
 use Rattle.daemon_loop.specs.Served.{views, AllTell}
 use Rattle.daemon_loop.proofs.callers.serve_callers.Given as goal
 
 abbrev pub invariant-callers : goal.invariant-callers
 invariant-callers g l = record {
-  unflushed : l.floor.held.flushed ≡ false;
+  unflushed : flushed_of l.floor ≡ false;
   rounds : Rounds (AllTell g.H.Dialer.tells g.H.Conn.Source.tells_pieces g.H.Conn.Sink.tells_written g.H.Journal.Journal.tells_notes) g.H.Dialer.tells g.H.Journal.Journal.tells_notes g.H.Folder.Folder.tells_files g.H.Clock.Clock.tells_readings
       (views g.H.Conn.Source.pieces g.H.Conn.Source.left g.H.Conn.Source.ended g.H.Conn.Sink.written g.H.Conn.Source.read_faults g.H.Conn.Sink.write_faults) l.options l.began l.number
-      (scene l.initial.floor.held.hall (g.H.Journal.Journal.notes l.initial.floor.journal) (g.H.Folder.Folder.files l.initial.floor.folder) (g.H.Folder.Folder.folder_faults l.initial.floor.folder) (g.H.Clock.Clock.coming l.initial.floor.clock))
-      (scene l.floor.held.hall (g.H.Journal.Journal.notes l.floor.journal) (g.H.Folder.Folder.files l.floor.folder) (g.H.Folder.Folder.folder_faults l.floor.folder) (g.H.Clock.Clock.coming l.floor.clock))
+      (scene_of l.initial.floor) (scene_of l.floor)
       (g.H.Host.content l.initial.host) (g.H.Host.content l.host);
   state : OnlyAcceptFaults (g.H.Host.state l.initial.host) (g.H.Host.state l.host);
 }

@@ -1,5 +1,5 @@
 use Rattle.std.proofs.Common.{◌∙◌, ap}
-use Rattle.floor_turns.specs.Scenes.{scene}
+use Rattle.broker_floor.specs.Floors.{scene_of}
 use Rattle.daemon_run.proofs.Causes.{parts}
 use Rattle.daemon_run.proofs.run.run.Goals as goal
 
@@ -14,11 +14,11 @@ returns-clause-runs g c =
       shutting = c.shut-shutting.result.0;
       ended_is = c.ending_after.ensures;
       number = over.number;
-      middle = scene middle.held.hall (g.H.Journal.Journal.notes middle.journal) (g.H.Folder.Folder.files middle.folder) (g.H.Folder.Folder.folder_faults middle.folder) (g.H.Clock.Clock.coming middle.clock);
+      middle = scene_of middle;
       rounds = over.rounds;
       why = over.why;
       failed = c.serve_callers-looped.ensures.cause;
-      last = scene end.held.hall (g.H.Journal.Journal.notes end.journal) (g.H.Folder.Folder.files end.folder) (g.H.Folder.Folder.folder_faults end.folder) (g.H.Clock.Clock.coming end.clock);
+      last = scene_of end;
       leads = c.stop-stopped.ensures.leads.1;
       adds = c.stop-stopped.ensures.adds;
       noted = c.stop-stopped.ensures.noted;

@@ -3,6 +3,7 @@ use Rattle.std.specs.List.{All}
 use Rattle.nsq_base.specs.Name.{is_ephemeral}
 use Rattle.path_image.specs.Data.{KeptChannel, KeptTopic}
 use Rattle.floor_opening.specs.Opened.{AreApart}
+use Rattle.broker_floor.specs.Floors.{faults_of, files_of, hall_of}
 use Rattle.path_opening.specs.Adding.{IsNotOne, pauses}
 use Rattle.path_opening.proofs.Joining.{adds_of, apart_pauses, durable_pauses, puts_of, refused_of}
 use Rattle.path_opening.proofs.Orders.{ascends}
@@ -24,19 +25,19 @@ pub returns-in-Ok-add-clause-adds : goal.returns-in-Ok-add-clause-adds
 returns-in-Ok-add-clause-adds g c = λ told.
     let t : KeptTopic = c.args.topic.now in
     let is : c.deref-2.result.now ≡ pauses t.channels = c.deref-2.ensures.value ∙ c.in-Ok.ensures ∙ ap pauses (c.deref.ensures.value ∙ ap (λ (x : KeptTopic). x.channels) c.topic.view_is) in
-    adds_of t c.topic.inside.topic c.topic.inside.paused c.deref-2.result.now (ap (λ (x : KeptTopic). x.name) c.topic.view_is) (ap (λ (x : KeptTopic). x.paused) c.topic.view_is) is c.args.floor.now.held.hall c.add.new.self.held.hall (g.F.Folder.files c.args.floor.now.folder) (g.F.Folder.files c.add.new.self.folder)
+    adds_of t c.topic.inside.topic c.topic.inside.paused c.deref-2.result.now (ap (λ (x : KeptTopic). x.name) c.topic.view_is) (ap (λ (x : KeptTopic). x.paused) c.topic.view_is) is (hall_of c.args.floor.now) (hall_of c.add.new.self) (files_of c.args.floor.now) (files_of c.add.new.self)
     (c.in-Ok-add.ensures.told told) (c.add.ensures.again told) (c.in-Ok-add.ensures.bad told) (c.in-Ok-add.ensures.good told) (c.in-Ok-add.ensures.finds told) (c.in-Ok-add.ensures.back told) (c.add.ensures.theirs told)
 
 pub returns-in-Ok-add-clause-puts : goal.returns-in-Ok-add-clause-puts
 returns-in-Ok-add-clause-puts g c =
     let t : KeptTopic = c.args.topic.now in
     let is : c.deref-2.result.now ≡ pauses t.channels = c.deref-2.ensures.value ∙ c.in-Ok.ensures ∙ ap pauses (c.deref.ensures.value ∙ ap (λ (x : KeptTopic). x.channels) c.topic.view_is) in
-    puts_of t c.topic.inside.topic c.topic.inside.paused c.deref-2.result.now (ap (λ (x : KeptTopic). x.name) c.topic.view_is) (ap (λ (x : KeptTopic). x.paused) c.topic.view_is) is c.args.floor.now.held.hall.options c.args.floor.now.held.hall c.add.new.self.held.hall c.in-Ok-add.ensures.opens
+    puts_of t c.topic.inside.topic c.topic.inside.paused c.deref-2.result.now (ap (λ (x : KeptTopic). x.name) c.topic.view_is) (ap (λ (x : KeptTopic). x.paused) c.topic.view_is) is (hall_of c.args.floor.now).options (hall_of c.args.floor.now) (hall_of c.add.new.self) c.in-Ok-add.ensures.opens
 
 pub returns-clause-refused : goal.returns-clause-refused
 returns-clause-refused g c =
     let t : KeptTopic = c.args.topic.now in
     let is : c.deref-2.result.now ≡ pauses t.channels = c.deref-2.ensures.value ∙ c.in-Ok.ensures ∙ ap pauses (c.deref.ensures.value ∙ ap (λ (x : KeptTopic). x.channels) c.topic.view_is) in
-    subst (λ why. IsNotOne why g.F.Folder.tells_files t (g.F.Folder.files c.args.floor.now.folder) (g.F.Folder.files c.add.new.self.folder) (g.F.Folder.folder_faults c.args.floor.now.folder) (g.F.Folder.folder_faults c.add.new.self.folder)) (sym c.why_of.ensures)
-    (refused_of t c.topic.inside.topic c.topic.inside.paused c.deref-2.result.now (ap (λ (x : KeptTopic). x.name) c.topic.view_is) (ap (λ (x : KeptTopic). x.paused) c.topic.view_is) is c.in-Err.refusal g.F.Folder.tells_files (g.F.Folder.files c.args.floor.now.folder) (g.F.Folder.files c.add.new.self.folder)
-    (g.F.Folder.folder_faults c.args.floor.now.folder) (g.F.Folder.folder_faults c.add.new.self.folder) c.in-Err.ensures.refused c.in-Err.ensures.cause c.add.ensures.again c.add.ensures.theirs)
+    subst (λ why. IsNotOne why g.F.Folder.tells_files t (files_of c.args.floor.now) (files_of c.add.new.self) (faults_of c.args.floor.now) (faults_of c.add.new.self)) (sym c.why_of.ensures)
+    (refused_of t c.topic.inside.topic c.topic.inside.paused c.deref-2.result.now (ap (λ (x : KeptTopic). x.name) c.topic.view_is) (ap (λ (x : KeptTopic). x.paused) c.topic.view_is) is c.in-Err.refusal g.F.Folder.tells_files (files_of c.args.floor.now) (files_of c.add.new.self)
+    (faults_of c.args.floor.now) (faults_of c.add.new.self) c.in-Err.ensures.refused c.in-Err.ensures.cause c.add.ensures.again c.add.ensures.theirs)

@@ -1,28 +1,29 @@
 use Rattle.std.proofs.Common.{◌∙◌, refl}
+use Rattle.broker_floor.specs.Floors.{faults_of, files_of, hall_of, held_of}
 use Rattle.path_opening.proofs.Joining.{added_first, still_unflushed, topic_added, topic_new, topic_order, topic_refused}
 use Rattle.path_opening.proofs.adding.add_topics.Goals as goal
 
 pub topics-init : goal.topics-init
-topics-init g c = (added_first g.F.Folder.tells_files c.args.floor.now.held (g.F.Folder.files c.args.floor.now.folder) (g.F.Folder.folder_faults c.args.floor.now.folder) c.requires.empty, refl, refl)
+topics-init g c = (added_first g.F.Folder.tells_files (held_of c.args.floor.now) (files_of c.args.floor.now) (faults_of c.args.floor.now) c.requires.empty, refl, refl)
 
 pub add_topic-requires-clause-unflushed : goal.add_topic-requires-clause-unflushed
-add_topic-requires-clause-unflushed g c = still_unflushed c.args.floor.now.held c.topics.floor.held c.topics.invariant.0.rest c.requires.unflushed
+add_topic-requires-clause-unflushed g c = still_unflushed (held_of c.args.floor.now) (held_of c.topics.floor) c.topics.invariant.0.rest c.requires.unflushed
 
 pub add_topic-requires-clause-order : goal.add_topic-requires-clause-order
 add_topic-requires-clause-order g c = topic_order c.args.topics.now c.topics.topic-index c.topic-item.result c.topics-test.true c.topic-item.is c.requires.can
 
 pub add_topic-requires-clause-new : goal.add_topic-requires-clause-new
-add_topic-requires-clause-new g c = topic_new c.args.topics.now c.topics.topic-index c.topic-item.result c.topics-test.true c.topic-item.is c.requires.can c.topics.floor.held.hall c.topics.invariant.0.names
+add_topic-requires-clause-new g c = topic_new c.args.topics.now c.topics.topic-index c.topic-item.result c.topics-test.true c.topic-item.is c.requires.can (hall_of c.topics.floor) c.topics.invariant.0.names
 
 pub topics-preserved : goal.topics-preserved
 topics-preserved g c = (
-  topic_added c.args.topics.now c.topics.topic-index c.topic-item.result c.topics-test.true c.topic-item.is c.requires.can g.F.Folder.tells_files c.args.floor.now.held c.topics.floor.held c.add_topic.new.floor.held (g.F.Folder.files c.args.floor.now.folder) (g.F.Folder.files c.topics.floor.folder)
-      (g.F.Folder.files c.add_topic.new.floor.folder) (g.F.Folder.folder_faults c.args.floor.now.folder) (g.F.Folder.folder_faults c.topics.floor.folder) (g.F.Folder.folder_faults c.add_topic.new.floor.folder) c.topics.invariant.0 c.add_topic.ensures.held c.in-Ok.ensures.puts c.in-Ok.ensures.adds c.add_topic.ensures.faults,
+  topic_added c.args.topics.now c.topics.topic-index c.topic-item.result c.topics-test.true c.topic-item.is c.requires.can g.F.Folder.tells_files (held_of c.args.floor.now) (held_of c.topics.floor) (held_of c.add_topic.new.floor) (files_of c.args.floor.now) (files_of c.topics.floor)
+      (files_of c.add_topic.new.floor) (faults_of c.args.floor.now) (faults_of c.topics.floor) (faults_of c.add_topic.new.floor) c.topics.invariant.0 c.add_topic.ensures.held c.in-Ok.ensures.puts c.in-Ok.ensures.adds c.add_topic.ensures.faults,
   c.add_topic.ensures.clock ∙ c.topics.invariant.1,
   c.add_topic.ensures.journal ∙ c.topics.invariant.2,
 )
 
 pub returns-in-Err-clause-refused : goal.returns-in-Err-clause-refused
 returns-in-Err-clause-refused g c =
-    topic_refused c.args.topics.now c.topics.topic-index c.topic-item.result c.topics-test.true c.topic-item.is c.requires.can g.F.Folder.tells_files c.args.floor.now.held c.topics.floor.held c.add_topic.new.floor.held (g.F.Folder.files c.args.floor.now.folder) (g.F.Folder.files c.topics.floor.folder)
-    (g.F.Folder.files c.add_topic.new.floor.folder) (g.F.Folder.folder_faults c.args.floor.now.folder) (g.F.Folder.folder_faults c.topics.floor.folder) (g.F.Folder.folder_faults c.add_topic.new.floor.folder) c.topics.invariant.0 c.in-Err.why c.in-Err.ensures.refused
+    topic_refused c.args.topics.now c.topics.topic-index c.topic-item.result c.topics-test.true c.topic-item.is c.requires.can g.F.Folder.tells_files (held_of c.args.floor.now) (held_of c.topics.floor) (held_of c.add_topic.new.floor) (files_of c.args.floor.now) (files_of c.topics.floor)
+    (files_of c.add_topic.new.floor) (faults_of c.args.floor.now) (faults_of c.topics.floor) (faults_of c.add_topic.new.floor) c.topics.invariant.0 c.in-Err.why c.in-Err.ensures.refused

@@ -1,6 +1,5 @@
 pub mod Flushing
 pub mod Keepable
 pub mod Holding
-pub mod Settling
 pub mod Storing
 pub mod Answering

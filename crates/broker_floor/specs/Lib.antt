@@ -1,4 +1,3 @@
 pub mod Ending
 pub mod Floors
 pub mod Held
-pub mod Ticks

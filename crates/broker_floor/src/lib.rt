@@ -8,7 +8,6 @@ mod ending;
 mod floor;
 mod making;
 mod naming;
-mod serving;
 mod sound;
 mod turning;
 

@@ -15,13 +15,13 @@ ghost use Rattle.floor_saving.specs.Flushing.{LeavesOthers, LeavesWhere};
 ghost use Rattle.floor_turns.specs.Turning.{TakesTurn};
 ghost use Rattle.floor_opening.specs.Opened.{AreApart, BadStays, FindsBack, FindsThem, ListsStay, NoneIsBad, OnlyTheirFiles, OnlyTopicFiles, OpensRoom, OpensTo, RefusesTopic};
 
-use crate::serving::turn_at;
 use backlog::Flushed;
 use broker_history::Entry;
 use desk::{Call, Turned};
 use floor_opening::open_topic;
 use floor_rooms::Hall;
 use floor_saving::flush_all;
+use floor_serving::turn_at;
 use nsq_base::{Chan, Steps, Topic};
 use nsq_outside::{Folder, Journal};
 use queue_opening::Open;

@@ -2,7 +2,7 @@ use Rattle.std.proofs.Common.{refl, sym, ap, subst, ◌∙◌, arith}
 use Rattle.floor_moves.specs.Moves.{sight}
 use Rattle.floor_moves.proofs.Keeping.{keeps_same}
 use Rattle.floor_turns.proofs.Whole.{pays_running, pays_stopped}
-use Rattle.broker_floor.proofs.serving.pay_first.Goals as goal
+use Rattle.floor_serving.proofs.serving.pay_first.Goals as goal
 
 pub returns-clause-pays : goal.returns-clause-pays
 returns-clause-pays g c =

@@ -1,8 +1,8 @@
 use Rattle.std.proofs.Common.{refl, sym, ◌∙◌}
 use Rattle.floor_rooms.specs.declared.hall.Hall.{Hall}
 use Rattle.floor_turns.proofs.Whole.{sound_marked}
-use Rattle.broker_floor.proofs.Settling.{settles_marked, settles_saved, stuck_saved, timely_other, timely_saved}
-use Rattle.broker_floor.proofs.serving.settle.Goals as goal
+use Rattle.floor_serving.proofs.Settling.{settles_marked, settles_saved, stuck_saved, timely_other, timely_saved}
+use Rattle.floor_serving.proofs.serving.settle.Goals as goal
 
 pub sync_all-requires : goal.sync_all-requires
 sync_all-requires g c = sound_marked c.args.hall.now (record (c.args.hall.now) { stuck = c.is_stuck_stop-hall.result }) c.requires refl

@@ -1,7 +1,7 @@
 use Rattle.std.proofs.Common.{refl, sym, ap, subst, ◌∙◌, arith}
 use Rattle.floor_moves.specs.Moves.{sight}
 use Rattle.floor_turns.proofs.Whole.{turn_strange, turn_stopped, turn_wants, turn_served, serves_here, not_false}
-use Rattle.broker_floor.proofs.serving.turn_at.Goals as goal
+use Rattle.floor_serving.proofs.serving.turn_at.Goals as goal
 
 pub returns-then-is_strange-clause-turn : goal.returns-then-is_strange-clause-turn
 returns-then-is_strange-clause-turn g c = turn_strange g.J.Journal.tells_notes g.F.Folder.tells_files c.args.number c.args.call (sight c.args.hall.now (g.J.Journal.notes c.args.journal.now) (g.F.Folder.files c.args.folder.now) (g.F.Folder.folder_faults c.args.folder.now)) (sym c.is_strange.ensures ∙ c.if-is_strange.true)

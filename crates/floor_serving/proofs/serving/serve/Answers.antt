@@ -6,7 +6,7 @@ use Rattle.desk.specs.Answers.{EndsAtStop}
 use Rattle.floor_moves.specs.Moves.{sight}
 use Rattle.floor_turns.specs.Acting.{Acts}
 use Rattle.floor_turns.proofs.Carrying.{acts_none, stays_same}
-use Rattle.broker_floor.proofs.serving.serve.Goals as goal
+use Rattle.floor_serving.proofs.serving.serve.Goals as goal
 
 pub returns-in-Err-clause-acts : goal.returns-in-Err-clause-acts
 returns-in-Err-clause-acts g c =

@@ -9,7 +9,7 @@ ghost use Rattle.floor_moves.specs.Moves.{sight, Keeps};
 ghost use Rattle.floor_turns.specs.Acting.{Acts};
 ghost use Rattle.floor_turns.specs.Timely.{TicksTimely};
 ghost use Rattle.floor_turns.specs.Turning.{PaysFor, Settles, TakesTurn, ends_at_stop, is_enough, is_stopping, is_stuck_stop, most_for};
-ghost use Rattle.broker_floor.specs.Ticks.{is_saving, is_ticking};
+ghost use Rattle.floor_serving.specs.Ticks.{is_saving, is_ticking};
 
 use broker_history::Entry;
 use desk::{Call, Turned};
@@ -25,11 +25,11 @@ use nsq_outside::{Folder, Journal};
 use std::alloc::Global;
 use std::sync::ledger::Ledger;
 
-// Takes a turn of this number at the hall's moment: what is due is moved, 64 moves at most unless a Stop is called for, and the call makes its act, which
-// the answer tells; a tick that is answered Quiet then saves the queues whose saving is due. A call that doesn't fit its number is Strange, and one that a
-// Stop keeps off is answered Stopping: neither moves anything. After Memory the moves that were made stand, and no act was made. Requires 16,777,242 bytes
-// of `scratch`.
-pub(crate) fn turn_at<F: Folder, J: Journal<Entry>, L: Ledger>(
+/// Takes a turn of this number at the hall's moment: what is due is moved, 64 moves at most unless a Stop is called for, and the call makes its act, which
+/// the answer tells; a tick that is answered Quiet then saves the queues whose saving is due. A call that doesn't fit its number is Strange, and one that a
+/// Stop keeps off is answered Stopping: neither moves anything. After Memory the moves that were made stand, and no act was made. Requires 16,777,242 bytes
+/// of `scratch`.
+pub fn turn_at<F: Folder, J: Journal<Entry>, L: Ledger>(
     hall: &mut Hall,
     alloc: Global,
     number: u64,

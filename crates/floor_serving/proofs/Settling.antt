@@ -25,7 +25,7 @@ use Rattle.floor_turns.specs.Leads.{IsMarkLater, MarksStand}
 use Rattle.floor_saving.specs.Saving.{MarkGoes, MarksGo}
 use Rattle.floor_saving.specs.Timely.{IsTimely}
 use Rattle.floor_turns.proofs.Whole.{holds_marked, stays_then}
-use Rattle.broker_floor.specs.Ticks.{is_saving, is_ticking}
+use Rattle.floor_serving.specs.Ticks.{is_saving, is_ticking}
 
 -- that a disk fault kept the Stop's turn from paying all is kept
 stays_marked : (h h' : Hall) → h' ≡ record h { stuck = h'.stuck } → StaysOn h h'

@@ -1,0 +1,8 @@
+//! A turn at a floor's hall, at the hall's moment: what is due is moved, then the call makes its act, which the answer tells.
+//!
+//! `floor_turns`' `specs/Turning.antt` says what such a turn does.
+#![tactic(auto)]
+
+mod serving;
+
+pub use serving::turn_at;

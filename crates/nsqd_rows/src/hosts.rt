@@ -16,6 +16,22 @@ use std::sync::Wait;
 // What a host in memory stands on.
 type MemKit = Kit<MemFolder, MemClock, MemJournal<Entry>>;
 
+/// Which calls of a host fail, by their numbers from 0.
+#[derive(Clone, Copy)]
+pub struct HostFails {
+    /// Starts and accepts, counted together.
+    pub accepts: &'static [u64],
+    pub prints: &'static [u64],
+    pub tells: &'static [u64],
+}
+
+/// No call of the host fails.
+pub const NONE_FAILS: HostFails = HostFails {
+    accepts: &[],
+    prints: &[],
+    tells: &[],
+};
+
 /// What a run is given.
 #[derive(Drop)]
 pub struct Given {
@@ -24,6 +40,7 @@ pub struct Given {
     pub folder: MemFolder,
     /// The readings of the clock.
     pub readings: Vec<u64>,
+    pub fails: HostFails,
 }
 
 /// What a run came to.
@@ -41,6 +58,7 @@ pub fn run_with<R: Wait>(rt: &R, alloc: Global, given: Given) -> Result<Outcome,
         callers,
         folder,
         readings,
+        fails,
     } = given;
     let kit = Kit {
         folder,
@@ -48,8 +66,21 @@ pub fn run_with<R: Wait>(rt: &R, alloc: Global, given: Given) -> Result<Outcome,
         journal: MemJournal::new(alloc),
     };
     let mut host = MemHost::new(alloc, callers, Vec::new(alloc), kit, false)?;
+    fail(alloc, &mut host, fails)?;
     let status = nsqd_run(rt, alloc, &words, &mut host);
     Ok(Outcome { status, host })
+}
+
+// Has these calls of a host fail.
+fn fail(alloc: Global, host: &mut MemHost<Entry>, fails: HostFails) -> Result<(), Memory>
+    requires { IsSome (state_of host.old).kit }
+    ensures { IsSome (state_of host.new).kit }
+{
+    let accepts = Vec::from_slice(alloc, fails.accepts)?;
+    let prints = Vec::from_slice(alloc, fails.prints)?;
+    let tells = Vec::from_slice(alloc, fails.tells)?;
+    host.fail_at(accepts, prints, tells);
+    Ok(())
 }
 
 impl Outcome {

@@ -6,7 +6,7 @@ ghost use Rattle.nsq_base.specs.Options.{IsInRange};
 
 use crate::dice::Dice;
 use crate::files::folder_of;
-use crate::hosts::{Given, Outcome, run_with};
+use crate::hosts::{Given, NONE_FAILS, Outcome, run_with};
 use crate::judged::{Judged, is_served, judge};
 use crate::setting::{DEFAULTS, SECOND, Setting, options_of, words_of};
 use broker_history::{Act, Ended, Entry};
@@ -114,6 +114,7 @@ fn given_by(
         callers,
         folder: folder_of(alloc, files, fails)?,
         readings: seed.dice.readings(alloc)?,
+        fails: NONE_FAILS,
     })
 }
 

@@ -3,7 +3,7 @@
 ghost use Rattle.nsq_base.specs.Options.{IsInRange};
 
 use crate::files::{File, add_files, bytes_of, folder_of};
-use crate::hosts::{Given, Outcome, run_with};
+use crate::hosts::{Given, HostFails, NONE_FAILS, Outcome, run_with};
 use crate::judged::{Judged, is_served, judge};
 use crate::setting::{DEFAULTS, Setting, options_of, words_of};
 use crate::tables::tables;
@@ -68,9 +68,11 @@ pub struct Run {
     pub files: &'static [File],
     /// Which calls of the folder fail.
     pub fails: &'static [Failing],
+    /// Which calls of the host fail.
+    pub host_fails: HostFails,
     pub clock: Shows,
     pub callers: &'static [Caller],
-    /// How many of them, the last ones, are behind a served stop, and aren't accepted.
+    /// How many of them, the last ones, are behind a served stop or a failed accept, and aren't accepted.
     pub behind: usize,
     /// How many bytes of a caller come at a time.
     pub size: usize,
@@ -87,6 +89,7 @@ pub const RUN: Run = Run {
     setting: DEFAULTS,
     files: &[],
     fails: &[],
+    host_fails: NONE_FAILS,
     clock: Shows::These(&[]),
     callers: &[],
     behind: 0,
@@ -163,6 +166,7 @@ fn given_by(alloc: Global, run: &Run, files: &[NamedFile]) -> Result<Given, Memo
         callers: callers_of(alloc, run)?,
         folder: folder_of(alloc, files, Vec::from_slice(alloc, run.fails)?)?,
         readings: readings_of(alloc, run.clock)?,
+        fails: run.host_fails,
     })
 }
 

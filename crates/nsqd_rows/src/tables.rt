@@ -2,6 +2,7 @@
 
 mod channels;
 mod faults;
+mod hosts;
 mod http;
 mod moments;
 mod openings;
@@ -12,7 +13,7 @@ mod words;
 use crate::rows::{CALLER, Caller, Row};
 use crate::texts::{OK, PUBLISH};
 
-pub fn tables() -> [&'static [Row]; 11] {
+pub fn tables() -> [&'static [Row]; 12] {
     [
         publishes::rows(),
         channels::rows(),
@@ -21,6 +22,7 @@ pub fn tables() -> [&'static [Row]; 11] {
         words::rows(),
         openings::rows(),
         faults::rows(),
+        hosts::rows(),
         http::publishes::rows(),
         http::pauses::rows(),
         http::stops::rows(),

@@ -1,3 +1,6 @@
+ghost use Rattle.std.specs.Prelude.{◌<◌};
+ghost use Rattle.nsq_outside.specs.Streams.{IsAmountRead};
+
 use nsq_outside::{Kind, Read, Sink, Source, Write};
 use nsq_system::{Talker, TcpConn, hear_out};
 use std::alloc::Global;
@@ -31,7 +34,10 @@ struct Scripted {
 }
 
 /// The answer to a read of this number that has so much room.
-fn answer(speech: Speech, read: u32, room: usize) -> Read {
+fn answer(speech: Speech, read: u32, room: usize) -> Read
+    requires { 0 < room }
+    ensures { IsAmountRead result room }
+{
     match speech {
         Speech::Drip(every) if every != 0 && read % every == 0 => Read::Got(1),
         Speech::Silence | Speech::Drip(_) => Read::Nothing,

@@ -21,9 +21,9 @@ use Rattle.broker_history.specs.declared.entry.Act.TheVariants.{Began, Did, Refu
 use Rattle.broker_history.specs.declared.ended.Ended.TheVariants.{Closed, Memory}
 use Rattle.broker_history.specs.declared.entry.Entry.{Entry}
 use Rattle.broker_history.specs.Entries.{History}
-use Rattle.broker_history.specs.Reply.{answered, closes_answer}
+use Rattle.broker_history.specs.Reply.{answered}
 use Rattle.broker_history.specs.Talk.{Round, Sending, Reading, Doing, Going, began, sent, rested, spent, nothing, read, greet, did, done, HasFault, IsSending, IsRest, IsDid, ClosesBy, ClosesSending, ClosesDoing, IsClosed, IsOpen, WithGone, IsTalk, bytes_of, command_in, commands_of, place_of}
-use Rattle.drill_laws.specs.Staying.{ClosedByStop, LeavesOpen, StaysOpen}
+use Rattle.drill_laws.specs.Staying.{AnswersOpen, ClosedByStop, LeavesOpen, StaysOpen}
 use Rattle.drill_laws.specs.Talking.{Spell}
 use Rattle.drill_laws.proofs.Talking.{after_magic, begins_first, row_front}
 
@@ -108,19 +108,19 @@ sending_open k Dropped c o = absurd o
 sending_open k act c o = absurd c
 
 module _ (limits : Limits) (bytes : List ℕ) (taken commands : List Command) (left : List ℕ) (place : ℕ) (greeted : Bool) (pending : List ℕ) (s : Stands limits bytes taken greeted pending) (spell : Spell limits commands bytes left) where
-  doing_open : (act : Act) (answer : Option Frame) → ClosesDoing limits place greeted pending act answer → StaysOpen act → closes_answer answer ≡ false → ⊥
+  doing_open : (act : Act) (answer : Option Frame) → ClosesDoing limits place greeted pending act answer → StaysOpen act → AnswersOpen act answer → ⊥
   doing_open (Did command r) answer c o e = false≢true (sym e ∙ c.3)
   doing_open (Refused fault frame) answer c o e = no_refusal limits bytes taken commands left place greeted pending fault s spell c
   doing_open Dropped answer c o e = o
   doing_open act answer c o e = absurd c
 
-  closes_open : (round : Round) (act : Act) (answer : Option Frame) → ClosesBy limits place greeted pending round act answer → StaysOpen act → closes_answer answer ≡ false → ⊥
+  closes_open : (round : Round) (act : Act) (answer : Option Frame) → ClosesBy limits place greeted pending round act answer → StaysOpen act → AnswersOpen act answer → ⊥
   closes_open (Sending k) act answer c o e = sending_open k act c o
   closes_open Reading act answer c o e = absurd c
   closes_open Doing act answer c o e = doing_open act answer c o e
 
 -- one of a list in which all are so
-within : {X : Type 0} (P : X → Type 0) (xs : List X) (x : X) (ys : List X) → AllByRecursion P (xs ++ x ∷ ys) → P x
+pub within : {X : Type 0} (P : X → Type 0) (xs : List X) (x : X) (ys : List X) → AllByRecursion P (xs ++ x ∷ ys) → P x
 within P [] x ys all = all.0
 within P (y ∷ xs) x ys all = within P xs x ys all.1
 
@@ -137,7 +137,7 @@ stopped_alone limits stopped pieces h own commands left (inl k) gone spell all =
     let last = last_open h own k.before k.last gone k.whole all in
     absurd (closes_open limits (bytes_of pieces) (commands_of k.before) commands left (place_of pieces k.pending) k.greeted k.pending (stands k.going) spell k.round k.last.0.act (answered k.last) k.closes_by last.stays last.answer)
 
-closed_by : (limits : Limits) (stopped : Bool) (wanted : ℕ) (pieces : List (List ℕ)) (own : History) (out : List ℕ) (commands : List Command) (left : List ℕ) → IsTalk limits stopped wanted pieces own out Closed
+pub closed_by : (limits : Limits) (stopped : Bool) (wanted : ℕ) (pieces : List (List ℕ)) (own : History) (out : List ℕ) (commands : List Command) (left : List ℕ) → IsTalk limits stopped wanted pieces own out Closed
     → Spell limits commands (bytes_of pieces) left → AllByRecursion LeavesOpen own → stopped ≡ true
 closed_by limits stopped wanted pieces own out commands left (inl t) spell all = stopped_alone limits stopped pieces t.entries own commands left t.reached t.leaves spell all
 closed_by limits stopped wanted pieces own out commands left (inr n) spell all = let e : Closed ≡ Memory = n.memory in cc

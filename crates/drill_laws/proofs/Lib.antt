@@ -9,3 +9,4 @@ pub mod Replying
 pub mod Staying
 pub mod Closing
 pub mod Owning
+pub mod Publishing

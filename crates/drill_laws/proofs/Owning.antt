@@ -1,15 +1,15 @@
 -- Histories by the connections that their entries are of.
-use Rattle.std.proofs.Common.{◌≡◌, ◌⊎◌, inl, inr, ℕ, ◌+◌, ◌≤◌, ◌==◌, Bool, true, false, not, ◌&&◌, if◌then◌else◌, List, [], ◌∷◌, ◌++◌, filter, refl, sym, ap, subst, ◌∙◌, arith}
+use Rattle.std.proofs.Common.{◌≡◌, ◌⊎◌, inl, inr, ℕ, ◌≤◌, ◌==◌, Bool, true, false, if◌then◌else◌, List, [], ◌∷◌, ◌++◌, refl, sym, subst, ◌∙◌, arith}
 use Rattle.std.specs.List.{AllByRecursion, sum_by}
 use Rattle.std.proofs.lemmas.Bool.{eq-eqb, false≢true}
 use Rattle.std.proofs.lemmas.List.Sums.{sum_by-cons}
 use Rattle.nsq_outside.specs.declared.journal.End.{End}
 use Rattle.v2_frame.specs.declared.command.Command.{Command}
 use Rattle.broker_history.specs.declared.entry.Act.{Act}
-use Rattle.broker_history.specs.declared.entry.Act.TheVariants.{Began, Did, Refused, Sent, Beat, Idle, Silent, Dropped, Gone, Asked, Listed, Ticked, Stop, Took, Copied, TimedOut, CameDue, HeldBack, Stuck}
+use Rattle.broker_history.specs.declared.entry.Act.TheVariants.{Did, Asked, Stop}
 use Rattle.broker_history.specs.declared.entry.Entry.{Entry}
-use Rattle.broker_history.specs.Entries.{History, IsCommon, is_common, is_own, own}
-use Rattle.broker_history.specs.Talk.{command_in, commands_of}
+use Rattle.broker_history.specs.Entries.{History, IsCommon, is_common, is_gone, is_own, is_stop, own}
+use Rattle.broker_history.specs.Talk.{command_in, commands_of, has_gone, stops_before_gone}
 use Rattle.drill_laws.specs.Talking.{IsTalking, Talks}
 
 -- what holds of all own entries of the numbers, and of common ones, holds of all
@@ -43,6 +43,19 @@ pub own_are : (k : ℕ) (h : History) → AllByRecursion (λ (e : Entry × End).
 own_are k [] = tt
 own_are k (e ∷ h) = own_so k h e (is_own k e) refl (own_are k h)
 
+-- what holds of all entries holds of own ones, and of the front of a list what holds of all
+own_one_so : (P : Entry × End → Type 0) (e : Entry × End) (h : History) (b : Bool) → P e → AllByRecursion P h → AllByRecursion P (if b then e ∷ h else h)
+own_one_so P e h true here all = (here, all)
+own_one_so P e h false here all = all
+
+pub all_own : (P : Entry × End → Type 0) (k : ℕ) (h : History) → AllByRecursion P h → AllByRecursion P (own k h)
+all_own P k [] all = tt
+all_own P k (e ∷ h) all = own_one_so P e (own k h) (is_own k e) all.0 (all_own P k h all.1)
+
+pub all_front : {X : Type 0} (P : X → Type 0) (xs ys : List X) → AllByRecursion P (xs ++ ys) → AllByRecursion P xs
+all_front P [] ys all = tt
+all_front P (x ∷ xs) ys all = (all.0, all_front P xs ys all.1)
+
 -- what is counted of one connection's entries alone
 abbrev pub IsAlone : (Entry × End → ℕ) → ℕ → Entry × End → Type 0
 IsAlone f k e = (f e ≡ 0) ⊎ (is_own k e ≡ true)
@@ -72,3 +85,53 @@ takes_act Of act rest t all = (tt, all)
 pub takes_all : (Of : Command → Type 0) (h : History) → AllByRecursion Talks h → AllByRecursion Of (commands_of h) → AllByRecursion (λ (e : Entry × End). Takes Of e.0.act) h
 takes_all Of [] t all = tt
 takes_all Of (e ∷ h) t all = let both = takes_act Of e.0.act (commands_of h) t.0 all in (both.0, takes_all Of h t.1 both.1)
+
+-- where no Stop stands in the front of a history, and no Gone behind it, no Stop stands before a Gone
+no_gone_next : (mine gone rest : Bool) → gone ≡ false → rest ≡ false → (if mine then (if gone then true else rest) else rest) ≡ false
+no_gone_next true true rest none more = absurd (false≢true (sym none))
+no_gone_next true false rest none more = more
+no_gone_next false gone rest none more = more
+
+stop_next : (stop mine gone later rest : Bool) → (stop ≡ true → later ≡ false) → rest ≡ false → (if stop then later else (if mine then (if gone then false else rest) else rest)) ≡ false
+stop_next true mine gone later rest behind more = behind refl
+stop_next false true true later rest behind more = refl
+stop_next false true false later rest behind more = more
+stop_next false false gone later rest behind more = more
+
+abbrev pub IsNoStop : Entry × End → Type 0
+IsNoStop e = is_stop e.0.act ≡ false
+
+abbrev pub IsNoGone : Entry × End → Type 0
+IsNoGone e = is_gone e.0.act ≡ false
+
+no_gone : (k : ℕ) (h : History) → AllByRecursion IsNoGone h → has_gone k h ≡ false
+no_gone k [] none = refl
+no_gone k (e ∷ h) none = no_gone_next (e.0.conn == k) (is_gone e.0.act) (has_gone k h) none.0 (no_gone k h none.1)
+
+no_gone_behind : (k : ℕ) (h : History) → AllByRecursion IsNoGone h → stops_before_gone k h ≡ false
+no_gone_behind k [] none = refl
+no_gone_behind k (e ∷ h) none =
+    stop_next (is_stop e.0.act) (e.0.conn == k) (is_gone e.0.act) (has_gone k h) (stops_before_gone k h) (λ s. no_gone k h none.1) (no_gone_behind k h none.1)
+
+pub stops_last : (k : ℕ) (front behind : History) → AllByRecursion IsNoStop front → AllByRecursion IsNoGone behind → stops_before_gone k (front ++ behind) ≡ false
+stops_last k [] behind some none = no_gone_behind k behind none
+stops_last k (e ∷ front) behind some none =
+    stop_next (is_stop e.0.act) (e.0.conn == k) (is_gone e.0.act) (has_gone k (front ++ behind)) (stops_before_gone k (front ++ behind)) (λ s. absurd (false≢true (sym some.0 ∙ s))) (stops_last k front behind some.1 none)
+
+-- where a connection has no entries and each Stop is its own, none stands there
+stop_own : (act : Act) → is_stop act ≡ true → is_common act ≡ false
+stop_own Stop s = refl
+stop_own act s = absurd (false≢true s)
+
+own_none : (k : ℕ) (e : Entry × End) (h : History) (b : Bool) → is_own k e ≡ b → own k (e ∷ h) ≡ [] → (is_own k e ≡ false) × (own k h ≡ [])
+own_none k e h true is none = let some : e ∷ own k h ≡ [] = subst (λ c. (if c then e ∷ own k h else own k h) ≡ []) is none in cc
+own_none k e h false is none = (is, subst (λ c. (if c then e ∷ own k h else own k h) ≡ []) is none)
+
+no_stop_here : (k : ℕ) (e : Entry × End) (b : Bool) → is_stop e.0.act ≡ b → is_own k e ≡ false → (is_stop e.0.act ≡ true → e.0.conn ≡ k) → is_stop e.0.act ≡ false
+no_stop_here k e true is other mine = let own_it : is_own k e ≡ true = rw (stop_own e.0.act is, eq-eqb e.0.conn k (mine is)) refl in absurd (false≢true (sym other ∙ own_it))
+no_stop_here k e false is other mine = is
+
+pub no_stops : (k : ℕ) (h : History) → own k h ≡ [] → AllByRecursion (λ (e : Entry × End). is_stop e.0.act ≡ true → e.0.conn ≡ k) h → AllByRecursion IsNoStop h
+no_stops k [] none all = tt
+no_stops k (e ∷ h) none all =
+    let parts = own_none k e h (is_own k e) refl none in (no_stop_here k e (is_stop e.0.act) refl parts.0 all.0, no_stops k h parts.1 all.1)

@@ -3,3 +3,4 @@ pub mod Conserving
 pub mod Talking
 pub mod Replying
 pub mod Staying
+pub mod Publishing

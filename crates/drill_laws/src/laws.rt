@@ -1,6 +1,7 @@
 //! The laws: each function's contract is one, and its body is empty.
 
 ghost use Rattle.drill_laws.specs.Conserving.{MessagesAreConserved, OnesStay};
+ghost use Rattle.drill_laws.specs.Publishing.{PublishersPublishAll, PubsAreAccepted};
 ghost use Rattle.drill_laws.specs.Replying.{CommandsAreReplied, RunsStay};
 ghost use Rattle.drill_laws.specs.Staying.{ClosedByStop, NobodyIsClosed};
 ghost use Rattle.drill_laws.specs.Talking.{CallersGiveTheirCommands, ConversationsTalk, FinishedCallersGiveAll};
@@ -31,4 +32,11 @@ pub fn replies()
 pub fn closings()
     ensures nobody { NobodyIsClosed }
     ensures stop { ClosedByStop }
+{}
+
+/// Where ids are left and no disk fault was met, each PUB is accepted. So a connection that alone publishes in a history publishes all that it was to, unless it
+/// ended by a fault of its own, by a Stop or by want of memory.
+pub fn publishes()
+    ensures accepted { PubsAreAccepted }
+    ensures all { PublishersPublishAll }
 {}

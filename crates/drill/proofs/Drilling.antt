@@ -1,144 +1,32 @@
--- What a drill's run did, from what is said of any run.
-use Rattle.std.proofs.Common.{◌≡◌, ◌≢◌, ◌⊎◌, ℕ, ◌+◌, ◌<◌, Bool, true, false, List, [], ◌++◌, map, Option, Some, None, IfOk, IfSome, IsSome, Result, Ok, Err, option_map, ap, sym, subst, ◌∙◌, refl, inl, inr, arith}
+-- What a drill did.
+use Rattle.std.proofs.Common.{◌≡◌, ◌⊎◌, ℕ, ◌+◌, ◌≤◌, length, List, IfOk, IfSome, Result, Ok, Err, ap, sym, subst, refl, inl, arith}
 use Rattle.std.specs.List.{AllByRecursion}
-use Rattle.std.proofs.lemmas.Bool.{false≢true}
-use Rattle.std.proofs.lemmas.Option.{none-some, same_Some}
-use Rattle.nsq_base.specs.declared.options.Options.{Options}
-use Rattle.nsq_outside.specs.Files.{Files}
-use Rattle.nsq_outside.specs.Hosts.{HostContent, HostState}
-use Rattle.nsq_fakes.specs.MemClocks.{coming_of}
-use Rattle.nsq_fakes.specs.MemFolders.{faults_of, files_in}
-use Rattle.nsq_fakes.specs.MemHosts.{content_of, state_of}
+use Rattle.nsq_outside.specs.Hosts.{HostState}
+use Rattle.nsq_fakes.specs.MemFolders.{files_in}
+use Rattle.nsq_fakes.specs.MemHosts.{state_of}
 use Rattle.nsq_fakes.specs.MemJournals.{notes_of}
 use Rattle.nsq_fakes.specs.declared.clock.MemClock.{MemClock}
-use Rattle.nsq_fakes.specs.declared.conn.MemConn.{MemConn}
 use Rattle.nsq_fakes.specs.declared.folder.MemFolder.{MemFolder}
 use Rattle.nsq_fakes.specs.declared.host.MemHost.{MemHost}
 use Rattle.nsq_fakes.specs.declared.journal.MemJournal.{MemJournal}
-use Rattle.path_image.specs.Data.{data_name}
-use Rattle.path_image.specs.Found.{BadData, EpochSpent, Finding, Found, IsFound, Names}
-use Rattle.path_image.specs.Found.IsFound.{bad_queue, fresh, names, spent, spoilt}
+use Rattle.path_image.specs.Found.{Found, IsFound, Names}
 use Rattle.broker_history.specs.declared.entry.Entry.{Entry}
 use Rattle.broker_history.specs.Entries.{History}
-use Rattle.broker_history.specs.Found.{start, started}
-use Rattle.broker_history.specs.Moments.{moment_of}
 use Rattle.broker_history.specs.State.{State}
-use Rattle.daemon_run.specs.Asked.{StartsOnce}
-use Rattle.daemon_run.specs.Parts.{KeepsFaults}
-use Rattle.daemon_run.specs.Runs.{HasRun, HasWorked, IsRefused, Runs, StayedHome}
-use Rattle.daemon_run.specs.Sights.{Both, Sight, sight, sight_of}
-use Rattle.daemon_run.specs.declared.ending.ServeEnd.{ServeEnd}
-use Rattle.daemon_run.specs.declared.ending.ServeEnd.TheVariants as end
-use Rattle.daemon_run.specs.Endings.{status_of}
-use Rattle.drill_laws.specs.Conserving.{HaveOnes}
 use Rattle.drill_laws.specs.Counts.{left_in, left_of}
-use Rattle.drill_laws.specs.Replying.{tried}
-use Rattle.drill_laws.proofs.Conserved.{conserved, no_topics, ones_stay}
-use Rattle.drill_laws.proofs.Replying.{replied, stays}
-use Rattle.drill.specs.Drills.{HasCounted, HasDrilled, HasNames, HasRunDrill, IsFaultless, seen, seen_with}
+use Rattle.drill_laws.proofs.Conserved.{conserved, ones_stay}
+use Rattle.drill_laws.proofs.Replying.{stays}
+use Rattle.drill.specs.Drills.{AcceptsAll, HasCounted, HasDrilled, HasNames, HasRunDrill, PublisherWants}
 use Rattle.drill.specs.Draws.{publishes}
-use Rattle.drill.specs.Hosts.{IsDrillHost, MemKit, drill_options}
 use Rattle.drill.specs.declared.draws.Publish.{Publish}
 use Rattle.drill.specs.declared.run.Drilled.{Drilled}
-use Rattle.drill.specs.Callers.{senders}
 use Rattle.drill.specs.Counting.{finished_in, published_in}
 use Rattle.drill.specs.Left.{messages_in}
-use Rattle.drill.proofs.Entering.{all_entered, all_send, calls}
 use Rattle.drill.proofs.Leaving.{all_found}
 use Rattle.drill.proofs.Spelling.{IsShort, publishes_short}
-use Rattle.drill.proofs.Tallying.{IsEntered, entries_keep, only_c, tallied}
-
--- what is seen where both kits are at home
-abbrev seen_of : HostState MemFolder MemClock (MemJournal Entry) → HostContent MemConn → Option (Sight MemConn)
-seen_of state content = sight_of notes_of files_in coming_of faults_of state content
-
-at_home : {X : Type 0} (o : Option MemKit) (k : MemKit) (f : MemKit → X) (P : X → Type 0) → o ≡ Some k → IfSome (option_map f o) P → P (f k)
-at_home None k f P e h = absurd (none-some k e)
-at_home (Some x) k f P e h = subst (λ (y : MemKit). P (f y)) (same_Some x k e) h
-
--- both kits are at home, so this holds of what is seen with them
-both_home : (s t : HostState MemFolder MemClock (MemJournal Entry)) (c d : HostContent MemConn) (j k : MemKit) (P : Sight MemConn → Sight MemConn → Type 0) → s.kit ≡ Some j → t.kit ≡ Some k → Both (seen_of s c) (seen_of t d) P
-    → P (sight notes_of files_in coming_of faults_of j s c) (sight notes_of files_in coming_of faults_of k t d)
-both_home s t c d j k P e f h =
-    at_home t.kit k _ (λ b. P _ b) f (at_home s.kit j _ (λ a. IfSome (seen_of t d) (λ b. P a b)) e h)
-
--- a state with these parts
-state_is : (s : HostState MemFolder MemClock (MemJournal Entry)) (kit : MemKit) → s.kit ≡ Some kit → s.beside ≡ false → s.accept_faults ≡ 0 → s.print_faults ≡ 0 → s.tell_faults ≡ 0
-    → s ≡ record { kit = Some kit; beside = false; accept_faults = 0; print_faults = 0; tell_faults = 0 }
-state_is s kit a b c d e =
-    let S : Option MemKit → Bool → ℕ → ℕ → ℕ → HostState MemFolder MemClock (MemJournal Entry)
-    = λ v w x y z. record { kit = v; beside = w; accept_faults = x; print_faults = y; tell_faults = z } in
-    ap (λ v. S v s.beside s.accept_faults s.print_faults s.tell_faults) a ∙ ap (λ w. S (Some kit) w s.accept_faults s.print_faults s.tell_faults) b
-    ∙ ap (λ x. S (Some kit) false x s.print_faults s.tell_faults) c ∙ ap (λ y. S (Some kit) false 0 y s.tell_faults) d ∙ ap (λ z. S (Some kit) false 0 0 z) e
-
-not_failed : {X : Type 0} → end.Clean ≡ end.AcceptFailed → X
-not_failed e = cc
-
-not_wanting : {X : Type 0} → end.Clean ≡ end.Memory → X
-not_wanting e = cc
-
--- a clean run started its host and served the callers
-clean_run : (a b : Sight MemConn) → StayedHome end.Clean a b ⊎ (StartsOnce drill_options a.content b.content × HasWorked seen drill_options end.Clean a b)
-    → StartsOnce drill_options a.content b.content × HasRun seen drill_options end.Clean a b
-clean_run a b (inl s) = elim s.ends [ inl e ↦ not_failed e | inr e ↦ not_wanting e ]
-clean_run a b (inr (s, inl r)) = elim r.ends [ inl e ↦ absurd (omega (arith, e)) | inr e ↦ not_wanting e ]
-clean_run a b (inr (s, inr r)) = (s, r)
-
-no_bytes : (kit : MemKit) → ((name : List ℕ) → files_in kit.folder name ≡ None) → (name bytes : List ℕ) → files_in kit.folder name ≡ Some bytes → ⊥
-no_bytes kit none name bytes e = none-some bytes (sym (none name) ∙ e)
-
--- the run of a drill's host that ended cleanly, with no count that rose
-pub has_run : (all : List Publish) (host : MemHost Entry) (f : (first : MemHost Entry) × IsDrillHost all first) (kit : MemKit) (ended : ServeEnd) → ended ≡ end.Clean → KeepsFaults (state_of f.0) (state_of host)
-    → (state_of host).kit ≡ Some kit → (state_of host).accept_faults ≡ 0 → faults_of kit.folder ≡ 0
-    → Both (seen_of (state_of f.0) (content_of f.0)) (seen_of (state_of host) (content_of host)) (Runs seen drill_options ended) → HasRunDrill all host
-has_run all host f kit ended clean keeps home accept folder both =
-    let first : MemHost Entry = f.0 in
-    let is_first : IsDrillHost all first = f.1 in
-    let home_first : (state_of first).kit ≡ Some is_first.kit = ap (λ (s : HostState MemFolder MemClock (MemJournal Entry)). s.kit) is_first.state in
-    let runs : Runs seen drill_options end.Clean (seen_with is_first.kit first) (seen_with kit host)
-    = subst (λ e. Runs seen drill_options e (seen_with is_first.kit first) (seen_with kit host)) clean
-    (both_home (state_of first) (state_of host) (content_of first) (content_of host) is_first.kit kit (Runs seen drill_options ended) home_first home both) in
-    let done = clean_run (seen_with is_first.kit first) (seen_with kit host) (runs (λ name bytes e. absurd (no_bytes is_first.kit is_first.is_new.files name bytes e))) in
-    record {
-      first = first;
-      is_first = is_first;
-      kit = kit;
-      faultless = record {
-        state = state_is (state_of host) kit home (keeps.beside ∙ ap (λ (s : HostState MemFolder MemClock (MemJournal Entry)). s.beside) is_first.state) accept
-            (keeps.print ∙ ap (λ (s : HostState MemFolder MemClock (MemJournal Entry)). s.print_faults) is_first.state) (keeps.tell ∙ ap (λ (s : HostState MemFolder MemClock (MemJournal Entry)). s.tell_faults) is_first.state);
-        folder = folder;
-      };
-      started = done.0;
-      run = done.1;
-    }
-
--- the same, where the kit is at home, for options that are a drill's
-pub has_run_home : (all : List Publish) (first host : MemHost Entry) (options : Options) (ended : ServeEnd) → IsDrillHost all first → options ≡ drill_options → ended ≡ end.Clean → KeepsFaults (state_of first) (state_of host)
-    → IsSome (state_of host).kit → (state_of host).accept_faults ≡ 0 → IfSome (state_of host).kit (λ kit. faults_of kit.folder ≡ 0)
-    → Both (seen_of (state_of first) (content_of first)) (seen_of (state_of host) (content_of host)) (Runs seen options ended) → HasRunDrill all host
-has_run_home all first host options ended is_first same clean keeps home accept folder both = go (state_of host).kit refl
-  where
-    go : (o : Option MemKit) → (state_of host).kit ≡ o → HasRunDrill all host
-    go None e = absurd (false≢true (subst (λ (x : Option MemKit). IsSome x) e home))
-    go (Some kit) e =
-        has_run all host (first, is_first) kit ended clean keeps e accept (subst (λ (x : Option MemKit). IfSome x (λ k. faults_of k.folder ≡ 0)) e folder)
-        (subst (λ (o : Options). Both (seen_of (state_of first) (content_of first)) (seen_of (state_of host) (content_of host)) (Runs seen o ended)) same both)
-
--- what is found in an empty folder
-abbrev nothing_found : Found
-nothing_found = record { epoch = 0; topics = [] }
-
-abbrev IsFirst : Finding → Type 0
-IsFirst BadData = Unit {0}
-IsFirst EpochSpent = Unit {0}
-IsFirst (Names found) = found ≡ nothing_found
-
-found_first : (files : Files) (x : Finding) → files data_name ≡ None → IsFound files x → IsFirst x
-found_first files x e (fresh f) = refl
-found_first files x e (spoilt t f b) = tt
-found_first files x e (spent t k f b l) = tt
-found_first files x e (bad_queue t k f b l q) = tt
-found_first files x e (names t k f b l m p) = absurd (none-some t (sym e ∙ f))
+use Rattle.drill.proofs.Tallying.{entries_keep, only_c}
+use Rattle.drill.proofs.Running.{begun, found_nothing, no_topics_begun, notes, notes_entered, notes_tallied, ones_begun}
+use Rattle.drill.proofs.Counted.{accepts_all, all_accepted, length-publishes, nobody_to_serve}
 
 -- all that a drill left is found, and that is what was published and not finished
 pub record FindsLeft {all : List Publish} {host : MemHost Entry} (r : HasRunDrill all host) : Type 0 where
@@ -150,25 +38,17 @@ pub finds_left : (all : List Publish) (host : MemHost Entry) (r : HasRunDrill al
 finds_left all host r short =
     let run = r.run in
     let history = run.history in
-    let callers = run.callers in
-    let stops = run.stops in
-    let notes : History = notes_of r.kit.journal in
-    let first : history.found ≡ nothing_found = found_first (files_in r.is_first.kit.folder) (Names history.found) (r.is_first.is_new.files data_name) history.is_found in
-    let begun : State = start history.found drill_options (moment_of (coming_of r.is_first.kit.clock) 1) in
-    let none : begun.topics ≡ [] = ap (λ (f : Found). map started f.topics) first in
-    let ones : HaveOnes only_c begun.topics = subst (λ ts. HaveOnes only_c ts) (sym none) (no_topics only_c) in
-    let came : map calls (senders all) ≡ callers.callers ++ (content_of host).coming = ap (λ (c : HostContent MemConn). c.coming) (sym r.is_first.content) ∙ callers.came in
-    let entered : AllByRecursion IsEntered notes =
-    all_entered seen (moment_of (coming_of r.is_first.kit.clock) 1) notes callers.callers (content_of host).coming callers.back (senders all) came (all_send all short) callers.served callers.no_other run.in_turn stops.last in
-    let keep = entries_keep notes entered in
-    let sum = conserved only_c begun run.to notes ones keep history.legal in
-    let tally = tallied begun.options (begun.ids_used + tried notes) notes entered (replied begun run.to notes history.legal) in
-    let stay = stays begun run.to notes history.legal in
+    let first : State = begun all host r in
+    let list : History = notes all host r in
+    let keep = entries_keep list (notes_entered all host r short) in
+    let sum = conserved only_c first run.to list (ones_begun all host r) keep history.legal in
+    let tally = notes_tallied all host r short in
+    let stay = stays first run.to list history.legal in
     let epoch = stay.epoch in
-    let zero : history.found.epoch ≡ 0 = ap (λ (f : Found). f.epoch) first in
+    let zero : history.found.epoch ≡ 0 = ap (λ (f : Found). f.epoch) (found_nothing all host r) in
     let left = (run.left (inl refl)).left (omega (arith, zero, epoch)) in
-    let same = all_found only_c run.to left.found (ones_stay only_c begun run.to notes ones keep history.legal) left.is_all in
-    let nothing : left_of begun ≡ 0 = ap left_in none in
+    let same = all_found only_c run.to left.found (ones_stay only_c first run.to list (ones_begun all host r) keep history.legal) left.is_all in
+    let nothing : left_of first ≡ 0 = ap left_in (no_topics_begun all host r) in
     let a = tally.accepted in
     let f = tally.finishes in
     record { found = left.found; is_found = left.is_found; sum = omega (arith, sum, nothing, same, a, f) }
@@ -181,22 +61,56 @@ pub home_names : (all : List Publish) (host : MemHost Entry) → AllByRecursion 
 home_names all host short r = subst (λ (s : HostState MemFolder MemClock (MemJournal Entry)). IfSome s.kit HasNames) (sym r.faultless.state) (finds_names all host r short)
 
 -- a drill that ran and was counted
-drilled_of : (seed count : ℕ) (host : MemHost Entry) (d : Drilled) (r : HasRunDrill (publishes seed count) d.host) → HasCounted r.kit d → HasDrilled seed count d
-drilled_of seed count host d r c =
-    let l = finds_left (publishes seed count) d.host r (publishes_short seed count) in
-    let found = c.left l.found l.is_found in
-    let p = c.published in
-    let f = c.finished in
-    let sum = l.sum in
-    record { ran = r; published = p; sent = c.sent; finished = f; left = record { found = l.found; is_found = l.is_found; count_is = found }; conserved = omega (arith, p, f, found, sum) }
+module _ (seed count : ℕ) (d : Drilled) (r : HasRunDrill (publishes seed count) d.host) (few : count ≤ 100000) (c : HasCounted r.kit d) where
+  abbrev ps : List Publish
+  ps = publishes seed count
+
+  abbrev list : History
+  list = notes ps d.host r
+
+  short : AllByRecursion IsShort ps
+  short = publishes_short seed count
+
+  many : length ps ≡ count
+  many = length-publishes seed count
+
+  in_range : length ps ≤ 100000
+  in_range = let same = many in let most = few in omega (arith, same, most)
+
+  counted : (d.published ≡ count) ⊎ PublisherWants ps d.host list
+  counted =
+      subst (λ n. (d.published ≡ n) ⊎ PublisherWants ps d.host list) many
+      (subst (λ n. (n ≡ length ps) ⊎ PublisherWants ps d.host list) (sym c.published) (all_accepted ps d.host r short in_range))
+
+  accepts : AcceptsAll ps d.host list d.published count
+  accepts = subst (λ n. AcceptsAll ps d.host list d.published n) many (subst (λ n. AcceptsAll ps d.host list n (length ps)) (sym c.published) (accepts_all ps d.host r short in_range))
+
+  drilled_of : HasDrilled seed count d
+  drilled_of =
+      let l = finds_left ps d.host r short in
+      let found = c.left l.found l.is_found in
+      let p = c.published in
+      let f = c.finished in
+      let sum = l.sum in
+      record {
+        ran = r;
+        all_served = nobody_to_serve ps d.host r short in_range;
+        published = p;
+        sent = c.sent;
+        finished = f;
+        left = record { found = l.found; is_found = l.is_found; count_is = found };
+        conserved = omega (arith, p, f, found, sum);
+        counted = counted;
+        accepts = accepts;
+      }
 
 counted_home : (all : List Publish) (host : MemHost Entry) (d : Drilled) (r : HasRunDrill all host) → IfSome (state_of host).kit (λ kit. HasCounted kit d) → HasCounted r.kit d
 counted_home all host d r h = subst (λ (s : HostState MemFolder MemClock (MemJournal Entry)). IfSome s.kit (λ kit. HasCounted kit d)) r.faultless.state h
 
 -- and what is answered then
-pub has_drilled : {E : Type 0} (seed count : ℕ) (host : MemHost Entry) (made : Result Drilled E) → HasRunDrill (publishes seed count) host → IfOk made (λ d. d.host ≡ host)
+pub has_drilled : {E : Type 0} (seed count : ℕ) (host : MemHost Entry) (made : Result Drilled E) → HasRunDrill (publishes seed count) host → count ≤ 100000 → IfOk made (λ d. d.host ≡ host)
     → IfOk made (λ d. IfSome (state_of host).kit (λ kit. HasCounted kit d)) → IfOk made (HasDrilled seed count)
-has_drilled seed count host (Ok d) r same counts =
+has_drilled seed count host (Ok d) r few same counts =
     let ran : HasRunDrill (publishes seed count) d.host = subst (λ h. HasRunDrill (publishes seed count) h) (sym same) r in
-    drilled_of seed count host d ran (counted_home (publishes seed count) d.host d ran (subst (λ h. IfSome (state_of h).kit (λ kit. HasCounted kit d)) (sym same) counts))
-has_drilled seed count host (Err e) r same counts = tt
+    drilled_of seed count d ran few (counted_home (publishes seed count) d.host d ran (subst (λ h. IfSome (state_of h).kit (λ kit. HasCounted kit d)) (sym same) counts))
+has_drilled seed count host (Err e) r few same counts = tt

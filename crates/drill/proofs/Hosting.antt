@@ -3,7 +3,7 @@ use Rattle.std.proofs.Common.{◌≡◌, ℕ, false, List, [], ◌∷◌, map, S
 use Rattle.nsq_outside.specs.declared.host.Kind.{Kind}
 use Rattle.nsq_outside.specs.declared.host.Kind.TheVariants.{Tcp}
 use Rattle.nsq_fakes.specs.MemConns.{left_of}
-use Rattle.nsq_fakes.specs.MemHosts.{callers_of, content_of, state_of}
+use Rattle.nsq_fakes.specs.MemHosts.{FailsAtHostCalls, callers_of, content_of, state_of}
 use Rattle.nsq_fakes.specs.declared.conn.MemConn.{MemConn}
 use Rattle.nsq_fakes.specs.declared.host.MemHost.{MemHost}
 use Rattle.nsq_outside.specs.Hosts.{HostContent}
@@ -28,12 +28,14 @@ told_with coming = record { starts = []; coming = coming; given = []; halted = f
 -- a host that was made of a new kit and these callers is that of a drill
 pub host_is : {E : Type 0} (publishes : List Publish) (callers : List (Kind × MemConn)) (kit : MemKit) (made : Result (MemHost Entry) E) → IsNewKit kit → Pairwise Sends (senders_of publishes) callers
     → IfOk made (λ host. content_of host ≡ told_with (map (λ c. (c.0, left_of c.1)) callers)) → IfOk made (λ host. callers_of host ≡ callers)
-    → IfOk made (λ host. state_of host ≡ record { kit = Some kit; beside = false; accept_faults = 0; print_faults = 0; tell_faults = 0 }) → IfOk made (IsDrillHost publishes)
-host_is publishes callers kit (Ok host) new sends content same state = record {
+    → IfOk made (λ host. state_of host ≡ record { kit = Some kit; beside = false; accept_faults = 0; print_faults = 0; tell_faults = 0 })
+    → IfOk made (FailsAtHostCalls [] [] []) → IfOk made (IsDrillHost publishes)
+host_is publishes callers kit (Ok host) new sends content same state fails = record {
   kit = kit;
   is_new = new;
   state = state;
+  fails = fails;
   callers = subst (λ cs. Pairwise Sends (senders_of publishes) cs) (sym same) sends;
   content = content ∙ ap told_with (coming_is (senders_of publishes) callers sends);
 }
-host_is publishes callers kit (Err e) new sends content same state = tt
+host_is publishes callers kit (Err e) new sends content same state fails = tt

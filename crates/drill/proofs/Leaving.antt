@@ -1,5 +1,5 @@
 -- What an opening finds is what was left.
-use Rattle.std.proofs.Common.{◌≡◌, ◌⊎◌, inl, inr, ℕ, ◌+◌, Bool, true, false, not, if◌then◌else◌, List, [], ◌∷◌, filter, length, map, refl, sym, ap, subst, ◌∙◌, arith}
+use Rattle.std.proofs.Common.{◌≡◌, inl, inr, ℕ, true, not, List, [], ◌∷◌, filter, length, map, refl, sym, ap, subst, ◌∙◌, arith}
 use Rattle.std.specs.List.{All, count_by, sum_by}
 use Rattle.std.proofs.lemmas.List.{length-map}
 use Rattle.std.proofs.lemmas.List.Elements.{All-head, All-tail, All-weaker}
@@ -9,7 +9,6 @@ use Rattle.nsq_base.proofs.PutBy.{filter_all}
 use Rattle.v2_frame.specs.declared.message.Message.{Message}
 use Rattle.path_image.specs.Data.{durable}
 use Rattle.path_image.specs.Found.{Found, FoundChannel, FoundTopic, Pairwise}
-use Rattle.broker_history.specs.Channels.{AsOften}
 use Rattle.broker_history.specs.Left.{IsAllLeft, IsLeftChannel, IsLeftTopic, SameMessages, durable_channels, durable_topics, left_in_channel, left_in_topic}
 use Rattle.broker_history.specs.State.{Channel, State, Topic, compared}
 use Rattle.broker_history.proofs.Counting.{count-cons}

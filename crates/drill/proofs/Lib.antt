@@ -5,4 +5,7 @@ pub mod Spelling
 pub mod Tallying
 pub mod Leaving
 pub mod Entering
+pub mod Publishing
+pub mod Running
+pub mod Counted
 pub mod Drilling

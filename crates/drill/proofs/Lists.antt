@@ -1,7 +1,9 @@
 -- Texts that are put together, and lists that grow at their end.
-use Rattle.std.proofs.Common.{◌≡◌, ◌<◌, ◌+◌, ◌-◌, min, arith, ℕ, List, [], ◌∷◌, ◌++◌, ap, ◌∙◌, codes, refl, add-one, take, drop, length, get_or, map, flat_map}
+use Rattle.std.proofs.Common.{◌≡◌, ◌<◌, ◌+◌, ◌-◌, min, arith, ℕ, List, [], ◌∷◌, ◌++◌, ap, subst, sym, ◌∙◌, codes, refl, add-one, take, drop, length, get_or, map, flat_map}
+use Rattle.std.specs.List.{AllByRecursion}
 use Rattle.std.proofs.lemmas.List.{append_assoc, append-nil, take_more, map-append, take_all, take_min, length-drop}
 use Rattle.std.proofs.lemmas.List.Concat.{flat_map-append}
+use Rattle.drill_laws.proofs.Talking.{all_push}
 use Rattle.drill.specs.Callers.{fin_piece, fin_pieces}
 use Rattle.drill.specs.declared.draws.Publish.{Publish}
 
@@ -29,3 +31,7 @@ pub front_of_rest : {X : Type 0} (xs : List X) (a n m : ℕ) → m ≡ min n (le
 front_of_rest xs a n m e =
     let all : take (length xs - a) (drop a xs) ≡ drop a xs = take_all (length xs - a) (drop a xs) (omega (arith, length-drop a xs)) in
     ap (λ k. take k (take (length xs - a) (drop a xs))) e ∙ take_min n (take (length xs - a) (drop a xs)) ∙ ap (take n) all
+
+-- what holds of the first items holds of one more
+pub all_next : {X : Type 0} (P : X → Type 0) (xs : List X) (i : ℕ) (d x : X) → x ≡ get_or xs i d → i < length xs → P x → AllByRecursion P (take i xs) → AllByRecursion P (take (i + 1) xs)
+all_next P xs i d x is l here all = subst (λ ys. AllByRecursion P ys) (sym (take_more xs i d l)) (all_push P (take i xs) (get_or xs i d) all (subst P is here))

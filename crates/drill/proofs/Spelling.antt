@@ -1,5 +1,5 @@
 -- The bytes of the callers are commands in their canonical spelling.
-use Rattle.std.proofs.Common.{◌≡◌, ℕ, zero, suc, ◌+◌, ◌*◌, ◌/◌, ◌%◌, ◌^◌, ◌<◌, ◌≤◌, ◌==◌, Bool, true, false, if◌then◌else◌, List, [], ◌∷◌, ◌++◌, length, map, take, drop, flat_map, replicate, codes, min, refl, sym, ap, subst, ◌∙◌, arith, rules, append_assoc, length-append, length-drop}
+use Rattle.std.proofs.Common.{◌≡◌, ℕ, zero, suc, ◌+◌, ◌*◌, ◌/◌, ◌%◌, ◌<◌, ◌≤◌, ◌==◌, Bool, true, false, if◌then◌else◌, List, [], ◌∷◌, ◌++◌, length, map, take, drop, flat_map, replicate, codes, refl, sym, ap, ◌∙◌, arith, rules, length-append, length-drop}
 use Rattle.std.specs.Prelude.{pos}
 use Rattle.std.specs.Fmt.{decimal}
 use Rattle.std.proofs.lemmas.Fmt.{decimal-digits_of}
@@ -21,7 +21,7 @@ use Rattle.v2_frame.specs.Line.{IsIdWord, is_id_byte}
 use Rattle.v2_frame.specs.Script.{magic}
 use Rattle.drill_laws.specs.Conserving.{IsDurable}
 use Rattle.drill_laws.proofs.Talking.{all_push}
-use Rattle.drill.specs.Callers.{all_fins, consumer, digit, fin, fin_piece, fin_pieces, greeting, publish_piece, publisher, those_to, topic_name}
+use Rattle.drill.specs.Callers.{all_fins, consumer, fin, fin_piece, fin_pieces, greeting, publish_piece, publisher, those_to, topic_name}
 use Rattle.drill.specs.Draws.{behind, publish_from, publishes}
 use Rattle.drill.specs.declared.draws.Publish.{Publish}
 

@@ -1,23 +1,23 @@
 -- What the entries of a drill are, and how they are counted.
-use Rattle.std.proofs.Common.{◌≡◌, ◌≢◌, ◌⊎◌, inl, inr, ℕ, ◌+◌, ◌≤◌, Bool, true, false, not, ◌&&◌, if◌then◌else◌, List, [], ◌∷◌, ◌++◌, map, codes, Option, Some, None, refl, sym, ap, subst, ◌∙◌, arith}
-use Rattle.std.specs.List.{AllByRecursion, count_by, sum_by}
+use Rattle.std.proofs.Common.{◌≡◌, ◌≢◌, ℕ, Bool, true, false, not, ◌&&◌, if◌then◌else◌, List, [], ◌∷◌, codes, Option, Some, None, refl, sym, subst, arith}
+use Rattle.std.specs.List.{AllByRecursion}
 use Rattle.std.proofs.lemmas.List.Sums.{sum_by-cons}
 use Rattle.nsq_base.specs.declared.options.Options.{Options}
 use Rattle.nsq_outside.specs.declared.journal.End.{End}
 use Rattle.nsq_outside.specs.declared.journal.End.TheVariants.{Done, Faulted, Skip}
 use Rattle.v2_frame.specs.declared.command.Command.{Command}
-use Rattle.v2_frame.specs.declared.command.Command.TheVariants.{Identify, Sub, Pub, Mpub, Dpub, Rdy, Fin, Req, Touch, Cls, Nop}
+use Rattle.v2_frame.specs.declared.command.Command.TheVariants.{Sub, Pub, Rdy, Fin}
 use Rattle.v2_frame.specs.declared.frame.Frame.{Frame}
 use Rattle.broker_history.specs.declared.entry.Act.{Act}
-use Rattle.broker_history.specs.declared.entry.Act.TheVariants.{Began, Did, Refused, Sent, Beat, Idle, Silent, Dropped, Gone, Asked, Listed, Ticked, Stop, Took, Copied, TimedOut, CameDue, HeldBack, Stuck}
+use Rattle.broker_history.specs.declared.entry.Act.TheVariants.{Did, Asked}
 use Rattle.broker_history.specs.declared.entry.Entry.{Entry}
 use Rattle.broker_history.specs.Channels.{one}
 use Rattle.broker_history.specs.Entries.{History, is_faulted}
-use Rattle.broker_history.specs.Reply.{are_left, flight_reply, ids_spent, not_in_flight, ok_frame, wrong_state}
+use Rattle.broker_history.specs.Reply.{are_left, ids_spent, not_in_flight, ok_frame, wrong_state}
 use Rattle.broker_history.specs.State.{is_fresh}
 use Rattle.broker_history.specs.Step.{is_kept_off}
 use Rattle.broker_history.proofs.Counting.{count-cons}
-use Rattle.drill_laws.specs.Conserving.{IsDurable, IsOnly, KeepAll, Keeps, KeepsAct}
+use Rattle.drill_laws.specs.Conserving.{IsDurable, IsOnly, KeepAll, KeepsAct}
 use Rattle.drill_laws.specs.Counts.{finished, finished_as, finished_by, published, published_as, published_by}
 use Rattle.drill_laws.specs.Replying.{HasReply, IsReplied}
 use Rattle.drill.specs.Counting.{finished_in, is_accepting, is_finishing, published_in}

@@ -8,7 +8,7 @@ use Rattle.nsq_outside.specs.declared.host.Kit.{Kit}
 use Rattle.nsq_fakes.specs.MemClocks.{coming_of}
 use Rattle.nsq_fakes.specs.MemConns.{FailsAtCalls, IsToGive, left_of}
 use Rattle.nsq_fakes.specs.MemFolders.{fails_of, faults_of, files_in}
-use Rattle.nsq_fakes.specs.MemHosts.{callers_of, content_of, state_of}
+use Rattle.nsq_fakes.specs.MemHosts.{FailsAtHostCalls, callers_of, content_of, state_of}
 use Rattle.nsq_fakes.specs.MemJournals.{notes_of}
 use Rattle.nsq_fakes.specs.Pieces.{bytes_to_come}
 use Rattle.nsq_fakes.specs.declared.clock.MemClock.{MemClock}
@@ -55,10 +55,11 @@ pub record IsNewKit (kit : MemKit) : Type 0 where
   pub readings : (n : ℕ) → coming_of kit.clock n ≡ 0
   pub notes : notes_of kit.journal ≡ []
 
--- a host as it is new, with the callers of a drill with these publishes
+-- a host as it is new, with the callers of a drill with these publishes, and no call on it is to fail
 pub record IsDrillHost (publishes : List Publish) (host : MemHost Entry) : Type 0 where
   pub kit : MemKit
   pub is_new : IsNewKit kit
   pub state : state_of host ≡ record { kit = Some kit; beside = false; accept_faults = 0; print_faults = 0; tell_faults = 0 }
+  pub fails : FailsAtHostCalls [] [] [] host
   pub callers : Pairwise Sends (senders publishes) (callers_of host)
   pub content : content_of host ≡ record { starts = []; coming = map (λ (pieces : List (List ℕ)). (Tcp, stream_of pieces)) (senders publishes); given = []; halted = false; back = []; printed = []; lines = [] }

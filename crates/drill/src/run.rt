@@ -1,7 +1,8 @@
+ghost use Rattle.std.specs.List.{AllByRecursion};
 ghost use Rattle.std.specs.Prelude.{◌≡◌, ◌≤◌, ◌^◌, ◌↔◌, IfOk, IfSome, IsSome, IsTrue};
-ghost use Rattle.nsq_fakes.specs.MemHosts.{state_of};
+ghost use Rattle.nsq_fakes.specs.MemHosts.{content_of, state_of};
 ghost use Rattle.daemon_run.specs.declared.ending.ServeEnd.TheVariants.{Clean};
-ghost use Rattle.drill.specs.Drills.{HasCounted, HasDrilled, HasNames, HasRunDrill};
+ghost use Rattle.drill.specs.Drills.{HasCounted, HasDrilled, HasNames, HasRunDrill, NeverFailed};
 ghost use Rattle.nsq_fakes.specs.MemFolders.{faults_of};
 
 use crate::counting::{finished_in, published_in, sent_in};
@@ -11,7 +12,7 @@ use crate::left::left_in;
 use broker_history::Entry;
 use daemon_run::{ServeEnd, serve};
 use nsq_base::Memory;
-use nsq_fakes::MemHost;
+use nsq_fakes::{MemConn, MemHost};
 use std::alloc::Global;
 use std::sync::Wait;
 
@@ -34,7 +35,7 @@ pub struct Drilled {
 /// drawn from the seed, to the topics `t0` to `t3`, and behind it a consumer of each topic, which finishes all that was published to it. The seed is at most
 /// 2^59, and the count at most 100000.
 ///
-/// Want of memory is the only error. Where a count of faults of the host rises, or its run doesn't end cleanly, memory was wanting.
+/// Want of memory is the only error. Where a count of faults of the host, its folder or its connections rises, or its run doesn't end cleanly, memory was wanting.
 pub fn drill<R: Wait>(rt: &R, alloc: Global, seed: u64, count: u64) -> Result<Drilled, Memory>
     requires seed { seed ≤ 2 ^ 59 }
     requires count { count ≤ 100000 }
@@ -69,15 +70,37 @@ fn is_clean(ended: ServeEnd) -> bool
     }
 }
 
-// Whether neither the folder nor the listeners of a host failed.
+// Whether neither the folder nor the listeners of a host failed, nor a read or a write of a connection that it took back.
 fn has_no_fault(host: &MemHost<Entry>) -> bool
     ensures accept { IsTrue result → (state_of host.now).accept_faults ≡ 0 }
     ensures folder { IsTrue result → IfSome (state_of host.now).kit (λ kit. faults_of kit.folder ≡ 0) }
+    ensures back { IsTrue result → AllByRecursion NeverFailed (content_of host.now).back }
 {
     match host.kit() {
-        Some(kit) => host.accept_faults() == 0 && kit.folder.faults() == 0,
+        Some(kit) => {
+            host.accept_faults() == 0 && kit.folder.faults() == 0 && never_failed(host.back())
+        }
         None => false,
     }
+}
+
+// Whether no read and no write of these connections failed.
+fn never_failed(back: &[(u64, MemConn)]) -> bool
+    ensures { IsTrue result → AllByRecursion NeverFailed back.now }
+{
+    for entry in back {
+        if !has_worked(entry) {
+            return false;
+        }
+    }
+    true
+}
+
+// Whether no read and no write of this connection failed.
+fn has_worked(entry: &(u64, MemConn)) -> bool
+    ensures { IsTrue result → NeverFailed entry.now }
+{
+    entry.1.read_faults() == 0 && entry.1.write_faults() == 0
 }
 
 // What a run left, counted.

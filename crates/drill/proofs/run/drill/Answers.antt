@@ -14,4 +14,4 @@ conclude-requires-clause-names g c =
 pub returns : goal.returns
 returns g c =
     let drawn : c.deref.result.now ≡ publishes c.args.seed c.args.count = c.deref.ensures.value ∙ c.in_ok-publishes.ensures in
-    has_drilled c.args.seed c.args.count c.in_ok-host.host c.conclude.result (subst (λ all. HasRunDrill all c.in_ok-host.host) drawn c.in_ok-host.ensures) c.conclude.ensures.host c.conclude.ensures.counts
+    has_drilled c.args.seed c.args.count c.in_ok-host.host c.conclude.result (subst (λ all. HasRunDrill all c.in_ok-host.host) drawn c.in_ok-host.ensures) c.requires.count c.conclude.ensures.host c.conclude.ensures.counts

@@ -1,12 +1,10 @@
 -- How many messages are found in a folder, from what is read in it.
-use Rattle.std.proofs.Common.{◌≡◌, ℕ, ◌+◌, ◌^◌, ◌<◌, ◌≤◌, List, [], ◌∷◌, ◌++◌, length, take, get_or, suc, Option, Some, None, ap, sym, ◌∙◌, subst, refl, arith, length-append, zero}
+use Rattle.std.proofs.Common.{◌≡◌, ℕ, ◌+◌, ◌<◌, List, [], ◌∷◌, ◌++◌, length, take, get_or, suc, Option, Some, None, ap, sym, ◌∙◌, subst, refl, arith, length-append, zero}
 use Rattle.std.specs.Prelude.{MatchOption, sum_by}
 use Rattle.std.proofs.lemmas.Option.{none-some, same_Some}
 use Rattle.std.proofs.lemmas.List.{take_more}
 use Rattle.std.proofs.lemmas.List.Sums.{sum_by-append}
 use Rattle.nsq_outside.specs.Files.{Files}
-use Rattle.v2_frame.specs.declared.message.Message.{Message}
-use Rattle.queue_image.specs.FileNames.{channel_queue}
 use Rattle.queue_image.specs.Finds.{BadMeta, Finding, IsBadFile, IsGoodFile, Records, Walks}
 use Rattle.queue_image.specs.Finds.Walks.{good, passes, starts}
 use Rattle.queue_image.specs.declared.positions.Positions.{Positions}

@@ -1,5 +1,5 @@
 -- How many messages an opening finds in a folder.
-use Rattle.std.specs.Prelude.{◌≡◌, ◌⊎◌, ℕ, ◌+◌, List, length, sum_by}
+use Rattle.std.specs.Prelude.{◌≡◌, ℕ, ◌+◌, List, length, sum_by}
 use Rattle.nsq_outside.specs.Files.{Files}
 use Rattle.v2_frame.specs.declared.message.Message.{Message}
 use Rattle.queue_image.specs.Finds.{IsBadFile, IsGoodFile, Walks}

@@ -1,4 +1,4 @@
-ghost use Rattle.std.specs.Prelude.{◌≡◌, ◌&&◌, not, count_by, length, ◌≤◌};
+ghost use Rattle.std.specs.Prelude.{◌≡◌, ◌&&◌};
 ghost use Rattle.broker_history.specs.Entries.{is_faulted};
 ghost use Rattle.drill.specs.Counting.{finished_in, is_accepting, is_finishing, is_response, is_sending, published_in, sent_in};
 

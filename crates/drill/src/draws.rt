@@ -1,4 +1,4 @@
-ghost use Rattle.std.specs.Prelude.{◌≡◌, ◌≤◌, IfOk};
+ghost use Rattle.std.specs.Prelude.{◌≡◌, IfOk};
 ghost use Rattle.drill.specs.Draws.{behind, drawn, next, publish_from, publishes};
 
 use nsq_base::Memory;

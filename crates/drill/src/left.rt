@@ -1,4 +1,4 @@
-ghost use Rattle.std.specs.Prelude.{◌≡◌, ◌+◌, [], IfOk, MatchOption, option_map, unwrap_or};
+ghost use Rattle.std.specs.Prelude.{◌≡◌, ◌+◌, [], IfOk, MatchOption, unwrap_or};
 ghost use Rattle.nsq_fakes.specs.MemFolders.{files_in};
 ghost use Rattle.queue_image.specs.Between.{content};
 ghost use Rattle.queue_image.specs.Places.{IsInRange, IsOrdered};

@@ -1,11 +1,10 @@
 -- What a turn leaves behind its act.
-use Rattle.std.proofs.Common.{◌≡◌, ◌⊎◌, inl, inr, ◌≤◌, ℕ, List, Option, Some, None, Bool, true, false, ◌&&◌, refl, sym, ap, subst, ◌∙◌, arith}
+use Rattle.std.proofs.Common.{◌≡◌, ◌⊎◌, inl, ◌≤◌, ℕ, List, Option, Some, None, Bool, true, false, ◌&&◌, refl, sym, ap, subst, ◌∙◌, arith}
 use Rattle.std.specs.Prelude.{IfSome, IsTrue}
 use Rattle.std.proofs.lemmas.Bool.{false≢true}
 use Rattle.nsq_outside.specs.Causes.{Rose}
 use Rattle.nsq_outside.specs.Files.{Files}
 use Rattle.broker_history.specs.Entries.{History}
-use Rattle.broker_history.specs.State.{State}
 use Rattle.desk.specs.declared.call.Call.{Call}
 use Rattle.desk.specs.declared.call.Call.TheVariants as call
 use Rattle.desk.specs.declared.turned.Turned.{Turned}

@@ -1,4 +1,4 @@
-use Rattle.std.proofs.Common.{true, false, refl, ◌≡◌, ◌⊎◌, [], Some, None, ap, sym, ◌∙◌, inl, inr}
+use Rattle.std.proofs.Common.{true, false, refl, ◌≡◌, [], Some, ap, sym, ◌∙◌, inl, inr}
 use Rattle.queue_image.specs.FileNames.{meta_file}
 use Rattle.queue_image.specs.Finds.IsFound.{empty, spoilt, walked}
 use Rattle.queue_image.proofs.Walking.{behind_or_end}

@@ -1,4 +1,4 @@
-use Rattle.std.proofs.Common.{◌≡◌, ◌≤◌, ◌+◌, List, ℕ, [], unwrap_or, ap, ◌∙◌, inl, inr, arith}
+use Rattle.std.proofs.Common.{◌≡◌, List, ℕ, [], unwrap_or, ap, ◌∙◌, inl, inr, arith}
 use Rattle.queue_image.specs.Between.{content}
 use Rattle.nsq_fakes.specs.MemFolders.{files_in}
 use Rattle.drill.proofs.Lefts.{walk_begins, walk_next}

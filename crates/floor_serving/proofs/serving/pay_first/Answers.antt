@@ -1,4 +1,3 @@
-use Rattle.std.proofs.Common.{refl, sym, ap, subst, ◌∙◌, arith}
 use Rattle.floor_moves.specs.Moves.{sight}
 use Rattle.floor_moves.proofs.Keeping.{keeps_same}
 use Rattle.floor_turns.proofs.Whole.{pays_running, pays_stopped}

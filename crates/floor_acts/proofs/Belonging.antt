@@ -120,6 +120,7 @@ module _ (h h' : Hall) (i j : ℕ) (Does : Stall → Stall → Type 0) (p : Regr
         settled = x.settled;
         backlog = x.backlog;
         capacity = x.capacity;
+        limits = x.limits;
         names = subst (λ ns. IfSome p.at.room.names (λ names. names ≡ (topic_name p.at.room, ns) ∷ [])) (sym names) x.names;
         order = subst (IsAscendingBy channel_name) (sym stalls_put) (IsAscendingBy-put_by channel_name p.at.room.stalls.items p.at.does.after x.order);
         stalls = subst (All (IsStallSound h'.options (topic_name p.at.room) h'.quiet_until h'.unsaved_from)) (sym p.at.does.stalls)

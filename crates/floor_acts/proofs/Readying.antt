@@ -159,6 +159,7 @@ module _ (h0 h1 h2 : Hall) (k : ℕ) (spot : Spot) (number count : ℕ) (x y z :
     settled = stall_is.settled;
     durable = stall_is.durable;
     queue = stall_is.queue;
+    limits = stall_is.limits;
     calm = stall_is.calm;
     marked = stall_is.marked;
     members = stall_is.members;

@@ -306,6 +306,7 @@ module _ (h h' : Hall) (i j : ℕ) (channel : List ℕ) (sound : IsSound h) (res
         settled = x.settled;
         backlog = x.backlog;
         capacity = x.capacity;
+        limits = x.limits;
         names = tt;
         order = subst (IsAscendingBy channel_name) (sym stalls_after) (AllPairs-filter (λ (a b : Stall). is_before (channel_name a) (channel_name b) ≡ true) p xs x.order);
         stalls = subst (All P) (sym stalls_after) (All-filter p P xs x.stalls);

@@ -184,6 +184,7 @@ module _ (h h1 : Hall) (i j : ℕ) (sound : IsSound h) (rest : IsElse h h1) (qui
         settled = x.settled;
         durable = x.durable;
         queue = x.queue;
+        limits = x.limits;
         calm = x.calm;
         marked = x.marked;
         members = subst (AllPairs (λ a b. a < b)) (sym at.does.does.members) x.members;

@@ -233,6 +233,7 @@ module _ (h h' : Hall) (i j number : ℕ) (seat : Option Known) (before : Client
         settled = stall_is.settled;
         durable = stall_is.durable;
         queue = stall_is.queue;
+        limits = stall_is.limits;
         calm = stall_is.calm;
         marked = stall_is.marked;
         members = at.does.does.order;
@@ -248,6 +249,7 @@ module _ (h h' : Hall) (i j number : ℕ) (seat : Option Known) (before : Client
         settled = r.settled;
         backlog = r.backlog;
         capacity = r.capacity;
+        limits = r.limits;
         names = subst (λ ns. IfSome at.room.names (λ names. names ≡ (topic_name at.room, ns) ∷ [])) (sym same_names) r.names;
         order = subst (IsAscendingBy channel_name) (sym stalls_after) (IsAscendingBy-put_by channel_name xs y r.order);
         stalls = subst (All (IsStallSound h'.options topic h'.quiet_until h'.unsaved_from)) (sym at.does.stalls) (All-set (IsStallSound h'.options topic h'.quiet_until h'.unsaved_from) xs j y stall_after r.stalls);

@@ -115,7 +115,7 @@ sound_quiet h quiet sound all = record {
   where
     stall_quiet : (o : Options) (topic : List ℕ) (q quiet u : ℕ) (s : Stall) → IsStallSound o topic q u s → IsQuietUntil quiet s.channel → IsStallSound o topic quiet u s
     stall_quiet o topic q quiet u s x calm =
-        record { about = x.about; named = x.named; settled = x.settled; durable = x.durable; queue = x.queue; calm = calm; marked = x.marked; members = x.members }
+        record { about = x.about; named = x.named; settled = x.settled; durable = x.durable; queue = x.queue; limits = x.limits; calm = calm; marked = x.marked; members = x.members }
 
     room_quiet : (h : Hall) (quiet : ℕ) (r : Room) → IsRoomSound h r → AreQuiet quiet r.stalls.items → IsRoomSound (record h { quiet_until = quiet }) r
     room_quiet h quiet r x all = record {
@@ -123,6 +123,7 @@ sound_quiet h quiet sound all = record {
       settled = x.settled;
       backlog = x.backlog;
       capacity = x.capacity;
+      limits = x.limits;
       names = x.names;
       order = x.order;
       stalls = λ k d within. stall_quiet h.options (topic_name r) h.quiet_until quiet h.unsaved_from (get_or r.stalls.items k d) (x.stalls k d within) (all k d within);

@@ -53,6 +53,7 @@ module _ (h h' : Hall) (i : ℕ) (sound : IsSound h) (rest : h' ≡ record h { r
         settled = x.settled;
         backlog = x.backlog;
         capacity = x.capacity;
+        limits = x.limits;
         names = x.names;
         order = x.order;
         stalls = x.stalls;
@@ -113,6 +114,7 @@ module _ (h h' : Hall) (name : List ℕ) (more : List (List ℕ)) (sound : IsSou
         settled = x.settled;
         backlog = x.backlog;
         capacity = x.capacity;
+        limits = x.limits;
         names = x.names;
         order = x.order;
         stalls = x.stalls;

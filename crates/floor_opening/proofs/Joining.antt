@@ -26,7 +26,7 @@ use Rattle.broker_history.proofs.Lists.{find_put}
 use Rattle.channel_copies.specs.Clients.{client_of}
 use Rattle.topic_core.specs.Kept.{IsNamed}
 use Rattle.topic_core.specs.Laws.{DiskStays, OwnFilesStay}
-use Rattle.topic_core.specs.Seen.{owed_of}
+use Rattle.topic_core.specs.Seen.{owed_of, queue_options}
 use Rattle.topic_core.proofs.Keeping.{opening_stays, save_stays, topic_stays}
 use Rattle.channel_core.specs.Seen.{queue_name}
 use Rattle.floor_laws.proofs.Pairs.{pairs_become, pairs_put}
@@ -34,7 +34,7 @@ use Rattle.floor_rooms.specs.declared.hall.Hall.{Hall}
 use Rattle.floor_rooms.specs.declared.room.Room.{Room}
 use Rattle.floor_rooms.specs.declared.stall.Stall.{Stall}
 use Rattle.floor_rooms.specs.Rooms.{channel_name, client_in, put_room, put_stall, room_in, stall_at, stall_in, stall_names, topic_name}
-use Rattle.floor_rooms.specs.Sound.{AreMembers, IsMarked, IsRoomSound, IsSound, IsStallSound, member_of}
+use Rattle.floor_rooms.specs.Sound.{AreMembers, HasOptions, IsMarked, IsRoomSound, IsSound, IsStallSound, member_of}
 use Rattle.floor_rooms.specs.Standing.{IsRoomOf, IsStallOf, StandsFor}
 use Rattle.floor_rooms.proofs.Dating.{pairs_weaker}
 use Rattle.floor_rooms.proofs.Forming.{fresh_past, none_of_none}
@@ -147,6 +147,7 @@ opened_with o topic on a b is x = subst (IsOpenedRoom o topic on) (sym is) (reco
   settled = x.settled;
   backlog = x.backlog;
   capacity = x.capacity;
+  limits = x.limits;
   head = x.head;
   saved = x.saved;
   since = x.since;
@@ -173,6 +174,7 @@ opened_sound h o topic on r options x order stalls listed = record {
   settled = x.settled;
   backlog = subst (λ n. IsNamed n r.queue.backlog) (sym x.name) x.backlog;
   capacity = x.capacity ∙ ap (λ (p : Options). p.mem_queue_size) options;
+  limits = subst (λ (p : Options). HasOptions (queue_options p) r.queue.backlog.queue) options x.limits;
   names = subst (λ n. IfSome n (λ names. names ≡ (topic_name r, stall_names r) ∷ [])) (sym x.names) tt;
   order = order;
   stalls = subst (λ n. All (IsStallSound h.options n h.quiet_until h.unsaved_from) r.stalls.items) (sym x.name)

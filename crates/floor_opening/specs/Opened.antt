@@ -21,13 +21,13 @@ use Rattle.broker_history.specs.State.{State, Topic, with_channel, with_topic}
 use Rattle.topic_core.specs.Kept.{IsNamed}
 use Rattle.topic_core.specs.Laws.{OwnFilesStay}
 use Rattle.topic_core.specs.Rows.{found_topic, paused_in}
-use Rattle.topic_core.specs.Seen.{IsSettled}
+use Rattle.topic_core.specs.Seen.{IsSettled, queue_options}
 use Rattle.channel_core.specs.Seen.{queue_name}
 use Rattle.floor_rooms.specs.declared.hall.Hall.{Hall}
 use Rattle.floor_rooms.specs.declared.room.Room.{Room}
 use Rattle.floor_rooms.specs.declared.stall.Stall.{Stall}
 use Rattle.floor_rooms.specs.Rooms.{channel_name, put_room, stall_in, topic_name}
-use Rattle.floor_rooms.specs.Sound.{IsStallSound}
+use Rattle.floor_rooms.specs.Sound.{HasOptions, IsStallSound}
 use Rattle.floor_rooms.specs.Standing.{IsRoomOf, StandsFor}
 
 -- a channel as it is opened: it is sound, its queue is saved, and it has no client
@@ -45,6 +45,7 @@ pub record IsOpenedRoom (options : Options) (topic : List ℕ) (on : Bool) (r : 
   pub settled : IsSettled r.queue
   pub backlog : IsNamed topic r.queue.backlog
   pub capacity : r.queue.backlog.capacity ≡ options.mem_queue_size
+  pub limits : HasOptions (queue_options options) r.queue.backlog.queue
   pub head : r.queue.head ≡ None
   pub saved : QueueIsSaved r.queue.backlog.queue
   pub since : r.since ≡ None

@@ -32,7 +32,7 @@ use Rattle.floor_rooms.specs.declared.stall.Stall.{Stall}
 use Rattle.floor_rooms.specs.declared.room.Room.{Room}
 use Rattle.floor_rooms.specs.declared.hall.Hall.{Hall}
 use Rattle.floor_rooms.specs.Rooms.{channel_name, topic_name, room_in, stall_in, stall_at, stall_names, put_room}
-use Rattle.floor_rooms.specs.Sound.{AreMembers, AsksForNone, HasItsChannel, IsMarked, IsPast, IsRoomSound, IsSound, IsStallSound, has_none_waiting}
+use Rattle.floor_rooms.specs.Sound.{AreMembers, AsksForNone, HasItsChannel, HasOptions, IsMarked, IsPast, IsRoomSound, IsSound, IsStallSound, has_none_waiting}
 use Rattle.floor_rooms.specs.Standing.{HoldsFor, StandsFor, IsRoomOf, IsStallOf, longest_delay}
 use Rattle.floor_rooms.specs.Made.{BeginsIdle, IsEmptyHall, IsFreshRoom, IsUnused, MakesRoom, empty_state, is_new, was_there}
 use Rattle.floor_rooms.specs.Places.{IsThere}
@@ -92,6 +92,10 @@ pub fresh_name : (b : Bool) (name : List ℕ) (o : QueueOptions) → IfSome (if 
 fresh_name true name o = refl
 fresh_name false name o = tt
 
+pub fresh_options : (b : Bool) (name : List ℕ) (o : QueueOptions) → HasOptions o (if b then Some (fresh_queue name o) else None)
+fresh_options true name o = refl
+fresh_options false name o = tt
+
 pub fresh_saved : (b : Bool) (name : List ℕ) (o : QueueOptions) → QueueIsSaved (if b then Some (fresh_queue name o) else None)
 fresh_saved true name o = record { none = refl; positions = refl; sound = λ failed. absurd cc }
 fresh_saved false name o = tt
@@ -108,6 +112,7 @@ fresh_room_sound h topic r f =
       settled = ap (λ (q : TopicSeen). q.backlog.lent) f.queue;
       backlog = subst (λ (q : TopicSeen). IsNamed q.name q.backlog) (sym f.queue) (fresh_named topic h.options);
       capacity = ap (λ (q : TopicSeen). q.backlog.capacity) f.queue;
+      limits = subst (λ (q : TopicSeen). HasOptions (queue_options h.options) q.backlog.queue) (sym f.queue) (fresh_options (not (is_ephemeral topic)) topic (queue_options h.options));
       names = subst (λ o. IfSome o (λ names. names ≡ (topic_name r, stall_names r) ∷ [])) (sym f.names) tt;
       order = subst (IsAscendingBy channel_name) (sym f.stalls) (none_of_none (λ (a b : Stall). IsTrue (is_before (channel_name a) (channel_name b))));
       stalls = subst (All (IsStallSound h.options (topic_name r) h.quiet_until h.unsaved_from)) (sym f.stalls) (All-nil (IsStallSound h.options (topic_name r) h.quiet_until h.unsaved_from));

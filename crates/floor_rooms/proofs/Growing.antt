@@ -39,7 +39,7 @@ use Rattle.floor_rooms.specs.declared.stall.Stall.{Stall}
 use Rattle.floor_rooms.specs.declared.room.Room.{Room}
 use Rattle.floor_rooms.specs.declared.hall.Hall.{Hall}
 use Rattle.floor_rooms.specs.Rooms.{channel_name, topic_name, stall_names, room_in, stall_in, stall_at, put_room, put_stall, client_in}
-use Rattle.floor_rooms.specs.Sound.{AreMembers, HasItsChannel, IsMarked, IsPast, IsRoomSound, IsSound, IsStallSound, has_none_waiting, member_of}
+use Rattle.floor_rooms.specs.Sound.{AreMembers, HasItsChannel, HasOptions, IsMarked, IsPast, IsRoomSound, IsSound, IsStallSound, has_none_waiting, member_of}
 use Rattle.floor_rooms.specs.Standing.{HoldsFor, IsRoomOf, IsStallOf}
 use Rattle.floor_rooms.specs.Changes.{AtRoom}
 use Rattle.floor_rooms.specs.Made.{AddsStall, BeginsIdle, ChannelBeginsIdle, IsFreshStall, IsRoomWith, SameStalls}
@@ -49,7 +49,7 @@ use Rattle.floor_rooms.proofs.Changing.{all_found}
 use Rattle.floor_rooms.proofs.Sounding.{KeepsRest, all_past, at_all, room_lowered, room_past, sound_at_room, sound_put_room}
 use Rattle.floor_rooms.proofs.Holding.{holds_at_room, holds_put_room}
 use Rattle.floor_rooms.proofs.Marked.{IsElse, ListsRoom, else_keeps, else_stays, now_listed, still_listed}
-use Rattle.floor_rooms.proofs.Forming.{both_some, both_none, fresh_name, fresh_named, fresh_past, fresh_saved, fresh_some, fresh_stands, no_mark, no_topic, none_of_none, some_at, topic_there}
+use Rattle.floor_rooms.proofs.Forming.{both_some, both_none, fresh_name, fresh_named, fresh_options, fresh_past, fresh_saved, fresh_some, fresh_stands, no_mark, no_topic, none_of_none, some_at, topic_there}
 
 -- options in their ranges fit a run
 pub fits_run : (o : Options) → IsInRange o → FitsRun o
@@ -84,6 +84,7 @@ fresh_stall_sound o topic name quiet unsaved s f =
       durable = ap (λ (v : ChannelSeen). is_some v.backlog.queue) is ∙ fresh_some e (queue_name topic name) (queue_options o) ∙ ap (λ n. not (is_ephemeral_channel topic n)) (sym called);
       queue = subst (λ n. IfSome s.channel.backlog.queue (λ q. q.name ≡ queue_name topic n)) (sym called)
           (subst (λ (v : ChannelSeen). IfSome v.backlog.queue (λ q. q.name ≡ queue_name topic name)) (sym is) (fresh_name (not e) (queue_name topic name) (queue_options o)));
+      limits = subst (λ (v : ChannelSeen). HasOptions (queue_options o) v.backlog.queue) (sym is) (fresh_options (not e) (queue_name topic name) (queue_options o));
       calm = λ now before. ap (λ (v : ChannelSeen). all_due now (channel_with v [])) is;
       marked = subst (λ since. IsMarked unsaved since s.channel.backlog.queue) (sym f.since)
           (record { saved = λ none. subst (λ (v : ChannelSeen). QueueIsSaved v.backlog.queue) (sym is) (fresh_saved (not e) (queue_name topic name) (queue_options o)); later = tt });
@@ -182,6 +183,7 @@ module _ (h h' : Hall) (i : ℕ) (s : Stall) (sound : IsSound h) (rest : IsElse 
           settled = x.settled;
           backlog = x.backlog;
           capacity = x.capacity;
+          limits = x.limits;
           names = tt;
           order = subst (IsAscendingBy channel_name) (sym at.does.stalls) (IsAscendingBy-put_by channel_name at.room.stalls.items s x.order);
           stalls = subst (All P) (sym at.does.stalls) (All-put_by channel_name P at.room.stalls.items s x.stalls stall);
@@ -238,6 +240,7 @@ module _ (h h' : Hall) (i : ℕ) (rest : IsElse h h') (at : AtRoom i SameStalls 
         settled = x.settled;
         backlog = x.backlog;
         capacity = x.capacity;
+        limits = x.limits;
         names = subst (λ xs. IfSome at.room.names (λ names. names ≡ (topic_name at.room, map channel_name xs) ∷ [])) (sym at.does.stalls) x.names;
         order = subst (IsAscendingBy channel_name) (sym at.does.stalls) x.order;
         stalls = subst (All (IsStallSound h'.options (topic_name at.room) h'.quiet_until h'.unsaved_from)) (sym at.does.stalls) x.stalls;
@@ -407,6 +410,8 @@ module _ (h h' : Hall) (topic name : List ℕ) (r : Room) (sound : IsSound h) (r
         settled = ap (λ (q : TopicSeen). q.backlog.lent) f.queue;
         backlog = subst (λ (q : TopicSeen). IsNamed q.name q.backlog) (sym f.queue) (fresh_named topic h.options);
         capacity = ap (λ (q : TopicSeen). q.backlog.capacity) f.queue ∙ ap (λ (o : Options). o.mem_queue_size) (sym with_options);
+        limits = subst (λ (o : Options). HasOptions (topic_options o) r.queue.backlog.queue) (sym with_options)
+            (subst (λ (q : TopicSeen). HasOptions (topic_options h.options) q.backlog.queue) (sym f.queue) (fresh_options (not (is_ephemeral topic)) topic (topic_options h.options)));
         names = subst (λ o. IfSome o (λ names. names ≡ (topic_name r, stall_names r) ∷ [])) (sym f.names) tt;
         order = subst (IsAscendingBy channel_name) (sym f.stalls) (one_pair (λ (a b : Stall). IsTrue (is_before (channel_name a) (channel_name b))) f.stall);
         stalls = subst (All P) (sym f.stalls) (All-cons P f.stall [] with_stall (All-nil P));

@@ -12,14 +12,15 @@ use Rattle.nsq_base.specs.Names.{IsAscendingBy}
 use Rattle.nsq_base.specs.Options.{IsInRange}
 use Rattle.nsq_base.specs.declared.options.Options.{Options}
 use Rattle.nsq_base.proofs.PutBy.{All-put_by, IsAscendingBy-put_by}
+use Rattle.queue_files.specs.declared.options.QueueOptions.{QueueOptions}
 use Rattle.disk_queue.specs.Seen.{Seen as Queue}
 use Rattle.backlog.specs.Seen.{SameQueue}
 use Rattle.broker_history.specs.State.{Client, Route, is_empty, is_ephemeral_channel}
 use Rattle.broker_history.proofs.Lists.{exact_bytes, find_put}
-use Rattle.topic_core.specs.Seen.{owed_of}
+use Rattle.topic_core.specs.Seen.{owed_of, queue_options as topic_options}
 use Rattle.channel_copies.specs.Clients.{client_of}
 use Rattle.channel_core.specs.declared.about.About.{About}
-use Rattle.channel_core.specs.Made.{about_of}
+use Rattle.channel_core.specs.Made.{about_of, queue_options}
 use Rattle.channel_core.specs.Seen.{Seen as ChannelSeen, queue_name}
 use Rattle.floor_clients.specs.Places.{AreInOrder}
 use Rattle.floor_clients.specs.Seen.{held_channel}
@@ -27,7 +28,7 @@ use Rattle.floor_rooms.specs.declared.stall.Stall.{Stall}
 use Rattle.floor_rooms.specs.declared.room.Room.{Room}
 use Rattle.floor_rooms.specs.declared.hall.Hall.{Hall}
 use Rattle.floor_rooms.specs.Rooms.{channel_name, topic_name, stall_names, room_in, stall_in, stall_at, put_room, put_stall, client_in}
-use Rattle.floor_rooms.specs.Sound.{AsksForNone, IsQuietUntil, IsMarked, IsStallSound, IsRoomSound, IsSound, IsPast, AreMembers, HasItsChannel, member_of, has_none_waiting}
+use Rattle.floor_rooms.specs.Sound.{AsksForNone, HasOptions, IsQuietUntil, IsMarked, IsStallSound, IsRoomSound, IsSound, IsPast, AreMembers, HasItsChannel, member_of, has_none_waiting}
 use Rattle.floor_rooms.specs.Changes.{AtRoom, AtStall, TouchesRoom, TouchesStall, Touches, marked}
 use Rattle.floor_rooms.proofs.Placing.{found_at, put_at}
 
@@ -65,6 +66,7 @@ stall_lowered o topic q q' u u' s lower earlier h = record {
   settled = h.settled;
   durable = h.durable;
   queue = h.queue;
+  limits = h.limits;
   calm = quiet_lowered q q' s.channel lower h.calm;
   marked = marked_lowered u u' s.since s.channel.backlog.queue earlier h.marked;
   members = h.members;
@@ -82,6 +84,7 @@ room_lowered h h' r low x = record {
   settled = x.settled;
   backlog = x.backlog;
   capacity = x.capacity ∙ ap (λ (o : Options). o.mem_queue_size) (sym low.options);
+  limits = subst (λ (o : Options). HasOptions (topic_options o) r.queue.backlog.queue) (sym low.options) x.limits;
   names = x.names;
   order = x.order;
   stalls = stalls_lowered h h' (topic_name r) r.stalls.items low x.stalls;
@@ -140,6 +143,13 @@ same_name None None name same h = h
 same_name None (Some r) name same h = absurd same
 same_name (Some q) None name same h = absurd same
 same_name (Some q) (Some r) name same h = same.name ∙ h
+
+-- a queue of the same options
+pub same_options : (q r : Option Queue) (options : QueueOptions) → SameQueue q r → HasOptions options q → HasOptions options r
+same_options None None options same h = h
+same_options None (Some r) options same h = absurd same
+same_options (Some q) None options same h = absurd same
+same_options (Some q) (Some r) options same h = same.options ∙ h
 
 -- what is at a place of a list of which all are so
 pub at_all : {X : Type 0} (P : X → Type 0) (xs : List X) (i : ℕ) (x : X) → All P xs → slice_get xs i ≡ Some x → P x
@@ -219,6 +229,7 @@ room_touched h h' r r' low x t =
         queue = subst (λ n. IfSome r'.queue.backlog.queue (λ q. q.name ≡ n)) (sym t.name) (same_name r.queue.backlog.queue r'.queue.backlog.queue (topic_name r) t.queue x.backlog.queue);
       };
       capacity = t.capacity ∙ lowered.capacity;
+      limits = same_options r.queue.backlog.queue r'.queue.backlog.queue (topic_options h'.options) t.queue lowered.limits;
       names = subst (λ n. IfSome r'.names (λ names. names ≡ (n, stall_names r') ∷ [])) (sym t.name)
           (subst (λ xs. IfSome r'.names (λ names. names ≡ (topic_name r, map channel_name xs) ∷ [])) (sym t.stalls) t.names);
       order = subst (IsAscendingBy channel_name) (sym t.stalls) x.order;
@@ -293,6 +304,7 @@ module _ (h h' : Hall) (i j : ℕ) (Does : Stall → Stall → Type 0) (sound : 
             settled = x.settled;
             backlog = x.backlog;
             capacity = x.capacity;
+            limits = x.limits;
             names = subst (λ ns. IfSome at.room.names (λ names. names ≡ (topic_name at.room, ns) ∷ [])) (sym same_names) x.names;
             order = subst (IsAscendingBy channel_name) (sym whole) (IsAscendingBy-put_by channel_name at.room.stalls.items at.does.after x.order);
             stalls = subst (All (IsStallSound h'.options (topic_name at.room) h'.quiet_until h'.unsaved_from)) (sym at.does.stalls)
@@ -349,6 +361,7 @@ stall_touched o topic q q' u u' s s' earlier x t calm =
       settled = t.drawn;
       durable = same_some s.channel.backlog.queue s'.channel.backlog.queue t.queue ∙ x.durable ∙ ap (λ n. not (is_ephemeral_channel topic n)) (sym name);
       queue = subst (λ n. IfSome s'.channel.backlog.queue (λ q. q.name ≡ queue_name topic n)) (sym name) (same_name s.channel.backlog.queue s'.channel.backlog.queue (queue_name topic (channel_name s)) t.queue x.queue);
+      limits = same_options s.channel.backlog.queue s'.channel.backlog.queue (queue_options o) t.queue x.limits;
       calm = calm;
       marked = subst (λ since. IsMarked u' since s'.channel.backlog.queue) (sym t.since)
           (still_marked u' s.since s.channel.backlog.queue s'.channel.backlog.queue (marked_lowered u u' s.since s.channel.backlog.queue earlier x.marked) t.marked);

@@ -8,12 +8,13 @@ use Rattle.nsq_base.specs.declared.options.Options.{Options}
 use Rattle.disk_queue.specs.Seen.{Seen as Queue}
 use Rattle.backlog.specs.Seen.{QueueIsSaved, ring_depth, disk_depth}
 use Rattle.broker_history.specs.State.{Client, is_empty, is_ephemeral_channel, is_fresh, has_channel}
-use Rattle.topic_core.specs.Seen.{IsSettled, owed_of}
+use Rattle.queue_files.specs.declared.options.QueueOptions.{QueueOptions}
+use Rattle.topic_core.specs.Seen.{IsSettled, owed_of, queue_options as topic_options}
 use Rattle.topic_core.specs.Kept.{IsNamed}
 use Rattle.channel_copies.specs.Clients.{client_of}
 use Rattle.channel_copies.specs.declared.clients.Client as copies
 use Rattle.channel_core.specs.Answers.{all_due}
-use Rattle.channel_core.specs.Made.{about_of}
+use Rattle.channel_core.specs.Made.{about_of, queue_options}
 use Rattle.channel_core.specs.Seen.{Seen as ChannelSeen, channel_with, queue_name}
 use Rattle.channel_core.specs.declared.drawn.Drawn.TheVariants.{Nothing}
 use Rattle.floor_clients.specs.Places.{AreInOrder}
@@ -32,13 +33,18 @@ pub record IsMarked (unsaved : ℕ) (since : Option ℕ) (queue : Option Queue) 
   pub saved : since ≡ None → QueueIsSaved queue
   pub later : IfSome since (λ moment. unsaved ≤ moment)
 
--- a channel of a topic is as the options made it, nothing of it is drawn, its queue has its name, and its facts for speed hold
+-- a queue, where there is one, has these options: the greatest length of its files, the records to a save, and the bounds of a record
+abbrev pub HasOptions : QueueOptions → Option Queue → Type 0
+HasOptions options queue = IfSome queue (λ q. q.options ≡ options)
+
+-- a channel of a topic is as the options made it, nothing of it is drawn, its queue has its name and the hall's options, and its facts for speed hold
 pub record IsStallSound (options : Options) (topic : List ℕ) (quiet unsaved : ℕ) (s : Stall) : Type 0 where
   pub about : s.channel.about ≡ about_of topic (channel_name s) options
   pub named : IsName (channel_name s)
   pub settled : s.channel.drawn ≡ Nothing
   pub durable : is_some s.channel.backlog.queue ≡ not (is_ephemeral_channel topic (channel_name s))
   pub queue : IfSome s.channel.backlog.queue (λ q. q.name ≡ queue_name topic (channel_name s))
+  pub limits : HasOptions (queue_options options) s.channel.backlog.queue
   pub calm : IsQuietUntil quiet s.channel
   pub marked : IsMarked unsaved s.since s.channel.backlog.queue
   pub members : AllPairs (λ a b. a < b) s.members.items
@@ -50,13 +56,14 @@ has_none_waiting r = (ring_depth r.queue.backlog == 0) && (disk_depth r.queue.ba
 abbrev pub rests : Room → Bool
 rests r = is_none r.queue.head && (r.queue.paused || (is_empty r.stalls.items || has_none_waiting r))
 
--- a topic of a hall is as the options made it, nothing of it is drawn, its queue has its name, its channels are sound and in byte order, and each
--- channel that is owed a copy is there
+-- a topic of a hall is as the options made it, nothing of it is drawn, its queue has its name and the hall's options, its channels are sound and in
+-- byte order, and each channel that is owed a copy is there
 pub record IsRoomSound (h : Hall) (r : Room) : Type 0 where
   pub named : IsName (topic_name r)
   pub settled : IsSettled r.queue
   pub backlog : IsNamed (topic_name r) r.queue.backlog
   pub capacity : r.queue.backlog.capacity ≡ h.options.mem_queue_size
+  pub limits : HasOptions (topic_options h.options) r.queue.backlog.queue
   pub names : IfSome r.names (λ names. names ≡ (topic_name r, stall_names r) ∷ [])
   pub order : IsAscendingBy channel_name r.stalls.items
   pub stalls : All (IsStallSound h.options (topic_name r) h.quiet_until h.unsaved_from) r.stalls.items

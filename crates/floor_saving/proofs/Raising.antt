@@ -38,6 +38,7 @@ module _ (at timeout before now : ℕ) (h : Hall) (least : ℕ) (sound : IsSound
     settled = x.settled;
     durable = x.durable;
     queue = x.queue;
+    limits = x.limits;
     calm = x.calm;
     marked = raised_mark at timeout h.unsaved_from least before now s.since s.channel.backlog.queue x.marked d;
     members = x.members;
@@ -49,6 +50,7 @@ module _ (at timeout before now : ℕ) (h : Hall) (least : ℕ) (sound : IsSound
     settled = x.settled;
     backlog = x.backlog;
     capacity = x.capacity;
+    limits = x.limits;
     names = x.names;
     order = x.order;
     stalls = λ k y below. raised_stall (topic_name r) (get_or r.stalls.items k y) (x.stalls k y below) (d.stalls k y below);

@@ -8,6 +8,8 @@ use Rattle.backlog.specs.Seen.{SameQueue, ring_depth}
 use Rattle.broker_history.specs.Channels.{IsKept}
 use Rattle.broker_history.specs.State.{State, is_empty}
 use Rattle.channel_copies.specs.Clients.{client_of}
+use Rattle.topic_core.specs.Seen.{queue_options as topic_options}
+use Rattle.channel_core.specs.Made.{queue_options}
 use Rattle.channel_core.specs.Seen.{Seen as ChannelSeen, queue_name, seen_channel}
 use Rattle.floor_rooms.specs.declared.stall.Stall.{Stall}
 use Rattle.floor_rooms.specs.declared.room.Room.{Room}
@@ -19,7 +21,7 @@ use Rattle.floor_rooms.specs.Changes.{AtRoom, AtStall, StallChange}
 use Rattle.floor_rooms.specs.RoomChanges.{RoomChange}
 use Rattle.floor_rooms.proofs.Staying.{others_stay}
 use Rattle.floor_rooms.proofs.Orders.{room_as_before, stall_as_before}
-use Rattle.floor_rooms.proofs.Sounding.{KeepsRest, at_all, members_before, members_stay, room_before, room_lowered, room_past, sound_at_room, sound_at_stall, stall_before, stall_past}
+use Rattle.floor_rooms.proofs.Sounding.{KeepsRest, at_all, members_before, members_stay, room_before, room_lowered, room_past, same_options, sound_at_room, sound_at_stall, stall_before, stall_past}
 use Rattle.floor_rooms.proofs.Marked.{IsElse, else_keeps, else_stays}
 use Rattle.floor_rooms.proofs.Turning.{room_change, stall_change}
 use Rattle.floor_rooms.proofs.Filing.{only_of_channel, only_of_topic}
@@ -91,6 +93,7 @@ module _ (tells : Bool) (h h' : Hall) (old new : Files) (before now at timeout l
           queue = named_queue x.room.queue.backlog.queue x.after.queue.backlog.queue (topic_name x.room) x.does.queue r.backlog.queue;
         };
         capacity = r.capacity;
+        limits = same_options x.room.queue.backlog.queue x.after.queue.backlog.queue (topic_options h'.options) x.does.queue r.limits;
         names = r.names;
         order = r.order;
         stalls = r.stalls;
@@ -176,6 +179,7 @@ module _ (tells : Bool) (h h' : Hall) (old new : Files) (before now at timeout l
         settled = s.settled;
         durable = some_queue x.does.stall.channel.backlog.queue x.does.after.channel.backlog.queue x.does.does.disk.queue ∙ s.durable;
         queue = named_queue x.does.stall.channel.backlog.queue x.does.after.channel.backlog.queue (queue_name (topic_name x.room) (channel_name x.does.stall)) x.does.does.disk.queue s.queue;
+        limits = same_options x.does.stall.channel.backlog.queue x.does.after.channel.backlog.queue (queue_options h'.options) x.does.does.disk.queue s.limits;
         calm = s.calm;
         marked = mark_kept h'.unsaved_from at timeout before now x.does.stall.since x.does.after.since x.does.stall.channel.backlog.queue x.does.after.channel.backlog.queue x.does.does.mark s.marked;
         members = s.members;

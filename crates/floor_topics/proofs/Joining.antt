@@ -195,6 +195,7 @@ module _ (h : Hall) (tells : Bool) (old new : Files) (ms : List Message) (topic 
         settled = x.settled;
         backlog = x.backlog;
         capacity = x.capacity;
+        limits = x.limits;
         names = x.names;
         order = x.order;
         stalls = x.stalls;

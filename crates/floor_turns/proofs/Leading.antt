@@ -1,6 +1,6 @@
 -- One turn leads where turns lead.
-use Rattle.std.proofs.Common.{◌≡◌, ◌⊎◌, inl, inr, ◌≤◌, ℕ, ◌+◌, ◌||◌, min, max, Bool, true, false, List, [], ◌++◌, Option, Some, None, refl, sym, ap, subst, ◌∙◌, arith, add-one}
-use Rattle.std.specs.Prelude.{IfSome, IsTrue}
+use Rattle.std.proofs.Common.{◌≡◌, ◌⊎◌, inl, inr, ℕ, ◌+◌, ◌||◌, min, max, Bool, true, false, [], ◌++◌, refl, sym, ap, subst, ◌∙◌, arith, add-one}
+use Rattle.std.specs.Prelude.{IsTrue}
 use Rattle.std.proofs.lemmas.Bool.{false≢true}
 use Rattle.std.proofs.lemmas.List.Folds.{list_any-append}
 use Rattle.broker_history.specs.State.{State, has_begun}
@@ -12,10 +12,6 @@ use Rattle.desk.specs.declared.call.Call.{Call}
 use Rattle.desk.specs.declared.call.Call.TheVariants as call
 use Rattle.desk.specs.declared.turned.Turned.{Turned}
 use Rattle.desk.specs.Calls.{MayCall, has_began}
-use Rattle.floor_rooms.specs.declared.room.Room.{Room}
-use Rattle.floor_rooms.specs.declared.stall.Stall.{Stall}
-use Rattle.floor_rooms.specs.Rooms.{room_in, stall_at}
-use Rattle.floor_rooms.specs.Changes.{KeepsSince, SinceStays, room_since, stall_since}
 use Rattle.floor_rooms.specs.Standing.{HoldsFor}
 use Rattle.floor_words.specs.Plans.{MayBegin}
 use Rattle.turn_laws.specs.Laid.{IsLaid}
@@ -25,27 +21,10 @@ use Rattle.turn_laws.proofs.Beginning.{legal_begins}
 use Rattle.turn_laws.proofs.Laying.{laid_timed}
 use Rattle.floor_turns.specs.Turning.{IsStuckStop}
 use Rattle.floor_turns.specs.Scenes.{IsAt, Scene, Stands}
-use Rattle.floor_turns.specs.Leads.{IsMarkLater, LedTo, Leads, MarksStand, Times}
+use Rattle.floor_turns.specs.Leads.{LedTo, Leads, Times}
 use Rattle.floor_turns.specs.Turns.{IsTurn, TurnLeads, hall_at, seen, seen_at}
 use Rattle.floor_turns.proofs.Following.{marks_follow, marks_stay}
-
--- marks of a turn
-mark_of : (early at : ℕ) (old since : Option ℕ) → early ≤ at → SinceStays at old since → IsMarkLater early old since
-mark_of early at (Some m) since le stays = subst (λ o. IfSome o (λ k. (Some m ≡ Some k) ⊎ (early ≤ k))) (sym stays) (inl refl)
-mark_of early at None None le stays = tt
-mark_of early at None (Some m) le stays = inr (omega (arith, le, stays))
-
-if_so : {X : Type 0} (P Q : X → Type 0) (o : Option X) → ((x : X) → P x → Q x) → IfSome o P → IfSome o Q
-if_so P Q None f h = tt
-if_so P Q (Some x) f h = f x h
-
-pub marks_of : (early at : ℕ) (old new : List Room) → early ≤ at → KeepsSince at old new → MarksStand early old new
-marks_of early at old new le keeps = record {
-  topics = λ topic. if_so (λ (r : Room). SinceStays at (room_since old topic) r.since) (λ (r : Room). IsMarkLater early (room_since old topic) r.since) (room_in new topic) (λ r h. mark_of early at (room_since old topic) r.since le h) (keeps.topics topic);
-  channels = λ topic channel.
-      if_so (λ (s : Stall). SinceStays at (stall_since old topic channel) s.since) (λ (s : Stall). IsMarkLater early (stall_since old topic channel) s.since) (stall_at new topic channel)
-      (λ s h. mark_of early at (stall_since old topic channel) s.since le h) (keeps.channels topic channel);
-}
+use Rattle.floor_turns.proofs.Marking.{marks_stand}
 
 -- a connection may begin in the state where it may in the history
 begins_in : (s : State) (number : ℕ) (own : History) (c : Call) → has_begun s number ≡ has_began own → MayCall number own c → MayBegin s number c
@@ -106,7 +85,9 @@ module _ (tells_notes tells_files tells_readings : Bool) (number : ℕ) (c : Cal
   turn_here : Leads tells_notes tells_files tells_readings number old new
   turn_here = record {
     hall = record { options = t.takes.stays.options; epoch = t.takes.stays.epoch; began_at = t.takes.stays.began_at; later = t.reads.later; names = record { before = t.takes.stays.names.before; same = t.takes.stays.names.same } };
-    marks = marks_follow old.hall.moment new.hall.moment old.hall.rooms.items old.hall.rooms.items new.hall.rooms.items t.reads.later (marks_stay old.hall.moment old.hall.rooms.items) t.takes.stays.marks;
+    marks =
+        marks_follow old.hall.moment new.hall.moment old.hall.rooms.items old.hall.rooms.items new.hall.rooms.items t.reads.later (marks_stay old.hall.moment old.hall.rooms.items)
+        (marks_stand new.hall.moment old.hall.rooms.items new.hall.rooms.items t.takes.stays.marks);
     faults = t.takes.faults;
     files = t.files;
     turns = λ told. record { added = t.takes.added; whole = t.takes.noted told; turns = laid.turn new.hall.moment c answer laid.none t.takes.laid };

@@ -33,7 +33,6 @@ use Rattle.floor_rooms.specs.declared.hall.Hall.{Hall}
 use Rattle.floor_rooms.specs.Rooms.{client_in}
 use Rattle.floor_rooms.specs.Sound.{IsRoomSound, IsSound}
 use Rattle.floor_rooms.specs.Changes.{KeepsSince}
-use Rattle.floor_rooms.specs.declared.room.Room.{Room}
 use Rattle.floor_rooms.proofs.Holding.{holds_same}
 use Rattle.floor_rooms.proofs.Sounding.{Lowers, room_lowered}
 use Rattle.floor_rooms.proofs.Dating.{since_kept, since_kept_then}
@@ -50,13 +49,12 @@ use Rattle.floor_turns.specs.declared.paying.Paid.{Paid}
 use Rattle.floor_turns.specs.declared.paying.Paid.TheVariants as paid
 use Rattle.floor_turns.specs.Paying.{CountsStuck, IsPayment, Pays}
 use Rattle.floor_turns.specs.Acting.{Acts, ActsBy, ClientsBy, FaultRose, FaultsRose, Steps, there_after}
-use Rattle.floor_turns.specs.Leads.{MarksStand}
+use Rattle.floor_saving.specs.Saving.{MarksGo}
 use Rattle.floor_saving.specs.Timely.{IsTimely}
 use Rattle.floor_turns.specs.Timely.{TicksTimely}
 use Rattle.floor_turns.specs.Turning.{IsAnswered, IsStuckStop, PaysFor, Settles, StaysOn, TakesTurn, ends_at_stop, is_enough, is_stopping, is_stuck_stop, most_for, stops_stuck}
 use Rattle.floor_turns.proofs.Clearing.{paid_may_act, paid_may_stop}
-use Rattle.floor_turns.proofs.Following.{marks_follow, marks_stay}
-use Rattle.floor_turns.proofs.Leading.{marks_of}
+use Rattle.floor_turns.proofs.Marking.{marks_kept, marks_same, marks_then}
 use Rattle.floor_moves.proofs.Stepping.{rose_none}
 
 -- behind a Stop nothing is due
@@ -251,25 +249,19 @@ stays_on h = record {
   began_at = refl;
   moment = refl;
   names = record { before = λ e. e; same = λ e. refl };
-  marks = marks_stay h.moment h.rooms.items;
+  marks = marks_same h.moment h.rooms.items;
 }
 
--- what stays, and then stays, stays
-pub stays_then : (a b c : Hall) → StaysOn a b → StaysOn b c → StaysOn a c
-stays_then a b c p q =
-    let moment : b.moment ≡ a.moment = p.moment in
-    record {
-      options = q.options ∙ p.options;
-      epoch = q.epoch ∙ p.epoch;
-      began_at = q.began_at ∙ p.began_at;
-      moment = q.moment ∙ p.moment;
-      names = names_then a b c p.names q.names;
-      marks = marks_follow a.moment b.moment a.rooms.items b.rooms.items c.rooms.items (omega (arith, moment)) p.marks q.marks;
-    }
-
--- marks of what an act leaves
-marks_kept : (at : ℕ) (old new : List Room) → KeepsSince at old new → MarksStand at old new
-marks_kept at old new keeps = marks_of at at old new (omega arith) keeps
+-- what stays, and then stays while each mark stays or goes, stays
+pub stays_then : (a b c : Hall) → StaysOn a b → StaysOn b c → MarksGo b.rooms.items c.rooms.items → StaysOn a c
+stays_then a b c p q goes = record {
+  options = q.options ∙ p.options;
+  epoch = q.epoch ∙ p.epoch;
+  began_at = q.began_at ∙ p.began_at;
+  moment = q.moment ∙ p.moment;
+  names = names_then a b c p.names q.names;
+  marks = marks_then a.moment a.rooms.items b.rooms.items c.rooms.items p.marks goes;
+}
 
 -- what was answered without an act is short, and no tick that is answered Quiet
 none_short : (c : Call) (answer : Turned) → HasNoAct c answer → IsShortAnswer answer
@@ -568,7 +560,7 @@ module _ (tells_notes tells_files : Bool) (number : ℕ) (c : Call) (stopping : 
       caused = rose_then acts.acts old.faults mid.faults new.faults last.faults pays.extends.faults settles.faults acts.caused;
       faults = let first = pays.extends.faults in let second = acts.faults in let third = settles.faults in omega (arith, first, second, third);
       clients = clients_settled acts.acts old.hall new.hall last.hall settles.clients settles.stopped (clients_then acts.acts old.hall mid.hall new.hall keeps.clients keeps.stopped acts.clients);
-      stays = stays_then old.hall new.hall last.hall stays_acted settles.stays;
+      stays = stays_then old.hall new.hall last.hall stays_acted settles.stays settles.marks;
       short = acts.short;
       timely = timely_from c answer last.hall old.faults new.faults last.faults (let first = pays.extends.faults in let second = acts.faults in omega (arith, first, second)) timely;
       stuck = stuck_here;

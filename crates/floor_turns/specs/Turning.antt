@@ -1,5 +1,5 @@
 -- What a turn makes of a hall once the clock was read: what is due is moved, and the call makes its act.
-use Rattle.std.specs.Prelude.{◌≡◌, ◌≢◌, ◌⊎◌, ◌≤◌, ◌^◌, ◌-◌, ◌||◌, not, ℕ, Bool, true, false, IsTrue, [], ◌++◌, is_some}
+use Rattle.std.specs.Prelude.{◌≡◌, ◌≢◌, ◌⊎◌, ◌≤◌, ◌^◌, ◌-◌, ◌||◌, not, ℕ, Bool, true, false, IsTrue, List, [], ◌++◌, Option, Some, None, IfSome, is_some}
 use Rattle.nsq_outside.specs.Causes.{Rose}
 use Rattle.broker_history.specs.State.{State}
 use Rattle.broker_history.specs.Entries.{History, faults_apart, faults_of}
@@ -11,17 +11,19 @@ use Rattle.desk.specs.declared.turned.Turned.{Turned}
 use Rattle.desk.specs.declared.turned.Turned.TheVariants as turned
 use Rattle.desk.specs.Answers.{EndsAtStop, IsShortAnswer}
 use Rattle.floor_rooms.specs.declared.hall.Hall.{Hall}
-use Rattle.floor_rooms.specs.Rooms.{client_in}
+use Rattle.floor_rooms.specs.declared.room.Room.{Room}
+use Rattle.floor_rooms.specs.Rooms.{client_in, room_in, stall_at}
+use Rattle.floor_rooms.specs.Changes.{room_since, stall_since}
 use Rattle.floor_rooms.specs.Kept.{NamesTold}
 use Rattle.floor_rooms.specs.Standing.{HoldsFor}
 use Rattle.floor_words.specs.Plans.{MayBegin, Serves, is_strange}
 use Rattle.floor_moves.specs.Moves.{RoseBy, Sight}
+use Rattle.floor_saving.specs.Saving.{MarksGo}
 use Rattle.turn_laws.specs.Laid.{IsLaid}
 use Rattle.floor_turns.specs.declared.paying.Paid.{Paid}
 use Rattle.floor_turns.specs.declared.paying.Paid.TheVariants as paid
 use Rattle.floor_turns.specs.Paying.{CountsStuck, Extends, IsPayment, MayActBehind}
 use Rattle.floor_turns.specs.Acting.{ActsBy, ClientsBy, FaultsRose}
-use Rattle.floor_turns.specs.Leads.{MarksStand}
 use Rattle.floor_turns.specs.Timely.{TicksTimely}
 
 -- whether a call is for a Stop, and whether a Stop keeps it from all else
@@ -75,20 +77,31 @@ pub record IsStuckStop (tells_files : Bool) (c : Call) (added : History) (old ne
   pub apart : IsTrue tells_files → (s : State) → HoldsFor old.hall old.files s → faults_apart added ≡ 0
   pub rose : IsTrue tells_files → (s : State) → HoldsFor old.hall old.files s → Rose old.faults new.faults
 
--- what no turn changes of a hall
+-- since when a queue is marked as unsaved, where it is: where it was marked, since the same moment, and where it wasn't, since this one
+abbrev pub IsMarkOf : (at : ℕ) → (old since : Option ℕ) → Type 0
+IsMarkOf at None since = IfSome since (λ moment. moment ≡ at)
+IsMarkOf at (Some before) since = IfSome since (λ moment. moment ≡ before)
+
+-- so no mark begins anew: a queue that was marked and is marked still is marked since the moment since which it was, whatever topics and channels come and go
+pub record MarksStay (at : ℕ) (old new : List Room) : Type 0 where
+  pub topics : (topic : List ℕ) → IfSome (room_in new topic) (λ r. IsMarkOf at (room_since old topic) r.since)
+  pub channels : (topic channel : List ℕ) → IfSome (stall_at new topic channel) (λ s. IsMarkOf at (stall_since old topic channel) s.since)
+
+-- what no turn changes of a hall, and what it leaves of marks
 pub record StaysOn (old new : Hall) : Type 0 where
   pub options : new.options ≡ old.options
   pub epoch : new.epoch ≡ old.epoch
   pub began_at : new.began_at ≡ old.began_at
   pub moment : new.moment ≡ old.moment
   pub names : NamesTold old new
-  pub marks : MarksStand old.moment old.rooms.items new.rooms.items
+  pub marks : MarksStay old.moment old.rooms.items new.rooms.items
 
--- what a turn leaves behind its act: nothing is noted, and the hall stands for the same states
+-- what a turn leaves behind its act: nothing is noted, each mark stays as it is or goes, and the hall stands for the same states
 pub record Settles (tells_files : Bool) (old new : Sight) : Type 0 where
   pub clients : new.hall.clients ≡ old.hall.clients
   pub stopped : new.hall.stopped ≡ old.hall.stopped
   pub stays : StaysOn old.hall new.hall
+  pub marks : MarksGo old.hall.rooms.items new.hall.rooms.items
   pub noted : new.noted ≡ old.noted
   pub holds : IsTrue tells_files → (s : State) → HoldsFor old.hall old.files s → HoldsFor new.hall new.files s
   pub faults : old.faults ≤ new.faults

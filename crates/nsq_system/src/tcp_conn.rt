@@ -41,8 +41,10 @@ const STREAM: Token = Token(0);
 /// A read waits up to 20 ms for bytes, and a send up to 5 s for the peer to take a byte. After a read or a send failed,
 /// nothing is read or sent any more, so that no byte is missing between two that were sent.
 ///
-/// A connection that is dropped sends no more, and is closed at once where the peer sent nothing that is unread. Else what
-/// the peer sends is dropped first, until it ends, is silent for some 200 ms, or some 2 s or 64 MiB are over.
+/// A connection that is dropped sends no more. Where bytes of the peer are unread, what it sends is dropped first, until it
+/// ends, is silent for some 200 ms, or some 2 s or 64 MiB are over. Where none are unread a connection of `Kind::Tcp` is
+/// closed at once; one of `Kind::Http`, whose peer may have been answered in the middle of its request, waits until the peer
+/// sends or ends, at most 200 ms.
 pub struct TcpConn {
     outbox: Outbox<Socket>,
     poll: Poll,
@@ -275,11 +277,11 @@ impl Drop for TcpConn {
             outbox,
             poll,
             events,
-            kind: _kind,
+            kind,
             writes: _writes,
-            ended: _ended,
+            ended,
             read_faults: _read_faults,
         } = self;
-        Closing::new(outbox, poll, events).close();
+        Closing::new(outbox, poll, events, kind == Kind::Http && !ended).close();
     }
 }

@@ -10,8 +10,11 @@ use mio::{Events, Poll};
 use nsq_outside::Read;
 use std::time::Duration;
 
-/// How long a wait for the peer is, in milliseconds.
+/// How long a wait for the peer is while it is heard out, in milliseconds.
 const WAIT: u64 = 1;
+
+/// How long a peer that may be in the middle of a request is waited for, in milliseconds.
+const PATIENCE: u64 = 200;
 
 /// A connection whose last bytes were sent, and that is to be closed.
 #[derive(Drop)]
@@ -19,14 +22,22 @@ pub(super) struct Closing {
     outbox: Outbox<Socket>,
     poll: Poll,
     events: Events,
+    // Whether the peer may be in the middle of sending, with nothing of it here yet.
+    may_send: bool,
 }
 
 impl Closing {
-    pub(super) fn new(outbox: Outbox<Socket>, poll: Poll, events: Events) -> Closing {
+    pub(super) fn new(
+        outbox: Outbox<Socket>,
+        poll: Poll,
+        events: Events,
+        may_send: bool,
+    ) -> Closing {
         Closing {
             outbox,
             poll,
             events,
+            may_send,
         }
     }
 
@@ -44,12 +55,30 @@ impl Closing {
         }
     }
 
-    /// Whether bytes of the peer were there, some of which it drops.
-    fn is_unread(&self) -> bool {
-        match self.outbox.writer().receive(&mut [0u8; 64]) {
-            Read::Got(_) => true,
-            Read::Nothing | Read::End | Read::Failed => false,
+    /// Whether bytes of the peer are there. A peer that may be in the middle of sending is waited for until it sends or ends.
+    fn is_unread(&mut self) -> bool {
+        match self.drop_some() {
+            Read::Nothing if self.may_send => {
+                let _ = self
+                    .poll
+                    .poll(&mut self.events, Some(Duration::from_millis(PATIENCE)));
+                is_some(self.drop_some())
+            }
+            answer => is_some(answer),
         }
+    }
+
+    /// Drops some of the peer's bytes, if any are there.
+    fn drop_some(&self) -> Read {
+        self.outbox.writer().receive(&mut [0u8; 64])
+    }
+}
+
+/// Whether bytes came.
+fn is_some(answer: Read) -> bool {
+    match answer {
+        Read::Got(_) => true,
+        Read::Nothing | Read::End | Read::Failed => false,
     }
 }
 

@@ -9,6 +9,7 @@ use std::io::{Read as _, Write as _};
 use std::net::{Net, Shutdown, TcpListener, TcpStream};
 use std::sync::Wait;
 use std::test::Fail;
+use std::thread::{Threads, join};
 use std::time::Duration;
 
 /// What a peer in memory says to the reads of it.
@@ -198,6 +199,49 @@ fn closing_holds<R: Wait + Net<Listener = TcpListener, Stream = TcpStream>>(
     Ok(10 < sent && all && gets_all(&mut peer)?)
 }
 
+/// A connection of `Kind::Http` that is dropped before the rest of its peer's request is there.
+struct Late {
+    name: &'static str,
+    /// Once the answer is there the peer sends so many bytes more.
+    sends: usize,
+}
+
+const LATES: [Late; 2] = [
+    Late {
+        name: "a body that comes behind the answer",
+        sends: 1_000_000,
+    },
+    Late {
+        name: "the peer ends behind the answer",
+        sends: 0,
+    },
+];
+
+/// The peer's side: ten bytes, and once the answer is there the body and the end. Whether it gets the answer and no reset.
+fn sends_late(mut peer: TcpStream, body: &[u8]) -> io::Result<bool> {
+    peer.set_read_timeout(Some(Duration::from_secs(5)))?;
+    peer.write_all(b"ten bytes.")?;
+    let seen = peer.peek(&mut [0u8; 1])?;
+    peer.write_all(body)?;
+    peer.shutdown(Shutdown::Write)?;
+    Ok(seen == 1 && gets_all(&mut peer)?)
+}
+
+fn late_holds<R: Wait + Threads + Sync>(rt: &R, own: &HostRuntime, row: &Late) -> io::Result<bool> {
+    let alloc = own.alloc();
+    let listener = TcpListener::bind(own, "127.0.0.1:0")?;
+    let peer = TcpStream::connect(own, listener.local_addr()?)?;
+    let (stream, _) = listener.accept()?;
+    let conn = TcpConn::new(own, alloc, stream, Kind::Http)?;
+    let body = vec![in alloc; 7; row.sends]?;
+    let (heard, answered) = join(
+        rt,
+        || sends_late(peer, &body),
+        || answers_and_closes(rt, conn),
+    );
+    Ok(heard? && answered)
+}
+
 #[test]
 fn hearings(rt: HostRuntime) -> Result<(), Fail> {
     for row in &HEARINGS {
@@ -211,6 +255,9 @@ fn closings(rt: HostRuntime) -> Result<(), Fail> {
     for row in &CLOSINGS {
         let holds = closing_holds(&rt, rt.alloc(), row)?;
         assert!(rt; holds, "{}", row.name);
+    }
+    for row in &LATES {
+        assert!(rt; late_holds(&rt, &rt, row)?, "{}", row.name);
     }
     Ok(())
 }

@@ -81,20 +81,33 @@ fn folder_of(alloc: Global, row: &Row) -> Result<MemFolder, Memory> {
     MemFolder::new(alloc, files, Vec::from_slice(alloc, row.fails)?)
 }
 
-// What differs in a row, as text; nothing where it holds.
-fn differs(alloc: Global, row: &Row) -> Result<Vec<u8>, Memory> {
+// What differs in a row.
+struct Difference {
+    // As text; nothing where the row holds.
+    text: Vec<u8>,
+    // Whether a call of the folder failed.
+    faulted: bool,
+}
+
+// What differs in a row.
+fn differs(alloc: Global, row: &Row) -> Result<Difference, Memory> {
     let dials = Dials::new();
     let options = options_of(alloc, row.start)?;
     let floor = floor_of(alloc, &options, folder_of(alloc, row)?, &dials)?;
     let mut bench = Bench::new(alloc, floor, &dials);
-    if let Some(line) = run(&mut bench, row.lines)? {
-        return said(alloc, line, b"is no line");
-    }
+    let stray = run(&mut bench, row.lines)?;
     let (done, written, left) = bench.end(row.flush.is_some());
-    if row.flush.is_some_and(|wanted| wanted != written) {
-        return said(alloc, "the flush", b"ends otherwise");
-    }
-    compared(alloc, row, &options, &done, &left)
+    let text = if let Some(line) = stray {
+        said(alloc, line, b"is no line")?
+    } else if row.flush.is_some_and(|wanted| wanted != written) {
+        said(alloc, "the flush", b"ends otherwise")?
+    } else {
+        compared(alloc, row, &options, &done, &left)?
+    };
+    Ok(Difference {
+        text,
+        faulted: left.folder.faults() != 0,
+    })
 }
 
 // The first line that says nothing, if there is one.
@@ -185,14 +198,16 @@ fn said(alloc: Global, line: &str, what: &[u8]) -> Result<Vec<u8>, Memory> {
 }
 
 // What differs in a row. One that ends for want of memory outside of its turns, or in which the folder found none, begins once more; so the rows hold
-// too where one allocation fails, whichever it is: `rt try --test --fail-alloc N`.
+// too where one allocation fails, whichever it is: `rt try --test --fail-alloc N`. What differs otherwise counts the first time: a turn in which an
+// allocation failed may have lost nothing, and noted nothing that it didn't answer.
 fn wrong_in(alloc: Global, row: &Row) -> Result<Vec<u8>, Memory> {
     if let Ok(first) = differs(alloc, row) {
-        if first.is_empty() {
-            return Ok(first);
+        let starved = first.faulted || !row.fails.is_empty();
+        if first.text.is_empty() || !starved {
+            return Ok(first.text);
         }
     }
-    differs(alloc, row)
+    Ok(differs(alloc, row)?.text)
 }
 
 // The names of the rows that don't hold, each with what differs in it.

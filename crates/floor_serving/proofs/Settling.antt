@@ -1,6 +1,6 @@
 -- What a turn leaves behind its act.
-use Rattle.std.proofs.Common.{◌≡◌, ◌⊎◌, inl, ◌≤◌, ℕ, List, Option, Some, None, Bool, true, false, ◌&&◌, refl, sym, ap, subst, ◌∙◌, arith}
-use Rattle.std.specs.Prelude.{IfSome, IsTrue}
+use Rattle.std.proofs.Common.{◌≡◌, ◌⊎◌, ◌≤◌, ℕ, Bool, true, false, ◌&&◌, refl, sym, ap, subst, ◌∙◌, arith}
+use Rattle.std.specs.Prelude.{IsTrue}
 use Rattle.std.proofs.lemmas.Bool.{false≢true}
 use Rattle.nsq_outside.specs.Causes.{Rose}
 use Rattle.nsq_outside.specs.Files.{Files}
@@ -10,19 +10,15 @@ use Rattle.desk.specs.declared.call.Call.TheVariants as call
 use Rattle.desk.specs.declared.turned.Turned.{Turned}
 use Rattle.desk.specs.declared.turned.Turned.TheVariants as turned
 use Rattle.floor_rooms.specs.declared.hall.Hall.{Hall}
-use Rattle.floor_rooms.specs.declared.room.Room.{Room}
-use Rattle.floor_rooms.specs.declared.stall.Stall.{Stall}
-use Rattle.floor_rooms.specs.Rooms.{room_in, stall_at}
-use Rattle.floor_rooms.specs.Changes.{room_since, stall_since}
 use Rattle.floor_rooms.specs.Kept.{NamesTold, hall_kept}
 use Rattle.floor_rooms.specs.Standing.{Carries, HoldsFor}
 use Rattle.floor_moves.specs.Moves.{sight}
 use Rattle.floor_turns.specs.Timely.{TicksTimely}
-use Rattle.floor_turns.specs.Turning.{Settles, StaysOn}
-use Rattle.floor_turns.proofs.Following.{marks_stay}
-use Rattle.floor_turns.specs.Leads.{IsMarkLater, MarksStand}
-use Rattle.floor_saving.specs.Saving.{MarkGoes, MarksGo}
+use Rattle.floor_turns.specs.Turning.{MarksStay, Settles, StaysOn}
+use Rattle.floor_turns.proofs.Marking.{marks_gone, marks_same}
+use Rattle.floor_saving.specs.Saving.{MarksGo}
 use Rattle.floor_saving.specs.Timely.{IsTimely}
+use Rattle.floor_saving.proofs.Raising.{same_marks}
 use Rattle.floor_turns.proofs.Whole.{holds_marked, stays_then}
 use Rattle.floor_serving.specs.Ticks.{is_saving, is_ticking}
 
@@ -34,7 +30,7 @@ stays_marked h h' is = record {
   began_at = ap (λ (x : Hall). x.began_at) is;
   moment = ap (λ (x : Hall). x.moment) is;
   names = record { before = λ e. sym (ap (λ (x : Hall). x.unsaved_names) is) ∙ e; same = λ e. ap hall_kept is };
-  marks = subst (λ (x : Hall). MarksStand h.moment h.rooms.items x.rooms.items) (sym is) (marks_stay h.moment h.rooms.items);
+  marks = subst (λ (x : Hall). MarksStay h.moment h.rooms.items x.rooms.items) (sym is) (marks_same h.moment h.rooms.items);
 }
 
 pub settles_marked : (tells_files : Bool) (h h' : Hall) (noted : History) (files : Files) (k : ℕ) → h' ≡ record h { stuck = h'.stuck } → Settles tells_files (sight h noted files k) (sight h' noted files k)
@@ -42,26 +38,10 @@ settles_marked tells_files h h' noted files k is = record {
   clients = ap (λ (x : Hall). x.clients) is;
   stopped = ap (λ (x : Hall). x.stopped) is;
   stays = stays_marked h h' is;
+  marks = subst (λ (x : Hall). MarksGo h.rooms.items x.rooms.items) (sym is) (same_marks h);
   noted = refl;
   holds = λ told s holds. holds_marked h h' files s is holds;
   faults = omega arith;
-}
-
--- marks that stay or go
-mark_goes : (at : ℕ) (old new : Option ℕ) → MarkGoes old new → IsMarkLater at old new
-mark_goes at old None h = tt
-mark_goes at old (Some m) h = inl h
-
-if_so : {X : Type 0} (P Q : X → Type 0) (o : Option X) → ((x : X) → P x → Q x) → IfSome o P → IfSome o Q
-if_so P Q None f h = tt
-if_so P Q (Some x) f h = f x h
-
-marks_go : (at : ℕ) (old new : List Room) → MarksGo old new → MarksStand at old new
-marks_go at old new goes = record {
-  topics = λ topic. if_so (λ (r : Room). MarkGoes (room_since old topic) r.since) (λ (r : Room). IsMarkLater at (room_since old topic) r.since) (room_in new topic) (λ r h. mark_goes at (room_since old topic) r.since h) (goes.topics topic);
-  channels = λ topic channel.
-      if_so (λ (s : Stall). MarkGoes (stall_since old topic channel) s.since) (λ (s : Stall). IsMarkLater at (stall_since old topic channel) s.since) (stall_at new topic channel)
-      (λ s h. mark_goes at (stall_since old topic channel) s.since h) (goes.channels topic channel);
 }
 
 -- then the queues whose saving was due were saved
@@ -72,7 +52,7 @@ stays_saved h h' is marks names = record {
   began_at = ap (λ (x : Hall). x.began_at) is;
   moment = ap (λ (x : Hall). x.moment) is;
   names = names;
-  marks = marks_go h.moment h.rooms.items h'.rooms.items marks;
+  marks = marks_gone h.moment h.rooms.items h'.rooms.items marks;
 }
 
 pub settles_saved : (tells_files : Bool) (h mid h' : Hall) (noted : History) (files files' : Files) (k k' : ℕ) → mid ≡ record h { stuck = mid.stuck } → h' ≡ record mid { rooms = h'.rooms; unsaved_from = h'.unsaved_from } → MarksGo mid.rooms.items h'.rooms.items → NamesTold mid h'
@@ -82,7 +62,8 @@ settles_saved tells_files h mid h' noted files files' k k' marked rest marks nam
     record {
       clients = ap (λ (x : Hall). x.clients) rest ∙ first.clients;
       stopped = ap (λ (x : Hall). x.stopped) rest ∙ first.stopped;
-      stays = stays_then h mid h' first.stays (stays_saved mid h' rest marks names);
+      stays = stays_then h mid h' first.stays (stays_saved mid h' rest marks names) marks;
+      marks = subst (λ (x : Hall). MarksGo x.rooms.items h'.rooms.items) marked marks;
       noted = refl;
       holds = λ told s before. let to = carries told s (first.holds told s before) in subst (λ t. HoldsFor h' files' t) to.1 to.2;
       faults = faults;

@@ -1,7 +1,5 @@
 use Rattle.std.proofs.Common.{refl, sym, arith}
 use Rattle.std.proofs.lemmas.List.{append-nil}
-use Rattle.desk.specs.declared.call.Call.{Call}
-use Rattle.desk.specs.declared.call.Call.TheVariants as call
 use Rattle.floor_turns.proofs.Carrying.{acts_none, stays_same}
 use Rattle.floor_serving.proofs.serving.serve.Goals as goal
 

@@ -38,7 +38,7 @@ impl<F: Folder, C: Clock, J: Journal<Entry>> Floor<F, C, J> {
         ensures coming { IfOk result (λ floor. IsTrue C.tells_readings → ((n : ℕ) → coming_of floor n ≡ C.coming kit.clock (n + 1))) }
         ensures folder { IfOk result (λ floor. (kit_of floor).folder ≡ kit.folder) }
         ensures journal { IfOk result (λ floor. (kit_of floor).journal ≡ kit.journal) }
-        ensures err { IfErr result (λ back. (back.folder ≡ kit.folder) × (back.journal ≡ kit.journal)) }
+        ensures err { IfErr result (λ back. (back.folder ≡ kit.folder) × (back.clock ≡ kit.clock) × (back.journal ≡ kit.journal)) }
     {
         let Ok(scratch) = zeros(alloc, LONGEST) else {
             return Err(kit);

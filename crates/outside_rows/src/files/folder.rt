@@ -44,7 +44,7 @@ const OTHER: &str = "outside_rows_other";
 /// Where another process writes a file first.
 const NEW: &str = "outside_rows_other/new";
 
-const ROWS: [Row; 10] = [
+const ROWS: [Row; 11] = [
     Row {
         name: "files of a folder",
         steps: &[
@@ -76,6 +76,16 @@ const ROWS: [Row; 10] = [
             Do::Call(Step::Remove("a", Did::Done)),
             Do::Call(Step::Remove("a", Did::Done)),
             Do::Call(Step::Len("a", Length::Absent)),
+        ],
+    },
+    Row {
+        name: "what others add shows at the next listing of all names",
+        steps: &[
+            Do::Call(Step::List(&[])),
+            Do::Replace("outside_rows_folder/c", b"x"),
+            Do::Call(Step::ListBy("c", &[])),
+            Do::Call(Step::List(&["c"])),
+            Do::Call(Step::ListBy("c", &["c"])),
         ],
     },
     Row {

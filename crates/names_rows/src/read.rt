@@ -14,8 +14,9 @@ const TOPIC: &str =
 const CHANNEL: &str =
     r#"{"id_epoch":0,"topics":[{"channels":[{"name":"c","paused":false}],"name":"t","paused":false}],"version":"1.0.0"}"#;
 
-// Members of the file: absent, null, unknown, given twice, and the ends of the epoch's range.
-const FILES: [Row; 16] = [
+// What is written of each text.
+const ROWS: [Row; 47] = [
+    // Members of the file: absent, null, unknown, given twice, and the ends of the epoch's range.
     Row {
         text: NOTHING,
         written: NOTHING,
@@ -80,10 +81,7 @@ const FILES: [Row; 16] = [
         text: CHANNEL,
         written: CHANNEL,
     },
-];
-
-// Members of topics and of channels, and their names.
-const MEMBERS: [Row; 17] = [
+    // Members of topics and of channels, and their names.
     Row {
         text: r#"{"topics":[{"name":"t"}]}"#,
         written: TOPIC,
@@ -152,10 +150,7 @@ const MEMBERS: [Row; 17] = [
         text: r#"{"topics":[{"name":"ephemeral"}]}"#,
         written: r#"{"id_epoch":0,"topics":[{"channels":[],"name":"ephemeral","paused":false}],"version":"1.0.0"}"#,
     },
-];
-
-// Names out of order, and ephemeral ones.
-const ORDERS: [Row; 14] = [
+    // Names out of order, and ephemeral ones.
     Row {
         text: r#"{"topics":[{"name":"b"},{"name":"a"}]}"#,
         written: r#"{"id_epoch":0,"topics":[{"channels":[],"name":"a","paused":false},{"channels":[],"name":"b","paused":false}],"version":"1.0.0"}"#,
@@ -215,22 +210,8 @@ const ORDERS: [Row; 14] = [
 ];
 
 #[test]
-fn files(rt: HostRuntime) -> Result<(), Memory> {
-    let wrong = wrong_row(rt.alloc(), &FILES)?;
-    assert!(rt; wrong.is_none(), "{}", wrong.unwrap_or(""));
-    Ok(())
-}
-
-#[test]
-fn members(rt: HostRuntime) -> Result<(), Memory> {
-    let wrong = wrong_row(rt.alloc(), &MEMBERS)?;
-    assert!(rt; wrong.is_none(), "{}", wrong.unwrap_or(""));
-    Ok(())
-}
-
-#[test]
-fn orders(rt: HostRuntime) -> Result<(), Memory> {
-    let wrong = wrong_row(rt.alloc(), &ORDERS)?;
+fn rows(rt: HostRuntime) -> Result<(), Memory> {
+    let wrong = wrong_row(rt.alloc(), &ROWS)?;
     assert!(rt; wrong.is_none(), "{}", wrong.unwrap_or(""));
     Ok(())
 }

@@ -82,6 +82,7 @@ fn folder_of(alloc: Global, row: &Row) -> Result<MemFolder, Memory> {
 }
 
 // What differs in a row.
+#[derive(Drop)]
 struct Difference {
     // As text; nothing where the row holds.
     text: Vec<u8>,

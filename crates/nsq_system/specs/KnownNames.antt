@@ -2,6 +2,9 @@
 use Rattle.std.specs.Prelude.{ℕ, Bool, ◌≡◌, ◌≢◌, ◌↔◌, List, Option, None, Some, IsSome, Contains, String, IsTrue, ◌++◌, map, string_bytes}
 use Rattle.std.specs.declared.alloc.Global.{Global}
 use Rattle.std.specs.BTreeSet.{BTreeSet, contains_text}
+use Rattle.std.specs.IoError.{error_kind}
+use Rattle.std.specs.declared.io.Error.{Error}
+use Rattle.std.specs.declared.io.ErrorKind.TheVariants.{NotFound, InvalidInput, OutOfMemory}
 use Rattle.nsq_outside.specs.Files.{BeginsWith}
 use Rattle.nsq_outside.specs.declared.folder.Listing.{Listing}
 use Rattle.nsq_outside.specs.declared.folder.Listing.TheVariants.{Done as Listed, Failed as NotListed, Memory}
@@ -35,6 +38,11 @@ AreKnown known names = IsSome known × ((name : List ℕ) → Knows known name �
 -- these are the names that are known and begin so, each and no other
 abbrev pub ArePart : Names → List ℕ → List (List ℕ) → Type 0
 ArePart known beginning names = (name : List ℕ) → Contains names name ↔ (Knows known name × BeginsWith name beginning)
+
+-- behind an error the names aren't known, but where it says that the file is absent, that the name is none of a file, or that memory is wanting:
+-- behind these it is known what became of the file
+abbrev pub AreForgotten : Names → Error → Type 0
+AreForgotten known error = error_kind error ≢ NotFound → error_kind error ≢ InvalidInput → error_kind error ≢ OutOfMemory → known ≡ None
 
 -- a name is in a set now, or isn't, and no other came or went
 abbrev pub SetsName : BTreeSet (String Global) → BTreeSet (String Global) → List ℕ → Bool → Type 0

@@ -72,3 +72,11 @@ kind_behind first (Stream Http stream) = Tcp
 kind_behind first Nobody = first
 kind_behind first Shortage = first
 kind_behind first Broken = first
+
+-- behind a caller the other kind is looked for first; where the listeners failed, the same as before
+abbrev pub TakesTurns : Kind → Kind → Accept TcpConn → Type 0
+TakesTurns old new (Caller Tcp conn) = new ≡ Http
+TakesTurns old new (Caller Http conn) = new ≡ Tcp
+TakesTurns old new Nothing = Unit {0}
+TakesTurns old new Halt = Unit {0}
+TakesTurns old new Failed = new ≡ old

@@ -1,5 +1,6 @@
-ghost use Rattle.std.specs.Prelude.{◌≡◌, ◌≢◌, [], None, Some, true, OnOk, OnErr, IfOk, IsSome, AllPairs, is_some, map, string_bytes};
+ghost use Rattle.std.specs.Prelude.{◌≡◌, ◌≢◌, None, Some, true, OnOk, OnErr, IfOk, IfErr, IsSome, AllPairs, is_some, map, string_bytes};
 ghost use Rattle.std.specs.BTreeSet.{IsFromIterResult};
+ghost use Rattle.std.specs.IoError.{error_kind};
 ghost use Rattle.std.specs.String.{string_cmp};
 ghost use Rattle.nsq_system.specs.KnownNames.{Knows, OnlyChanges, OnlyMoves, AreKnown, ArePart, SetsName};
 
@@ -73,6 +74,8 @@ impl KnownNames {
     /// are forgotten; where the folder is missing there is none.
     pub fn note_made<T>(&mut self, name: &str, outcome: &io::Result<T>)
         ensures here { OnOk outcome.now (IsSome self.new.names → Knows self.new.names name.now) }
+        ensures absent { IfErr outcome.now (λ error. error_kind error ≡ ErrorKind.NotFound → Knows self.new.names name.now → ⊥) }
+        ensures unknown { IfErr outcome.now (λ error. error_kind error ≢ ErrorKind.NotFound → self.new.names ≡ None) }
         ensures others { OnlyChanges self.old.names self.new.names name.now }
     {
         match outcome {
@@ -85,6 +88,7 @@ impl KnownNames {
     /// Notes the outcome of a call that removes a file. After an error the names are forgotten; an absent file is gone.
     pub fn note_removed(&mut self, name: &str, outcome: &io::Result<()>)
         ensures gone { Knows self.new.names name.now → ⊥ }
+        ensures unknown { IfErr outcome.now (λ error. error_kind error ≢ ErrorKind.NotFound → self.new.names ≡ None) }
         ensures others { OnlyChanges self.old.names self.new.names name.now }
     {
         match outcome {
@@ -99,6 +103,8 @@ impl KnownNames {
     pub fn note_renamed(&mut self, from: &str, to: &str, outcome: &io::Result<()>)
         ensures gone { from.now ≢ to.now → Knows self.new.names from.now → ⊥ }
         ensures here { OnOk outcome.now (IsSome self.new.names → Knows self.new.names to.now) }
+        ensures stays { OnErr outcome.now (OnlyChanges self.old.names self.new.names from.now) }
+        ensures unknown { IfErr outcome.now (λ error. error_kind error ≢ ErrorKind.NotFound → self.new.names ≡ None) }
         ensures others { OnlyMoves self.old.names self.new.names from.now to.now }
     {
         self.note_removed(from, outcome);

@@ -57,7 +57,7 @@ enum Tried {
 }
 
 impl<N: Net + Clock> Listeners<N> {
-    ghost use Rattle.nsq_system.specs.Listeners.{accept_faults_of, has_http, IsFreshTcpCaller, IsNewTcpCaller, IsHeard, Speaks, GoesOn};
+    ghost use Rattle.nsq_system.specs.Listeners.{accept_faults_of, has_http, IsFreshTcpCaller, IsNewTcpCaller, IsHeard, Speaks, GoesOn, TakesTurns};
 
     /// Opens the listeners at these addresses, as `127.0.0.1:4150`. Of a name's addresses it takes the first that can be
     /// bound. The error is that of a name that can't be resolved, of the last address that can't be bound, or another of the
@@ -99,6 +99,7 @@ impl<N: Net + Clock> Listeners<N> {
         ensures faults { accept_faults_of self.old ≤ accept_faults_of self.new }
         ensures cause { AcceptFails (accept_faults_of self.old) (accept_faults_of self.new) result }
         ensures counted { AcceptCounts (accept_faults_of self.old) (accept_faults_of self.new) result }
+        ensures turns { TakesTurns self.old.first self.new.first result }
     {
         match self.next_caller() {
             Tried::Stream(kind, stream) => {
@@ -143,6 +144,7 @@ impl<N: Net + Clock> Listeners<N> {
 
     /// A caller of either listener, after a wait where nobody called yet.
     fn next_caller(&mut self) -> Tried
+        ensures turns { self.new.first ≡ kind_behind self.old.first result }
         ensures faults { accept_faults_of self.new ≡ accept_faults_of self.old }
         ensures heard { IsHeardStream (has_http self.old) result }
         ensures http { has_http self.new ≡ has_http self.old }

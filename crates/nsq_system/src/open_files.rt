@@ -1,13 +1,16 @@
-ghost use Rattle.std.specs.Prelude.{◌≡◌, ◌≢◌, ◌+◌, ◌^◌, ◌≤◌, ◌⊎◌, ◌++◌, ◌∷◌, [], List, ℕ, length, Contains, IfOk, OnOk, OnErr, IsSome, IsTrue, AllPairs, None, false, map, string_bytes};
+ghost use Rattle.std.specs.Prelude.{◌≡◌, ◌≢◌, ◌+◌, ◌^◌, ◌≤◌, ◌⊎◌, ◌++◌, ◌∷◌, [], List, ℕ, length, Contains, IfOk, IfErr, OnOk, OnErr, IsSome, IsTrue, AllPairs, None, Some, false, map, string_bytes};
 ghost use Rattle.nsq_system.specs.OpenFiles.{IsClosed};
-ghost use Rattle.nsq_system.specs.KnownNames.{Knows, OnlyChanges, OnlyMoves, ArePart};
+ghost use Rattle.nsq_system.specs.KnownNames.{Knows, OnlyChanges, OnlyMoves, ArePart, AreForgotten};
+ghost use Rattle.std.specs.IoError.{error_kind};
+ghost use Rattle.std.specs.Map.{lookup};
+ghost use Rattle.std.specs.Str.{bytes_eq};
 
 use crate::answers::{PartRead, after_read};
 use crate::known_names::KnownNames;
 use lru::LruCache;
 use nsq_base::Memory;
 use std::alloc::Global;
-use std::fs::{File, OpenFile, OpenOptions};
+use std::fs::{OpenFile, OpenOptions};
 use std::io::ErrorKind;
 use std::num::NonZeroUsize;
 use std::os::unix::fs::FileExt;
@@ -68,6 +71,7 @@ where
         ensures folder { self.new.folder ≡ self.old.folder }
         ensures known { creates ≡ false → self.new.known ≡ self.old.known }
         ensures here { OnOk result (IsTrue creates → IsClosed self.old.opened.entries name.now → IsSome self.new.known.names → Knows self.new.known.names name.now) }
+        ensures unknown { IsTrue creates → IfErr result (AreForgotten self.new.known.names) }
         ensures others { OnlyChanges self.old.known.names self.new.known.names name.now }
     {
         if self.opened.contains(name) {
@@ -328,6 +332,7 @@ where
         ensures folder { self.new.folder ≡ self.old.folder }
         ensures gone { OnOk result (from.now ≢ to.now → Knows self.new.known.names from.now → ⊥) }
         ensures here { OnOk result (IsSome self.new.known.names → Knows self.new.known.names to.now) }
+        ensures unknown { IfErr result (AreForgotten self.new.known.names) }
         ensures others { OnlyMoves self.old.known.names self.new.known.names from.now to.now }
     {
         self.forget(from);
@@ -344,6 +349,7 @@ where
         ensures closed { IsClosed self.new.opened.entries name.now }
         ensures folder { self.new.folder ≡ self.old.folder }
         ensures gone { OnOk result (Knows self.new.known.names name.now → ⊥) }
+        ensures unknown { IfErr result (AreForgotten self.new.known.names) }
         ensures others { OnlyChanges self.old.known.names self.new.known.names name.now }
     {
         self.forget(name);
@@ -355,7 +361,9 @@ where
 }
 
 /// A file among those that are open, which it becomes the most recently used of.
-fn opened_file<'a, F>(opened: &'a mut LruCache<String, F>, name: &str) -> io::Result<&'a F> {
+fn opened_file<'a, F>(opened: &'a mut LruCache<String, F>, name: &str) -> io::Result<&'a F>
+    ensures { IfOk result (λ file. lookup (λ key. bytes_eq name.now (string_bytes key)) opened.old.entries ≡ Some file.now) }
+{
     match opened.get(name) {
         Some(file) => Ok(file),
         None => Err(ErrorKind::Other.into()),
@@ -366,6 +374,7 @@ fn opened_file<'a, F>(opened: &'a mut LruCache<String, F>, name: &str) -> io::Re
 fn set_path(path: &mut String, folder: &str, name: &str) -> io::Result<()>
     ensures path { OnOk result (string_bytes path.new ≡ folder.now ++ name.now) }
     ensures slash { Contains name.now 47 → OnOk result ⊥ }
+    ensures kind { IfErr result (λ error. (error_kind error ≡ ErrorKind.InvalidInput) ⊎ (error_kind error ≡ ErrorKind.OutOfMemory)) }
 {
     if name.as_bytes().contains(&b'/') {
         return Err(ErrorKind::InvalidInput.into());

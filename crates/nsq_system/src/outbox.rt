@@ -3,7 +3,6 @@ ghost use Rattle.std.specs.Prelude.{◌≡◌, ◌≢◌, ◌+◌, ◌<◌, ◌�
 ghost use Rattle.std.specs.Io.KnownBytes.{Keeps, Appends};
 ghost use Rattle.nsq_outside.specs.Causes.{DidFails, DidCounts, CountsFault};
 ghost use Rattle.nsq_outside.specs.Streams.{IsAmountWritten, WriteFails};
-ghost use Rattle.nsq_system.specs.Frames.{EndsInError};
 ghost use Rattle.nsq_system.specs.Sendings.{SendsSome, IsDelivered, taken_by, Gathers, SendsErrors, KeepsOthers};
 
 use crate::error_frames::ends_with_error_frame;
@@ -120,6 +119,7 @@ impl<W: io::Write + Drop> Outbox<W> {
         ensures breaks { BreaksAtError from.now self.new result }
         ensures errors { SendsErrors from.now (gathered_in self.new) result }
         ensures room { KeepsOthers (gathered_in self.old) (gathered_in self.new) from.now result }
+        ensures taken { is_broken self.old ≡ false → length (gathered_in self.old) + length from.now ≤ 16384 → result ≡ Write.Took (length from.now) }
     {
         if MOST_GATHERED < from.len() {
             return self.send_through(from);
@@ -172,6 +172,7 @@ impl<W: io::Write + Drop> Outbox<W> {
         ensures room { result ≡ Did.Done → length (gathered_in self.new) + len ≤ 16384 }
         ensures gathered { (gathered_in self.new ≡ gathered_in self.old) ⊎ (gathered_in self.new ≡ []) }
         ensures fits { length (gathered_in self.old) + len ≤ 16384 → gathered_in self.new ≡ gathered_in self.old }
+        ensures there { length (gathered_in self.old) + len ≤ 16384 → result ≡ Did.Done }
         ensures faults { faults_in self.old ≤ faults_in self.new }
         ensures cause { DidFails (faults_in self.old) (faults_in self.new) result }
         ensures counted { DidCounts (faults_in self.old) (faults_in self.new) result }

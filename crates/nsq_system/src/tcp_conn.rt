@@ -1,4 +1,4 @@
-ghost use Rattle.std.specs.Prelude.{◌≡◌, ◌≢◌, ◌<◌, ◌≤◌, [], true, IfOk, length};
+ghost use Rattle.std.specs.Prelude.{◌≡◌, ◌≢◌, ◌+◌, ◌<◌, ◌≤◌, [], true, IfOk, length};
 ghost use Rattle.nsq_outside.specs.Causes.{DidFails, DidCounts, CountsFault};
 ghost use Rattle.nsq_outside.specs.Streams.{IsAmountRead};
 
@@ -245,6 +245,7 @@ impl Sink for TcpConn {
         ensures took { TookBreaks self.old self.new result }
         ensures errors { SendsErrors from.now (gathered_of self.new) result }
         ensures room { kind_of self.old ≡ Kind.Tcp → KeepsOthers (gathered_of self.old) (gathered_of self.new) from.now result }
+        ensures taken { kind_of self.old ≡ Kind.Tcp → broken_of self.old ≡ false → length (gathered_of self.old) + length from.now ≤ 16384 → result ≡ Write.Took (length from.now) }
         ensures broken { result ≡ Write.Failed → broken_of self.new ≡ true }
         ensures counted { CountsFault (write_faults_of self.old) (write_faults_of self.new) (broken_of self.new) }
         ensures breaks { BreaksAtErrors from.now self.new result }

@@ -39,8 +39,8 @@ AreKnown known names = IsSome known × ((name : List ℕ) → Knows known name �
 abbrev pub ArePart : Names → List ℕ → List (List ℕ) → Type 0
 ArePart known beginning names = (name : List ℕ) → Contains names name ↔ (Knows known name × BeginsWith name beginning)
 
--- behind an error the names aren't known, but where it says that the file is absent, that the name is none of a file, or that memory is wanting:
--- behind these it is known what became of the file
+-- behind an error the names aren't known; one that says that a file is absent, that a name is none of a file, or that memory is wanting may leave
+-- them known, as it may come before the system is asked
 abbrev pub AreForgotten : Names → Error → Type 0
 AreForgotten known error = error_kind error ≢ NotFound → error_kind error ≢ InvalidInput → error_kind error ≢ OutOfMemory → known ≡ None
 

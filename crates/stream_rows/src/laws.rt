@@ -9,6 +9,7 @@ fn of_the_stream() -> Result<(), Fail> {
     laws::whole_is_spelled();
     laws::scripts_go_on();
     laws::one_script();
+    laws::every_stream_has_a_script();
     laws::canonical_is_spelling();
     reader_laws::any_pieces_are_one_stream();
     reader_laws::answers_take_what_is_left();

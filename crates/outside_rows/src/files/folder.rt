@@ -76,6 +76,8 @@ const ROWS: [Row; 11] = [
             Do::Call(Step::Remove("a", Did::Done)),
             Do::Call(Step::Remove("a", Did::Done)),
             Do::Call(Step::Len("a", Length::Absent)),
+            Do::Call(Step::Rename("a", "b", Did::Done)),
+            Do::Call(Step::Len("b", Length::Absent)),
         ],
     },
     Row {

@@ -255,15 +255,21 @@ module _ (h0 h1 h2 : Hall) (topic : List ℕ) (i : ℕ) (r : Room) (unsaved : Bo
   pub added_stands : (files : Files) (s : State) → (BeginsIdle files topic → IsRoomOf files r (new_topic topic)) → HoldsFor h0 files s → (t : State) × (t ≡ made_topic s topic) × HoldsFor h2 files t
   added_stands files s of holds = new_stands h0 h2 topic r added_else none_before fresh added_rooms files s of holds
 
+-- a topic that was made once there was room for it is as it would have been made before
+pub fresh_before : (h h' : Hall) (topic : List ℕ) (r : Room) → h' ≡ record h { rooms = h'.rooms; pending = h'.pending } → IsFreshRoom topic h'.options r → IsFreshRoom topic h.options r
+fresh_before h h' topic r rest fresh = subst (λ (o : Options). IsFreshRoom topic o r) (ap (λ (x : Hall). x.options) rest) fresh
+
 -- what a queue's last save left stands as it is made, where it would begin with nothing
 pub fresh_stands : (b : Bool) (queue : Option Queue) (name : List ℕ) (o : QueueOptions) (files : Files) (idle : Type 0) → queue ≡ (if not b then Some (fresh_queue name o) else None) → (idle → Stands queue files) → (b ≡ false → idle) → Stands queue files
 fresh_stands true queue name o files idle e f g = subst (λ q. Stands q files) (sym e) tt
 fresh_stands false queue name o files idle e f g = f (g refl)
 
-pub fresh_room_of : (files : Files) (topic : List ℕ) (o : Options) (r : Room) → r.queue ≡ fresh_topic topic o → r.stalls.items ≡ [] → IsTopicOf r.queue files (new_topic topic) → (IsIdle (files (meta_file topic)) → Stands r.queue.backlog.queue files) → BeginsIdle files topic → IsRoomOf files r (new_topic topic)
-fresh_room_of files topic o r is none of stands idle = record {
-  queue = of;
-  stands = fresh_stands (is_ephemeral topic) r.queue.backlog.queue topic (queue_options o) files (IsIdle (files (meta_file topic))) (ap (λ (q : TopicSeen). q.backlog.queue) is) stands idle;
+pub fresh_room_of : (files : Files) (topic : List ℕ) (o : Options) (r : Room) (q : TopicSeen) → r.queue ≡ q → r.stalls.items ≡ [] → q ≡ fresh_topic topic o → IsTopicOf q files (new_topic topic) → (IsIdle (files (meta_file topic)) → Stands q.backlog.queue files) → BeginsIdle files topic
+    → IsRoomOf files r (new_topic topic)
+fresh_room_of files topic o r q same none is of stands idle = record {
+  queue = subst (λ (x : TopicSeen). IsTopicOf x files (new_topic topic)) (sym same) of;
+  stands = subst (λ (x : TopicSeen). Stands x.backlog.queue files) (sym same)
+      (fresh_stands (is_ephemeral topic) q.backlog.queue topic (queue_options o) files (IsIdle (files (meta_file topic))) (ap (λ (x : TopicSeen). x.backlog.queue) is) stands idle);
   channels = subst (λ xs. Pairwise (IsStallOf files) xs []) (sym none) tt;
   delays = All-nil (λ w. w.message.delay ≤ longest_delay);
   taken = tt;

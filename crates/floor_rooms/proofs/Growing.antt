@@ -2,7 +2,7 @@
 use Rattle.std.proofs.Common.{◌≡◌, ◌≤◌, ◌<◌, ◌==◌, ℕ, set, Bool, true, false, not, ◌&&◌, ◌||◌, if◌then◌else◌, nat_eq, List, [], ◌∷◌, map, length, get_or, Option, Some, None, refl, sym, ap, subst, ◌∙◌, arith}
 use Rattle.std.specs.Prelude.{HoldsAt, IfSome, IsSome, IsTrue, is_some, is_none, option_and_then, unwrap_or}
 use Rattle.std.specs.Global.{Vec}
-use Rattle.std.specs.List.{All, AllPairs, Contains, insert, list_any, slice_get}
+use Rattle.std.specs.List.{All, AllPairs, Contains, list_any, slice_get}
 use Rattle.std.specs.Str.{bytes_eq}
 use Rattle.std.proofs.lemmas.Bool.{false≢true}
 use Rattle.std.proofs.lemmas.List.{get_or-set_same, length-set, set-set}
@@ -13,7 +13,7 @@ use Rattle.nsq_base.specs.Names.{IsAscendingBy, is_before}
 use Rattle.nsq_base.specs.Options.{IsInRange}
 use Rattle.nsq_base.specs.Places.{BelongsAt, StandsAt}
 use Rattle.nsq_base.specs.declared.options.Options.{Options}
-use Rattle.nsq_base.proofs.PutBy.{All-put_by, IsAscendingBy-put_by, put_by-belongs}
+use Rattle.nsq_base.proofs.PutBy.{All-put_by, IsAscendingBy-put_by}
 use Rattle.nsq_outside.specs.Files.{Files}
 use Rattle.queue_files.specs.declared.options.QueueOptions.{QueueOptions}
 use Rattle.queue_image.specs.FileNames.{meta_file}
@@ -27,7 +27,8 @@ use Rattle.broker_history.specs.Channels.{IsKept}
 use Rattle.broker_history.specs.Changes.{made_channel}
 use Rattle.broker_history.proofs.Lists.{exact_bytes, find_put}
 use Rattle.topic_core.specs.Kept.{IsNamed}
-use Rattle.topic_core.specs.Seen.{Seen as TopicSeen, owed_of, queue_options as topic_options}
+use Rattle.topic_core.specs.Rows.{IsTopicOf}
+use Rattle.topic_core.specs.Seen.{Seen as TopicSeen, fresh_topic, owed_of, queue_options as topic_options}
 use Rattle.channel_copies.specs.Clients.{client_of}
 use Rattle.channel_core.specs.Answers.{all_due}
 use Rattle.channel_core.specs.Made.{FitsRun, IsFresh, about_of, queue_options}
@@ -40,7 +41,7 @@ use Rattle.floor_rooms.specs.declared.room.Room.{Room}
 use Rattle.floor_rooms.specs.declared.hall.Hall.{Hall}
 use Rattle.floor_rooms.specs.Rooms.{channel_name, topic_name, stall_names, room_in, stall_in, stall_at, put_room, put_stall, client_in}
 use Rattle.floor_rooms.specs.Sound.{AreMembers, HasItsChannel, HasOptions, IsMarked, IsPast, IsRoomSound, IsSound, IsStallSound, has_none_waiting, member_of}
-use Rattle.floor_rooms.specs.Standing.{HoldsFor, IsRoomOf, IsStallOf}
+use Rattle.floor_rooms.specs.Standing.{HoldsFor, IsRoomOf, IsStallOf, longest_delay}
 use Rattle.floor_rooms.specs.Changes.{AtRoom}
 use Rattle.floor_rooms.specs.Made.{AddsStall, BeginsIdle, ChannelBeginsIdle, IsFreshStall, IsRoomWith, SameStalls}
 use Rattle.floor_rooms.proofs.Placing.{at_place, found_at, found_standing, none_belonging, put_at, put_itself, standing_at}
@@ -263,22 +264,27 @@ module _ (h h' : Hall) (i : ℕ) (rest : IsElse h h') (at : AtRoom i SameStalls 
       }))
       (λ channel none. ap (λ xs. stall_in xs channel) (sym at.does.stalls) ∙ none) holds
 
+-- the channels of a room that was read after it was listed
+pub stalls_listed : (i : ℕ) (before after : List (List ℕ)) (xs ys : List Room) (b : Room) (P : Vec Stall → Type 0) → AtRoom i (ListsRoom before after) xs ys → b ≡ get_or ys i b → HoldsAt (λ (r : Room). P r.stalls) xs i → P b.stalls
+stalls_listed i before after xs ys b P a e holds =
+    let same : b ≡ a.after = e ∙ ap (λ (zs : List Room). get_or zs i b) a.is ∙ get_or-set_same xs i a.after b (slice_get_within xs i a.room a.there) in
+    let stalls : b.stalls ≡ a.room.stalls = ap (λ (r : Room). r.stalls) (same ∙ a.does.0) in
+    subst P (sym stalls) (subst (λ (r : Room). P r.stalls) (get_or_from_slice_get xs i a.room a.room a.there) (holds a.room))
+
 -- a room that was read after it was listed, with a channel more
-pub grown_at : (i j : ℕ) (s : Stall) (before after : List (List ℕ)) (xs ys : List Room) (b : Room) (v : Vec Stall) → AtRoom i (ListsRoom before after) xs ys → b ≡ get_or ys i b → HoldsAt (λ (r : Room). BelongsAt channel_name r.stalls.items (channel_name s) j) xs i
-    → v.items ≡ insert b.stalls.items j s → AtRoom i (AddsStall s before after) xs (set ys i (record b { names = None; stalls = v }))
-grown_at i j s before after xs ys b v a e place items =
+pub grown_at : (i : ℕ) (s : Stall) (before after : List (List ℕ)) (xs ys : List Room) (b to : Room) → AtRoom i (ListsRoom before after) xs ys → b ≡ get_or ys i b → to ≡ record b { names = None; stalls = to.stalls } → to.stalls.items ≡ put_stall b.stalls.items s
+    → AtRoom i (AddsStall s before after) xs (set ys i to)
+grown_at i s before after xs ys b to a e is stalls =
     let same : b ≡ a.after = e ∙ ap (λ (zs : List Room). get_or zs i b) a.is ∙ get_or-set_same xs i a.after b (slice_get_within xs i a.room a.there) in
     let listed : b ≡ record (a.room) { listed = true } = same ∙ a.does.0 in
-    let belongs : BelongsAt channel_name a.room.stalls.items (channel_name s) j =
-    subst (λ (r : Room). BelongsAt channel_name r.stalls.items (channel_name s) j) (get_or_from_slice_get xs i a.room a.room a.there) (place a.room) in
     record {
       room = a.room;
-      after = record b { names = None; stalls = v };
+      after = to;
       there = a.there;
-      is = ap (λ (zs : List Room). set zs i (record b { names = None; stalls = v })) a.is ∙ set-set xs i a.after (record b { names = None; stalls = v });
+      is = ap (λ (zs : List Room). set zs i to) a.is ∙ set-set xs i a.after to;
       does = record {
-        is = ap (λ (r : Room). record r { names = None; stalls = v }) listed;
-        stalls = items ∙ ap (λ (r : Room). insert r.stalls.items j s) listed ∙ sym (put_by-belongs channel_name a.room.stalls.items s j belongs);
+        is = is ∙ ap (λ (r : Room). record r { names = None; stalls = to.stalls }) listed;
+        stalls = stalls ∙ ap (λ (r : Room). put_stall r.stalls.items s) listed;
         pending = a.does.1;
       };
     }
@@ -298,6 +304,13 @@ else_both h0 h1 h2 e f = f ∙ ap (λ (x : Hall). record x { rooms = h2.rooms; p
 
 pub else_added : (h h' : Hall) (unsaved : Bool) → h' ≡ record h { rooms = h'.rooms; unsaved_names = unsaved } → IsElse h h'
 else_added h h' unsaved e = ap (λ (x : Hall). record x { rooms = h'.rooms; pending = h'.pending; unsaved_names = h'.unsaved_names; quiet_until = h'.quiet_until; unsaved_from = h'.unsaved_from }) e
+
+-- and once there was room for it a topic was put in
+pub else_put : (h0 h1 h2 : Hall) (unsaved : Bool) → h1 ≡ record h0 { rooms = h1.rooms; pending = h1.pending } → h2 ≡ record h1 { rooms = h2.rooms; unsaved_names = unsaved } → h2 ≡ record h0 { rooms = h2.rooms; pending = h2.pending; unsaved_names = h2.unsaved_names }
+else_put h0 h1 h2 unsaved e f = else_both h0 h1 h2 e (ap (λ (x : Hall). record x { rooms = h2.rooms; pending = h2.pending; unsaved_names = h2.unsaved_names }) f)
+
+pub else_spaced : (h h' : Hall) → h' ≡ record h { rooms = h'.rooms; pending = h'.pending } → h' ≡ record h { rooms = h'.rooms; pending = h'.pending; unsaved_names = h'.unsaved_names }
+else_spaced h h' e = ap (λ (x : Hall). record x { rooms = h'.rooms; pending = h'.pending; unsaved_names = h'.unsaved_names }) e
 
 -- a topic whose list of channels has more room stands where it stood, and places in it are as they were
 pub reserved_place : (xs ys : List Room) (i j : ℕ) (name : List ℕ) → AtRoom i SameStalls xs ys → HoldsAt (λ (r : Room). BelongsAt channel_name r.stalls.items name j) xs i → HoldsAt (λ (r : Room). BelongsAt channel_name r.stalls.items name j) ys i
@@ -460,3 +473,17 @@ room_with_of files topic name r r' s is stalls of stall =
       delays = of.delays;
       taken = of.taken;
     })
+
+-- so it is where both were made
+pub fresh_room_with : (files : Files) (topic name : List ℕ) (o : Options) (r : Room) (q : TopicSeen) (s : Stall) → r.queue ≡ q → r.stalls.items ≡ s ∷ [] → q ≡ fresh_topic topic o → IsTopicOf q files (new_topic topic) → (IsIdle (files (meta_file topic)) → Stands q.backlog.queue files)
+    → BeginsIdle files topic → IsStallOf files s (new_channel name) → IsRoomOf files r (with_channel (new_topic topic) (new_channel name))
+fresh_room_with files topic name o r q s same stalls is of stands idle stall =
+    let to : Topic = with_channel (new_topic topic) (new_channel name) in
+    record {
+      queue = other_channels files r (new_topic topic) to.channels (subst (λ (x : TopicSeen). IsTopicOf x files (new_topic topic)) (sym same) of);
+      stands = subst (λ (x : TopicSeen). Stands x.backlog.queue files) (sym same)
+          (fresh_stands (is_ephemeral topic) q.backlog.queue topic (topic_options o) files (IsIdle (files (meta_file topic))) (ap (λ (x : TopicSeen). x.backlog.queue) is) stands idle);
+      channels = subst (λ xs. Pairwise (IsStallOf files) xs to.channels) (sym stalls) (stall, tt);
+      delays = All-nil (λ w. w.message.delay ≤ longest_delay);
+      taken = tt;
+    }

@@ -19,7 +19,7 @@ use Rattle.floor_rooms.specs.Sound.{IsMarked, IsPast, IsQuietUntil, IsRoomSound,
 use Rattle.floor_rooms.specs.Standing.{HoldsFor}
 use Rattle.floor_rooms.specs.Changes.{AtRoom, AtStall, InRoom, listed_with, marked}
 use Rattle.floor_rooms.proofs.Placing.{at_place}
-use Rattle.floor_rooms.proofs.Sounding.{Lowers, at_all, KeepsRest, marks, members_before, members_stay, past_marked, past_one, room_lowered, room_past, sound_at_room, sound_at_stall, stall_before}
+use Rattle.floor_rooms.proofs.Sounding.{Lowers, at_all, KeepsRest, marks, members_before, members_stay, past_marked, past_one, room_lowered, room_past, sound_at_room, sound_at_stall, sound_same, stall_before}
 use Rattle.floor_rooms.proofs.Holding.{StaysElse, holds_at_room, holds_at_stall, room_alike, stall_alike}
 
 -- nothing but topics, the list of those that may have something to do, and facts for speed and for saving differs
@@ -50,6 +50,12 @@ else_keeps h h' sound is quiet unsaved pending =
       later = omega (arith, moment);
       clients = ap (λ (x : Hall). x.clients.items) is;
     }
+
+-- with the same topics and the same list of those that may have something to do it is as sound
+pub same_sound : (h h' : Hall) → IsSound h → IsElse h h' → h'.quiet_until ≡ h.quiet_until → h'.unsaved_from ≡ h.unsaved_from → h'.pending.items ≡ h.pending.items → h'.rooms.items ≡ h.rooms.items → IsSound h'
+same_sound h h' sound is quiet from pending rooms =
+    let keeps : KeepsRest h h' = else_keeps h h' sound is (omega (arith, quiet)) (omega (arith, from)) (λ name has. subst (λ (names : List (List ℕ)). Contains names name) (sym pending) has) in
+    sound_same h h' sound keeps rooms
 
 -- the room at a place that was read there
 pub at_room_read : (i : ℕ) (Does : Room → Room → Type 0) (rooms : List Room) (room after : Room) → i < length rooms → room ≡ get_or rooms i room → Does room after → AtRoom i Does rooms (set rooms i after)

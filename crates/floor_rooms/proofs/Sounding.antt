@@ -217,6 +217,25 @@ module _ (h h' : Hall) (r : Room) (p : PutsRoom h h' r) where
 pub sound_put_room : (h h' : Hall) (r : Room) → PutsRoom h h' r → IsSound h'
 sound_put_room h h' r p = sound_put_room_of h h' r p
 
+-- a hall with the same topics
+pub sound_same : (h h' : Hall) → IsSound h → KeepsRest h h' → h'.rooms.items ≡ h.rooms.items → IsSound h'
+sound_same h h' sound keeps rooms =
+    let Members : List Client → Room → Type 0 = λ cs x. All (AreMembers cs (topic_name x)) x.stalls.items in
+    let there : List Room → Client → Type 0 = λ xs c. IfSome (held_channel c.phase c.route) (λ (route : Route). IsSome (stall_at xs route.topic route.channel)) in
+    record {
+      options = subst IsInRange (sym keeps.lowers.options) sound.options;
+      epoch = subst (λ e. e < 2 ^ 24) (sym keeps.epoch) sound.epoch;
+      ids_used = subst (λ n. n ≤ 2 ^ 40) (sym keeps.ids_used) sound.ids_used;
+      moment = keeps.moment;
+      client_order = subst AreInOrder (sym keeps.clients) sound.client_order;
+      room_order = subst (IsAscendingBy topic_name) (sym rooms) sound.room_order;
+      rooms = subst (All (IsRoomSound h')) (sym rooms) (All-weaker (IsRoomSound h) (IsRoomSound h') (λ x s. room_lowered h h' x keeps.lowers s) h.rooms.items sound.rooms);
+      members = subst (λ cs. All (Members cs) h'.rooms.items) (sym keeps.clients) (subst (All (Members h.clients.items)) (sym rooms) sound.members);
+      channels = subst (All (HasItsChannel h')) (sym keeps.clients) (subst (λ xs. All (there xs) h.clients.items) (sym rooms) sound.channels);
+      ready = subst (All AsksForNone) (sym keeps.clients) sound.ready;
+      past = subst (All (IsPast h'.moment)) (sym rooms) (all_past h h' keeps.later sound);
+    }
+
 -- a room of which only the queue changed
 pub room_touched : (h h' : Hall) (r r' : Room) → Lowers h h' → IsRoomSound h r → TouchesRoom r r' → IsRoomSound h' r'
 room_touched h h' r r' low x t =

@@ -25,13 +25,8 @@ impl Hall {
         ensures stands { IfOk result (λ r. (files : Files) → BeginsIdle files topic → IsRoomOf files r (new_topic topic)) }
     {
         let _ = topic.bytes();
-        Ok(Room {
-            queue: TopicQueue::fresh(self.alloc, topic, &self.options)?,
-            since: None,
-            listed: false,
-            names: None,
-            stalls: Vec::new(self.alloc),
-        })
+        let queue = TopicQueue::fresh(self.alloc, topic, &self.options)?;
+        Ok(Room::of(queue, Vec::new(self.alloc)))
     }
 
     /// Makes room for one more topic, also among those that may have something to take or to pay. After Memory too the hall is as before.
@@ -81,8 +76,8 @@ impl Hall {
         match self.place_of(topic) {
             Ok(i) => Ok(i),
             Err(i) => {
-                let room = self.free_room(topic)?;
                 self.reserve_room()?;
+                let room = self.free_room(topic)?;
                 self.add_room(i, room);
                 Ok(i)
             }

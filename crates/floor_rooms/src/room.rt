@@ -1,8 +1,9 @@
-ghost use Rattle.std.specs.Prelude.{◌≡◌};
+ghost use Rattle.std.specs.Prelude.{◌≡◌, ◌≤◌, ◌<◌, false, None, length, vec_capacity, vec_len};
+ghost use Rattle.std.specs.List.{insert};
 ghost use Rattle.nsq_base.specs.Names.{IsAscendingBy};
-ghost use Rattle.nsq_base.specs.Places.{IsPlaceOf};
+ghost use Rattle.nsq_base.specs.Places.{BelongsAt, IsPlaceOf};
 ghost use Rattle.floor_rooms.specs.Places.{IsPlace};
-ghost use Rattle.floor_rooms.specs.Rooms.{channel_name, topic_name};
+ghost use Rattle.floor_rooms.specs.Rooms.{channel_name, put_stall, topic_name};
 ghost use Rattle.floor_rooms.specs.Sound.{rests};
 
 use crate::Stall;
@@ -25,6 +26,19 @@ pub struct Room {
 }
 
 impl Room {
+    // A topic with these messages and channels as it is made.
+    pub(crate) fn of(queue: TopicQueue, stalls: Vec<Stall>) -> Room
+        ensures { result ≡ record { queue = queue; since = None; listed = false; names = None; stalls = stalls } }
+    {
+        Room {
+            queue,
+            since: None,
+            listed: false,
+            names: None,
+            stalls,
+        }
+    }
+
     /// The topic's name.
     pub fn name(&self) -> Topic
         ensures { result ≡ topic_name self.now }
@@ -52,6 +66,17 @@ impl Room {
         }
     }
 
+    // Puts a channel in at the place where it belongs. Requires that there is room for one more.
+    pub(crate) fn add(&mut self, j: usize, stall: Stall)
+        requires place { BelongsAt channel_name self.old.stalls.items (channel_name stall) j }
+        requires space { vec_len self.old.stalls < vec_capacity self.old.stalls }
+        ensures rest { self.new ≡ record self.old { names = None; stalls = self.new.stalls } }
+        ensures stalls { self.new.stalls.items ≡ put_stall self.old.stalls.items stall }
+    {
+        self.names = None;
+        put_in(&mut self.stalls, j, stall);
+    }
+
     /// Whether it has nothing to take and nothing to pay: it took no message, and it is paused, has no channel or has none waiting.
     pub fn rests(&self) -> bool
         ensures { result ≡ rests self.now }
@@ -71,4 +96,15 @@ impl Room {
         }
         depths.disk == 0
     }
+}
+
+// Puts an item in at a place. It knows nothing of its items, so that its proof opens none. Requires that there is room for one more.
+fn put_in<T: Drop>(items: &mut Vec<T>, i: usize, item: T)
+    requires place { i ≤ length items.old.items }
+    requires space { vec_len items.old < vec_capacity items.old }
+    ensures { items.new.items ≡ insert items.old.items i item }
+{
+    let Ok(()) = items.insert(i, item) else {
+        unreachable!()
+    };
 }

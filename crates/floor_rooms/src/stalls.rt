@@ -15,6 +15,7 @@ ghost use Rattle.floor_rooms.specs.Standing.{Carries, HoldsFor, IsRoomOf, IsStal
 use crate::{Hall, Room, Stall};
 use channel_core::Channel;
 use nsq_base::{Chan, Memory, Topic};
+use topic_core::TopicQueue;
 
 /// Channels that are made.
 impl Hall {
@@ -64,10 +65,7 @@ impl Hall {
         self.list_room(i);
         let room = &mut self.rooms[i];
         self.unsaved_names = also_durable(self.unsaved_names, room.name(), stall.name());
-        room.names = None;
-        let Ok(()) = room.stalls.insert(j, stall) else {
-            unreachable!()
-        };
+        room.add(j, stall);
     }
 
     /// Makes the channel of this name in the topic of this name, and the topic, where they aren't there. After Memory the hall is as before.
@@ -133,10 +131,11 @@ impl Hall {
         ensures room { IfOk result (IsRoomWith topic channel self.now.options) }
         ensures stands { IfOk result (λ r. (files : Files) → BeginsIdle files topic → ChannelBeginsIdle files topic channel → IsRoomOf files r (with_channel (new_topic topic) (new_channel channel))) }
     {
-        let mut room = self.free_room(topic)?;
-        room.stalls.reserve(1)?;
-        room.stalls.push_reserved(self.free_stall(topic, channel)?);
-        Ok(room)
+        let _ = topic.bytes();
+        let mut stalls = Vec::with_capacity(self.alloc, 1)?;
+        stalls.push_reserved(self.free_stall(topic, channel)?);
+        let queue = TopicQueue::fresh(self.alloc, topic, &self.options)?;
+        Ok(Room::of(queue, stalls))
     }
 }
 

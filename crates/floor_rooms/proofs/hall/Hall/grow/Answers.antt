@@ -5,7 +5,7 @@ use Rattle.channel_core.specs.Seen.{Seen as ChannelSeen}
 use Rattle.floor_rooms.specs.declared.hall.Hall.{Hall}
 use Rattle.floor_rooms.specs.declared.room.Room.{Room}
 use Rattle.floor_rooms.specs.Rooms.{channel_name}
-use Rattle.floor_rooms.proofs.Growing.{added_stall_sound, added_stall_stands, reserved_place, reserved_stands_at}
+use Rattle.floor_rooms.proofs.Growing.{added_stall_sound, added_stall_stands, else_both, else_spaced, reserved_place, reserved_stands_at}
 use Rattle.floor_rooms.proofs.Dating.{keeps_reserved, since_kept}
 use Rattle.floor_rooms.proofs.Naming.{names_kept}
 use Rattle.floor_rooms.proofs.Coming.{grew_names, grew_since, grew_there}
@@ -70,3 +70,12 @@ returns-clause-there c =
     (subst (λ (n : List ℕ). HoldsAt (λ (r : Room). BelongsAt channel_name r.stalls.items n c.args.j) c.reserve_stall.new.self.rooms.items c.args.i) (sym (ap (λ (v : ChannelSeen). v.about.name) c.in_ok-stall.ensures.stall.channel.is))
     (reserved_place c.args.self.now.rooms.items c.reserve_stall.new.self.rooms.items c.args.i c.args.j c.args.channel c.reserve_stall.ensures.room c.requires.place)) sound.room_order
     (reserved_stands_at c.args.self.now.rooms.items c.reserve_stall.new.self.rooms.items c.args.i c.args.topic c.reserve_stall.ensures.room sound.room_order c.requires.there) (ap (λ (v : ChannelSeen). v.about.name) c.in_ok-stall.ensures.stall.channel.is)
+
+pub returns-clause-rest : goal.returns-clause-rest
+returns-clause-rest c = else_both c.args.self.now c.reserve_stall.new.self c.add_stall.new.self c.reserve_stall.ensures.rest c.add_stall.ensures.rest
+
+pub returns-in_err-reserve_stall-clause-rest : goal.returns-in_err-reserve_stall-clause-rest
+returns-in_err-reserve_stall-clause-rest c = else_spaced c.args.self.now c.reserve_stall.new.self c.reserve_stall.ensures.rest
+
+pub returns-in_err-stall-clause-rest : goal.returns-in_err-stall-clause-rest
+returns-in_err-stall-clause-rest c = else_spaced c.args.self.now c.reserve_stall.new.self c.reserve_stall.ensures.rest

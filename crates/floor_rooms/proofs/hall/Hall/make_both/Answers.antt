@@ -8,7 +8,9 @@ use Rattle.floor_rooms.specs.declared.stall.Stall.{Stall}
 use Rattle.floor_rooms.specs.declared.room.Room.{Room}
 use Rattle.floor_rooms.specs.Rooms.{room_in, topic_name}
 use Rattle.floor_rooms.proofs.Placing.{none_belonging}
-use Rattle.floor_rooms.proofs.Growing.{else_added, with_sound, with_stands}
+use Rattle.floor_rooms.proofs.Growing.{else_added, else_put, else_spaced, with_sound, with_stands}
+use Rattle.floor_rooms.proofs.Dating.{keeps_equal, since_kept}
+use Rattle.floor_rooms.proofs.Naming.{names_kept}
 use Rattle.floor_rooms.proofs.Coming.{came_names, came_since, came_there}
 use Rattle.floor_rooms.proofs.hall.Hall.make_both.Goals as goal
 
@@ -48,3 +50,32 @@ returns-clause-since c =
     came_since c.args.self.now c.reserve_room.new.self c.add_room.new.self c.args.topic c.args.i c.in_ok-room.room reserved.rest c.add_room.ensures.rest reserved.rooms c.add_room.ensures.rooms c.requires.place
     (ap (λ (q : TopicSeen). q.name) room.queue) room.since
     (subst (All (λ (s : Stall). s.since ≡ None)) (sym room.stalls) (All-cons (λ (s : Stall). s.since ≡ None) room.stall [] room.fresh.since (All-nil (λ (s : Stall). s.since ≡ None))))
+
+pub returns-clause-rest : goal.returns-clause-rest
+returns-clause-rest c = else_put c.args.self.now c.reserve_room.new.self c.add_room.new.self _ c.reserve_room.ensures.rest c.add_room.ensures.rest
+
+pub returns-in_err-reserve_room-clause-rest : goal.returns-in_err-reserve_room-clause-rest
+returns-in_err-reserve_room-clause-rest c = else_spaced c.args.self.now c.reserve_room.new.self c.reserve_room.ensures.rest
+
+pub returns-in_err-reserve_room-clause-names : goal.returns-in_err-reserve_room-clause-names
+returns-in_err-reserve_room-clause-names c =
+    let h = c.args.self.now in
+    names_kept h.moment h c.reserve_room.new.self (ap (λ (x : Hall). x.unsaved_names) c.reserve_room.ensures.rest) (keeps_equal h.moment h.rooms.items c.reserve_room.new.self.rooms.items c.reserve_room.ensures.rooms)
+
+pub returns-in_err-reserve_room-clause-since : goal.returns-in_err-reserve_room-clause-since
+returns-in_err-reserve_room-clause-since c =
+    let h = c.args.self.now in
+    since_kept h.moment h.rooms.items c.reserve_room.new.self.rooms.items (keeps_equal h.moment h.rooms.items c.reserve_room.new.self.rooms.items c.reserve_room.ensures.rooms)
+
+pub returns-in_err-room-clause-rest : goal.returns-in_err-room-clause-rest
+returns-in_err-room-clause-rest c = else_spaced c.args.self.now c.reserve_room.new.self c.reserve_room.ensures.rest
+
+pub returns-in_err-room-clause-names : goal.returns-in_err-room-clause-names
+returns-in_err-room-clause-names c =
+    let h = c.args.self.now in
+    names_kept h.moment h c.reserve_room.new.self (ap (λ (x : Hall). x.unsaved_names) c.reserve_room.ensures.rest) (keeps_equal h.moment h.rooms.items c.reserve_room.new.self.rooms.items c.reserve_room.ensures.rooms)
+
+pub returns-in_err-room-clause-since : goal.returns-in_err-room-clause-since
+returns-in_err-room-clause-since c =
+    let h = c.args.self.now in
+    since_kept h.moment h.rooms.items c.reserve_room.new.self.rooms.items (keeps_equal h.moment h.rooms.items c.reserve_room.new.self.rooms.items c.reserve_room.ensures.rooms)

@@ -1,3 +1,6 @@
+use Rattle.std.proofs.Common.{refl}
+use Rattle.floor_rooms.proofs.Dating.{keeps_equal, since_kept}
+use Rattle.floor_rooms.proofs.Naming.{names_kept}
 use Rattle.floor_rooms.proofs.Growing.{both_there}
 use Rattle.floor_rooms.proofs.Coming.{both_found}
 use Rattle.floor_rooms.proofs.hall.Hall.make_stall.Goals as goal
@@ -9,3 +12,13 @@ returns-in-Ok-place_of-clause-stands c = λ files s holds.
 pub returns-in-Ok-place_of-clause-there : goal.returns-in-Ok-place_of-clause-there
 returns-in-Ok-place_of-clause-there c =
     both_found c.args.self.now.rooms.items c.args.topic c.args.channel c.in-Ok.i c.in-Ok-place_of.field-0 c.index.result.now c.in-Ok.ensures c.index.ensures c.in-Ok-place_of.ensures
+
+pub returns-in-Ok-place_of-clause-names : goal.returns-in-Ok-place_of-clause-names
+returns-in-Ok-place_of-clause-names c =
+    let h = c.args.self.now in
+    names_kept h.moment h h refl (keeps_equal h.moment h.rooms.items h.rooms.items refl)
+
+pub returns-in-Ok-place_of-clause-since : goal.returns-in-Ok-place_of-clause-since
+returns-in-Ok-place_of-clause-since c =
+    let h = c.args.self.now in
+    since_kept h.moment h.rooms.items h.rooms.items (keeps_equal h.moment h.rooms.items h.rooms.items refl)

@@ -1,7 +1,14 @@
-use Rattle.std.proofs.Common.{refl, ap}
+use Rattle.std.proofs.Common.{◌<◌, length, refl, ap, arith}
 use Rattle.floor_rooms.specs.Changes.{InRoom}
 use Rattle.floor_rooms.proofs.Marked.{MarksStall, at_room_read, in_room_read, marked_stall_sound, marked_stall_stands, range_of}
 use Rattle.floor_rooms.proofs.hall.Hall.mark_stall.Goals as goal
+
+pub index_mut-stall-requires : goal.index_mut-stall-requires
+index_mut-stall-requires c =
+    let room = c.index_mut.result.now in
+    let within : c.args.j < length room.stalls.items = range_of c.args.j c.args.self.now.rooms.items c.args.i room c.index_mut.ensures.value c.requires.stall in
+    let long = room.stalls.ok.0 in
+    omega (arith, within, long)
 
 pub returns-clause-stall : goal.returns-clause-stall
 returns-clause-stall c =

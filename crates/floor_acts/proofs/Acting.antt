@@ -1,10 +1,11 @@
 -- FIN and TOUCH: the client spoke, a row took place at its channel, and the client counts.
-use Rattle.std.proofs.Common.{◌≡◌, ◌<◌, ℕ, true, false, List, length, get_or, Option, Some, HoldsAt, refl, sym, ap, subst, ◌∙◌, get_or-set_same, option_map}
+use Rattle.std.proofs.Common.{◌≡◌, ◌<◌, ℕ, min, true, false, List, length, get_or, nat_lt, Option, Some, None, HoldsAt, refl, sym, ap, subst, ◌∙◌, get_or-set_same, option_map}
 use Rattle.std.specs.Prelude.{IsSome, slice_set, unwrap_or}
+use Rattle.std.proofs.lemmas.Bool.{false≢true}
 use Rattle.nsq_base.specs.declared.options.Options.{Options}
 use Rattle.nsq_outside.specs.Files.{Files}
 use Rattle.v2_frame.specs.declared.command.Command.TheVariants as command
-use Rattle.broker_history.specs.State.{Channel, Client, Route, State, counted, with_client}
+use Rattle.broker_history.specs.State.{Channel, Client, Route, State, counted, flying_with, with_client}
 use Rattle.broker_history.specs.Changes.{AtChannel}
 use Rattle.broker_history.specs.Channels.{Finishes, Moves, MovesLive, Touches}
 use Rattle.broker_history.specs.Step.{AtOwn, DoesCommand, spoke}
@@ -16,7 +17,7 @@ use Rattle.channel_core.specs.Drawing.{timeout_of}
 use Rattle.floor_clients.specs.Seen.{held_channel}
 use Rattle.floor_laws.specs.Lifting.{Lift}
 use Rattle.floor_laws.proofs.Lifting.{finishes, touches}
-use Rattle.floor_replies.specs.Replies.{flies_in}
+use Rattle.floor_replies.specs.Replies.{copies_at, flies_in, stall_on}
 use Rattle.floor_rooms.specs.declared.stall.Stall.{Stall}
 use Rattle.floor_rooms.specs.declared.room.Room.{Room}
 use Rattle.floor_rooms.specs.declared.hall.Hall.{Hall}
@@ -29,7 +30,28 @@ use Rattle.floor_acts.specs.Flights.{FliesStall}
 use Rattle.floor_acts.specs.Spots.{IsSpotOf, StandsIn}
 use Rattle.floor_acts.proofs.Putting.{carries_client, changed_range, changed_read, found_at_place, holds_read, read_holds}
 use Rattle.floor_acts.proofs.Finding.{held_route, member_here, spot_some, yours_here}
-use Rattle.floor_acts.proofs.Flying.{carries_same, flown_keeps, flown_row, flown_stall, own_acts, same_stall, spot_holds}
+use Rattle.floor_acts.proofs.Flying.{carries_same, flown_keeps, flown_row, flown_stall, own_acts, same_stall, spot_holds, spot_range, spot_stall_range}
+
+-- where nothing of the client's stands, nothing flies with it
+none_held : (rooms : List Room) (o : Option Route) → IsSpotOf rooms o None → o ≡ None
+none_held rooms None h = refl
+none_held rooms (Some route) h = absurd h
+
+pub no_spot : (h : Hall) (k : ℕ) (x : Client) (id : List ℕ) → k < length h.clients.items → x ≡ get_or h.clients.items k x → HoldsAt (λ c. IsSpotOf h.rooms.items (held_channel c.phase c.route) None) h.clients.items k → FliesAt k id h → ⊥
+no_spot h k x id l e none flies =
+    let held : held_channel x.phase x.route ≡ None = none_held h.rooms.items (held_channel x.phase x.route) (read_holds (λ c. IsSpotOf h.rooms.items (held_channel c.phase c.route) None) h.clients.items k x l e none) in
+    false≢true (ap (λ o. nat_lt 0 (flying_with x.number id (copies_at (stall_on h.rooms.items o)))) (sym held) ∙ read_holds (λ c. flies_in h c id ≡ true) h.clients.items k x l e flies)
+
+-- what differs of a hall is the hall's own
+own_rest : (h0 a b c h : Hall) → h ≡ record h0 { clients = a.clients; rooms = b.rooms; quiet_until = c.quiet_until } → h ≡ record h0 { clients = h.clients; rooms = h.rooms; quiet_until = h.quiet_until }
+own_rest h0 a b c h e = e ∙ sym (ap (λ (x : Hall). record h0 { clients = x.clients; rooms = x.rooms; quiet_until = x.quiet_until }) e)
+
+pub spoken_rest : (h0 h1 h2 h3 : Hall) → h1 ≡ record h0 { clients = h1.clients } → h2 ≡ record h1 { rooms = h2.rooms } → h3 ≡ record h2 { quiet_until = h3.quiet_until } → h3 ≡ record h0 { clients = h3.clients; rooms = h3.rooms; quiet_until = h3.quiet_until }
+spoken_rest h0 h1 h2 h3 e1 e2 e3 =
+    own_rest h0 h1 h2 h3 h3 (e3 ∙ ap (λ (h : Hall). record h { quiet_until = h3.quiet_until }) e2 ∙ ap (λ (h : Hall). record h { rooms = h2.rooms; quiet_until = h3.quiet_until }) e1)
+
+pub counted_rest : (h0 h1 h2 h3 h4 : Hall) → h1 ≡ record h0 { clients = h1.clients } → h2 ≡ record h1 { rooms = h2.rooms } → h3 ≡ record h2 { quiet_until = h3.quiet_until } → h4 ≡ record h3 { clients = h4.clients } → h4 ≡ record h0 { clients = h4.clients; rooms = h4.rooms; quiet_until = h4.quiet_until }
+counted_rest h0 h1 h2 h3 h4 e1 e2 e3 e4 = own_rest h0 h4 h3 h3 h4 (e4 ∙ ap (λ (h : Hall). record h { clients = h4.clients }) (spoken_rest h0 h1 h2 h3 e1 e2 e3))
 
 -- the client at a place, whose channel stands at a spot, spoke
 pub record Spoke (h0 h1 : Hall) (k : ℕ) (x : Client) (spot : Spot) : Type 0 where
@@ -59,6 +81,12 @@ module _ (h0 h1 : Hall) (k : ℕ) (x : Client) (spot : Spot) (p : Spoke h0 h1 k 
   pub rooms_same : h1.rooms.items ≡ h0.rooms.items
   rooms_same = ap (λ (h : Hall). h.rooms.items) p.rest
 
+  pub room_at : spot.room < length h1.rooms.items
+  room_at = subst (λ rs. spot.room < length rs) (sym rooms_same) (spot_range h0.rooms.items spot own.route own.stands)
+
+  pub stall_at : HoldsAt (λ (r : Room). spot.stall < length r.stalls.items) h1.rooms.items spot.room
+  stall_at = subst (λ rs. HoldsAt (λ (r : Room). spot.stall < length r.stalls.items) rs spot.room) (sym rooms_same) (spot_stall_range h0.rooms.items spot own.route own.stands)
+
   own_member : client_of own.stands.stall.channel.clients x.number ≡ Some (record { timeout = x.timeout; ready = x.ready })
   own_member = member_here h0 x spot own.route p.sound own.held own.stands (found_at_place h0.clients.items k x p.sound.client_order p.within p.read)
 
@@ -81,6 +109,9 @@ module _ (h0 h1 : Hall) (k : ℕ) (x : Client) (spot : Spot) (p : Spoke h0 h1 k 
   -- the client as it is found behind all that only changes its channel
   pub spoken_in : (h3 : Hall) → h3.clients.items ≡ h1.clients.items → ChangesAt k (spoke h0.moment) h0.clients.items h3.clients.items
   spoken_in h3 same = subst (ChangesAt k (spoke h0.moment) h0.clients.items) (sym same) p.changed
+
+  pub spoken_range : (h3 : Hall) → h3.clients.items ≡ h1.clients.items → k < length h3.clients.items
+  spoken_range h3 same = changed_range (spoke h0.moment) k h0.clients.items h3.clients.items p.within (spoken_in h3 same)
 
   pub spoken_is : (h3 : Hall) (y : Client) → h3.clients.items ≡ h1.clients.items → y ≡ get_or h3.clients.items k y → y ≡ spoke h0.moment x
   spoken_is h3 y same e = changed_read (spoke h0.moment) k h0.clients.items h3.clients.items y x p.within (spoken_in h3 same) e ∙ ap (spoke h0.moment) (sym p.read)

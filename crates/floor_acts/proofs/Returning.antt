@@ -1,5 +1,5 @@
 -- REQ: a copy is given back, or a disk fault leaves it with its client.
-use Rattle.std.proofs.Common.{◌≡◌, inl, ◌≤◌, ℕ, ℤ, min, Bool, true, false, List, get_or, Option, Some, None, HoldsAt, refl, sym, ap, subst, ◌∙◌}
+use Rattle.std.proofs.Common.{◌≡◌, inl, ◌≤◌, ◌^◌, ℕ, ℤ, min, Bool, true, false, List, get_or, Option, Some, None, HoldsAt, refl, sym, ap, subst, ◌∙◌, arith}
 use Rattle.std.specs.Prelude.{IsSome, IsTrue, slice_get, slice_set}
 use Rattle.std.proofs.lemmas.Option.{get_or_from_slice_get}
 use Rattle.nsq_outside.specs.Files.{Files}
@@ -122,6 +122,26 @@ module _ (tells : Bool) (client : ℕ) (id : List ℕ) (now delay : ℕ) (answer
       (stall_change h h' old new spot.room spot.stall (GivesBackStall tells client id now delay answer old new before after) sound at given_name (stays_rooms h h' rest) (given_others told))
       (λ c i. stays_lifts old new at.does.stall at.does.after c at.does.stall.channel (queued_in at.does.stall.channel i.disk) i refl (at.does.does.disk.stands told i.stands)
       (subst (Requeues client id now delay at.does.stall.channel i.disk at.does.after.channel new) is (at.does.does.row told i.disk i.on_disk)))
+
+-- a delay that the options allow
+pub delay_fits : (h : Hall) (delay : ℕ) → IsSound h → delay ≤ h.options.max_req_timeout → delay ≤ 2 ^ 62
+delay_fits h delay sound l = let most = sound.options.times.max_req_timeout in omega (arith, most, l)
+
+-- what differs of the hall is the hall's own
+own_rest : (h0 a b c h : Hall) → h ≡ record h0 { clients = a.clients; rooms = b.rooms; quiet_until = c.quiet_until; unsaved_from = min h0.unsaved_from h0.moment }
+    → h ≡ record h0 { clients = h.clients; rooms = h.rooms; quiet_until = h.quiet_until; unsaved_from = min h0.unsaved_from h0.moment }
+own_rest h0 a b c h e = e ∙ sym (ap (λ (x : Hall). record h0 { clients = x.clients; rooms = x.rooms; quiet_until = x.quiet_until; unsaved_from = min h0.unsaved_from h0.moment }) e)
+
+pub kept_rest : (h0 h1 hm h2 h3 : Hall) → h1 ≡ record h0 { clients = h1.clients } → hm ≡ record h1 { rooms = hm.rooms; unsaved_from = min h1.unsaved_from h1.moment } → h2 ≡ record hm { rooms = h2.rooms } → h3 ≡ record h2 { quiet_until = h3.quiet_until }
+    → h3 ≡ record h0 { clients = h3.clients; rooms = h3.rooms; quiet_until = h3.quiet_until; unsaved_from = min h0.unsaved_from h0.moment }
+kept_rest h0 h1 hm h2 h3 e1 em e2 e3 =
+    own_rest h0 h1 h2 h3 h3
+    (e3 ∙ ap (λ (h : Hall). record h { quiet_until = h3.quiet_until }) e2 ∙ ap (λ (h : Hall). record h { rooms = h2.rooms; quiet_until = h3.quiet_until }) em
+    ∙ ap (λ (h : Hall). record h { rooms = h2.rooms; quiet_until = h3.quiet_until; unsaved_from = min h.unsaved_from h.moment }) e1)
+
+pub returned_rest : (h0 h1 hm h2 h3 h4 : Hall) → h1 ≡ record h0 { clients = h1.clients } → hm ≡ record h1 { rooms = hm.rooms; unsaved_from = min h1.unsaved_from h1.moment } → h2 ≡ record hm { rooms = h2.rooms } → h3 ≡ record h2 { quiet_until = h3.quiet_until }
+    → h4 ≡ record h3 { clients = h4.clients } → h4 ≡ record h0 { clients = h4.clients; rooms = h4.rooms; quiet_until = h4.quiet_until; unsaved_from = min h0.unsaved_from h0.moment }
+returned_rest h0 h1 hm h2 h3 h4 e1 em e2 e3 e4 = own_rest h0 h4 h3 h3 h4 (e4 ∙ ap (λ (h : Hall). record h { clients = h4.clients }) (kept_rest h0 h1 hm h2 h3 e1 em e2 e3))
 
 -- the client spoke, and its channel was marked
 module _ (h0 h1 hm : Hall) (k : ℕ) (x : Client) (spot : Spot) (p : Spoke h0 h1 k x spot) (rest_m : hm ≡ record h1 { rooms = hm.rooms; unsaved_from = min h1.unsaved_from h1.moment }) (mark : AtStall spot.room spot.stall (MarksStall h1.moment) h1.rooms.items hm.rooms.items) where

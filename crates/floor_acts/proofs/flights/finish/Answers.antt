@@ -1,12 +1,25 @@
-use Rattle.std.proofs.Common.{refl}
+use Rattle.std.proofs.Common.{◌<◌, length, refl, subst, sym}
 use Rattle.broker_history.specs.State.{Channel, Client, counted}
 use Rattle.broker_history.specs.Channels.{Finishes, MovesLive}
 use Rattle.broker_history.specs.Step.{spoke}
 use Rattle.floor_rooms.specs.declared.stall.Stall.{Stall}
 use Rattle.floor_acts.proofs.Putting.{changed_range, changed_twice, sound_client}
 use Rattle.floor_acts.proofs.Flying.{counts_same, flown_touches, range_behind, stall_range_behind}
-use Rattle.floor_acts.proofs.Acting.{Spoke, clients_same, finish_told, flight_keeps, spoken_in, yours_at}
+use Rattle.floor_acts.proofs.Acting.{Spoke, clients_same, counted_rest, finish_told, flight_keeps, no_spot, room_at, spoken_in, spoken_range, stall_at, yours_at}
 use Rattle.floor_acts.proofs.flights.finish.Goals as goal
+
+pub unreachable-requires : goal.unreachable-requires
+unreachable-requires g c = no_spot c.args.hall.now c.args.k c.index.result.now c.args.id c.requires.client c.index.ensures c.in_default.ensures c.requires.flies
+
+pub finish_at-requires-clause-room : goal.finish_at-requires-clause-room
+finish_at-requires-clause-room g c =
+    let p : Spoke c.args.hall.now c.speak.new.hall c.args.k c.index.result.now c.in-Some.spot = record { sound = c.requires.sound; within = c.requires.client; read = c.index.ensures; of = c.in-Some.ensures; rest = c.speak.ensures.rest; changed = c.speak.ensures.clients; nop = c.speak.ensures.nop } in
+    room_at c.args.hall.now c.speak.new.hall c.args.k c.index.result.now c.in-Some.spot p
+
+pub finish_at-requires-clause-stall : goal.finish_at-requires-clause-stall
+finish_at-requires-clause-stall g c =
+    let p : Spoke c.args.hall.now c.speak.new.hall c.args.k c.index.result.now c.in-Some.spot = record { sound = c.requires.sound; within = c.requires.client; read = c.index.ensures; of = c.in-Some.ensures; rest = c.speak.ensures.rest; changed = c.speak.ensures.clients; nop = c.speak.ensures.nop } in
+    stall_at c.args.hall.now c.speak.new.hall c.args.k c.index.result.now c.in-Some.spot p
 
 pub finish_at-requires-clause-yours : goal.finish_at-requires-clause-yours
 finish_at-requires-clause-yours g c =
@@ -18,6 +31,16 @@ settle_stall-requires-clause-room g c = range_behind c.in-Some.spot.room c.in-So
 
 pub settle_stall-requires-clause-stall : goal.settle_stall-requires-clause-stall
 settle_stall-requires-clause-stall g c = stall_range_behind c.in-Some.spot.room c.in-Some.spot.stall _ c.speak.new.hall.rooms.items c.finish_at.new.hall.rooms.items c.finish_at.ensures.stall
+
+pub index_mut-requires : goal.index_mut-requires
+index_mut-requires g c =
+    let p : Spoke c.args.hall.now c.speak.new.hall c.args.k c.index.result.now c.in-Some.spot = record { sound = c.requires.sound; within = c.requires.client; read = c.index.ensures; of = c.in-Some.ensures; rest = c.speak.ensures.rest; changed = c.speak.ensures.clients; nop = c.speak.ensures.nop } in
+    let Row : Stall → Channel → Channel → Type 0 = λ (a : Stall). Finishes MovesLive c.number-number.result c.args.id in
+    let there : c.args.k < length c.settle_stall.new.self.clients.items = spoken_range c.args.hall.now c.speak.new.hall c.args.k c.index.result.now c.in-Some.spot p c.settle_stall.new.self (clients_same c.args.hall.now c.speak.new.hall c.args.k c.index.result.now c.in-Some.spot p Row c.finish_at.new.hall c.settle_stall.new.self c.speak.ensures.sound c.finish_at.ensures.rest c.finish_at.ensures.stall c.settle_stall.ensures.rest) in
+    subst (λ n. c.args.k < n) (sym c.settle_stall.new.self.clients.ok.0) there
+
+pub returns-clause-rest : goal.returns-clause-rest
+returns-clause-rest g c = counted_rest c.args.hall.now c.speak.new.hall c.finish_at.new.hall c.settle_stall.new.self _ c.speak.ensures.rest c.finish_at.ensures.rest c.settle_stall.ensures.rest refl
 
 pub returns-clause-clients : goal.returns-clause-clients
 returns-clause-clients g c =

@@ -4,8 +4,21 @@ use Rattle.broker_history.specs.Channels.{MovesLive, Touches}
 use Rattle.channel_core.specs.Drawing.{timeout_of}
 use Rattle.floor_rooms.specs.declared.stall.Stall.{Stall}
 use Rattle.floor_acts.proofs.Flying.{flown_touches, range_behind, stall_range_behind}
-use Rattle.floor_acts.proofs.Acting.{Spoke, clients_same, flight_keeps, member_at, spoken_in, touch_told, yours_at}
+use Rattle.floor_acts.proofs.Acting.{Spoke, clients_same, flight_keeps, member_at, no_spot, room_at, spoken_in, spoken_rest, stall_at, touch_told, yours_at}
 use Rattle.floor_acts.proofs.flights.touch.Goals as goal
+
+pub unreachable-requires : goal.unreachable-requires
+unreachable-requires g c = no_spot c.args.hall.now c.args.k c.index.result.now c.args.id c.requires.client c.index.ensures c.in_default.ensures c.requires.flies
+
+pub touch_at-requires-clause-room : goal.touch_at-requires-clause-room
+touch_at-requires-clause-room g c =
+    let p : Spoke c.args.hall.now c.speak.new.hall c.args.k c.index.result.now c.in-Some.spot = record { sound = c.requires.sound; within = c.requires.client; read = c.index.ensures; of = c.in-Some.ensures; rest = c.speak.ensures.rest; changed = c.speak.ensures.clients; nop = c.speak.ensures.nop } in
+    room_at c.args.hall.now c.speak.new.hall c.args.k c.index.result.now c.in-Some.spot p
+
+pub touch_at-requires-clause-stall : goal.touch_at-requires-clause-stall
+touch_at-requires-clause-stall g c =
+    let p : Spoke c.args.hall.now c.speak.new.hall c.args.k c.index.result.now c.in-Some.spot = record { sound = c.requires.sound; within = c.requires.client; read = c.index.ensures; of = c.in-Some.ensures; rest = c.speak.ensures.rest; changed = c.speak.ensures.clients; nop = c.speak.ensures.nop } in
+    stall_at c.args.hall.now c.speak.new.hall c.args.k c.index.result.now c.in-Some.spot p
 
 pub touch_at-requires-clause-yours : goal.touch_at-requires-clause-yours
 touch_at-requires-clause-yours g c =
@@ -22,6 +35,9 @@ settle_stall-requires-clause-room g c = range_behind c.in-Some.spot.room c.in-So
 
 pub settle_stall-requires-clause-stall : goal.settle_stall-requires-clause-stall
 settle_stall-requires-clause-stall g c = stall_range_behind c.in-Some.spot.room c.in-Some.spot.stall _ c.speak.new.hall.rooms.items c.touch_at.new.hall.rooms.items c.touch_at.ensures.stall
+
+pub returns-clause-rest : goal.returns-clause-rest
+returns-clause-rest g c = spoken_rest c.args.hall.now c.speak.new.hall c.touch_at.new.hall c.settle_stall.new.self c.speak.ensures.rest c.touch_at.ensures.rest c.settle_stall.ensures.rest
 
 pub returns-clause-clients : goal.returns-clause-clients
 returns-clause-clients g c =

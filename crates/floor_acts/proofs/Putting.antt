@@ -1,8 +1,8 @@
 -- A hall of which one client changed, or one more began.
-use Rattle.std.proofs.Common.{◌≡◌, ◌<◌, ◌==◌, ℕ, set, Bool, true, false, if◌then◌else◌, List, [], ◌∷◌, ◌++◌, length, get_or, Option, Some, None, HoldsAt, is_some, nat_lt, not, ◌&&◌, Less, Equal, Greater, set-set, length-set, refl, sym, ap, subst, ◌∙◌, arith, get_or-set_same}
+use Rattle.std.proofs.Common.{◌≡◌, ◌<◌, ◌≤◌, ◌^◌, ◌==◌, ℕ, set, Bool, true, false, if◌then◌else◌, List, [], ◌∷◌, ◌++◌, length, get_or, Option, Some, None, HoldsAt, is_some, nat_lt, not, ◌&&◌, Less, Equal, Greater, set-set, length-set, refl, sym, ap, subst, ◌∙◌, arith, get_or-set_same}
 use Rattle.std.specs.List.{All, insert}
 use Rattle.std.specs.Ordering.{nat_cmp}
-use Rattle.std.specs.Prelude.{IfSome, IsSome}
+use Rattle.std.specs.Prelude.{Err, IfSome, IsSome, Ok, OnErr, Result}
 use Rattle.std.specs.Global.{Vec}
 use Rattle.std.proofs.lemmas.Bool.{eq-eqb, eqb-true, false≢true, le-ltb}
 use Rattle.std.proofs.lemmas.List.Elements.{All-append, All-cons, All-filter, All-set, All-weaker}
@@ -245,6 +245,31 @@ identifies h h' k i body files is carries =
     let c : Client = get_or h.clients.items k d in
     let r = carries d s holds in
     (r.0, r.1 ∙ sym (ap (with_identity (with_client s (spoke h.moment c)) h.moment (spoke h.moment c)) (ap (λ o. identity_of o body) holds.stands.options ∙ is)), r.2)
+
+-- the same clients, held elsewhere
+pub still_sound : (h h' : Hall) → IsSound h → h' ≡ record h { clients = h'.clients } → h'.clients.items ≡ h.clients.items → IsSound h'
+still_sound h h' sound rest same =
+    sound_clients h h' sound rest (subst AreInOrder (sym same) sound.client_order) (λ topic channel n. ap (λ cs. member_of topic channel (client_in cs n)) same) (subst (All (HasItsChannel h)) (sym same) sound.channels) (subst (All AsksForNone) (sym same) sound.ready)
+
+pub still_told : (h h' : Hall) (files : Files) → h' ≡ record h { clients = h'.clients } → h'.clients.items ≡ h.clients.items → Carries h files h' files (λ s t. t ≡ s)
+still_told h h' files rest same = λ s holds. (
+      s,
+      refl,
+      subst (λ (x : Hall). HoldsFor x files s) (sym rest)
+          (subst (λ cs. HoldsFor (record h { clients = h'.clients }) files (record s { clients = cs })) (same ∙ sym holds.stands.clients) (holds_clients h h'.clients files s holds)),
+    )
+
+-- a fact that no error breaks
+pub in_error : {X Y : Type 0} (r : Result X Y) (P : Type 0) → P → OnErr r P
+in_error (Ok x) P p = tt
+in_error (Err y) P p = p
+
+-- a timeout that the options allow
+pub timeout_fits : (h : Hall) → IsSound h → h.options.msg_timeout ≤ 2 ^ 62
+timeout_fits h sound =
+    let own = sound.options.times.msg_timeout in
+    let most = sound.options.times.max_msg_timeout in
+    omega (arith, own, most)
 
 -- a client begins
 pub none_stands : (cs : List Client) (n i : ℕ) → StandsAt cs n i → client_in cs n ≡ None → ⊥

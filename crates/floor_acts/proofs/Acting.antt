@@ -1,5 +1,5 @@
 -- FIN and TOUCH: the client spoke, a row took place at its channel, and the client counts.
-use Rattle.std.proofs.Common.{◌≡◌, ◌<◌, ℕ, min, true, false, List, length, get_or, nat_lt, Option, Some, None, HoldsAt, refl, sym, ap, subst, ◌∙◌, get_or-set_same, option_map}
+use Rattle.std.proofs.Common.{◌≡◌, ◌<◌, ℕ, true, false, List, length, get_or, nat_lt, Option, Some, None, HoldsAt, refl, sym, ap, subst, ◌∙◌, get_or-set_same, option_map}
 use Rattle.std.specs.Prelude.{IsSome, slice_set, unwrap_or}
 use Rattle.std.proofs.lemmas.Bool.{false≢true}
 use Rattle.nsq_base.specs.declared.options.Options.{Options}

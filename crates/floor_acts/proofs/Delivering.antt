@@ -17,7 +17,7 @@ use Rattle.channel_copies.specs.Clients.{client_of}
 use Rattle.channel_copies.specs.declared.clients.Client as copies
 use Rattle.channel_core.specs.declared.answers.Next.TheVariants as next
 use Rattle.channel_core.specs.declared.drawn.Drawn.TheVariants.{Nothing}
-use Rattle.channel_core.specs.Drawing.{first_drawn, timeout_of}
+use Rattle.channel_core.specs.Drawing.{IsDrawnFor, first_drawn, timeout_of}
 use Rattle.channel_core.specs.Seen.{Seen as ChannelSeen, channel_with, drawn_in, queued_in, queue_name, seen_channel}
 use Rattle.floor_rooms.specs.declared.stall.Stall.{Stall}
 use Rattle.floor_rooms.specs.declared.room.Room.{Room}
@@ -35,6 +35,17 @@ use Rattle.floor_acts.specs.Sending.{DrawsStall, HasDrawn, IsToSend, SendsStall}
 use Rattle.floor_acts.proofs.Putting.{carries_client, found_at_place, read_at}
 use Rattle.floor_acts.proofs.Flying.{row_at, stays_rooms}
 use Rattle.floor_acts.proofs.Drawing.{Both, behind_stall, draw_stall, holds_there, join}
+
+-- what a call of the channel requires
+pub drawn_there : (i j now number n : ℕ) (message : Message) (rooms : List Room) → number ≡ n → HoldsAt (λ (r : Room). HoldsAt (IsToSend now n message) r.stalls.items j) rooms i → HoldsAt (λ (r : Room). HoldsAt (λ s. IsDrawnFor number message now s.channel.drawn) r.stalls.items j) rooms i
+drawn_there i j now number n message rooms same all = λ r s. subst (λ m. IsDrawnFor m message now (get_or (get_or rooms i r).stalls.items j s).channel.drawn) (sym same) (all r s).drawn
+
+pub member_there : (i j now number n : ℕ) (message : Message) (rooms : List Room) → number ≡ n → HoldsAt (λ (r : Room). HoldsAt (IsToSend now n message) r.stalls.items j) rooms i → HoldsAt (λ (r : Room). HoldsAt (λ s. IsSome (client_of s.channel.clients number)) r.stalls.items j) rooms i
+member_there i j now number n message rooms same all = λ r s. subst (λ m. IsSome (client_of (get_or (get_or rooms i r).stalls.items j s).channel.clients m)) (sym same) (all r s).member
+
+-- the clients are as they were
+pub clients_kept : (h1 h2 h3 : Hall) → h2 ≡ record h1 { rooms = h2.rooms } → h3 ≡ record h2 { quiet_until = h3.quiet_until } → h3.clients.items ≡ h1.clients.items
+clients_kept h1 h2 h3 rest2 rest3 = ap (λ (h : Hall). h.clients.items) rest3 ∙ ap (λ (h : Hall). h.clients.items) rest2
 
 -- whose channel a client's is
 its_route : (r : Option Route) (topic channel : List ℕ) → is_on r topic channel ≡ true → (route : Route) × (r ≡ Some route) × (topic ≡ route.topic) × (channel ≡ route.channel)
@@ -185,7 +196,7 @@ module _ (tells : Bool) (i j : ℕ) (message : Message) (f0 f1 f2 : Files) (n0 n
       λ n apart file own. second n apart file own ∙ first n apart file own
 
   pub sent_clients : h3.clients.items ≡ h1.clients.items
-  sent_clients = ap (λ (h : Hall). h.clients.items) rest3 ∙ ap (λ (h : Hall). h.clients.items) rest2
+  sent_clients = clients_kept h1 h2 h3 rest2 rest3
 
   pub sent_told : (h4 : Hall) (y z : Client) → IsTrue tells → ((s : State) → HoldsFor h2 f2 s → HoldsFor h3 f2 s) → IsSound h3 → y ≡ get_or h3.clients.items k y → z ≡ record y { message_count = counted y.message_count } → h4 ≡ record h3 { clients = h4.clients }
       → h4.clients.items ≡ slice_set h3.clients.items k z → Carries hb f0 h4 f2 (λ s t. DoesSend s hb.moment x.number message t)

@@ -174,6 +174,16 @@ carries_twice h0 h1 h2 k f g y z files sound l changed first e is same rest put 
     let b = carries_client h1 h2 k y (g y) sound there e (same y) rest (put ∙ ap (set h1.clients.items k) is) files a.0 a.2 in
     (b.0, b.1 ∙ ap (λ u. with_client u (g y)) a.1 ∙ ap (λ c. with_client (with_client s (f (get_or h0.clients.items k d))) (g c)) x, b.2)
 
+-- a hall whose clients changed twice
+pub clients_rest : (h0 h1 h2 : Hall) → h1 ≡ record h0 { clients = h1.clients } → h2 ≡ record h1 { clients = h2.clients } → h2 ≡ record h0 { clients = h2.clients }
+clients_rest h0 h1 h2 e1 e2 = e2 ∙ ap (λ (h : Hall). record h { clients = h2.clients }) e1
+
+-- a client that is read again and changes
+pub changed_again : (f : Client → Client) (k : ℕ) (old new : List Client) (x y z : Client) → k < length old → x ≡ get_or old k x → new ≡ old → y ≡ get_or new k y → z ≡ f y → ChangesAt k f old (set new k z)
+changed_again f k old new x y z l e same again is =
+    let it : y ≡ x = again ∙ ap (λ cs. get_or cs k y) same ∙ read_at old k x y l e in
+    λ d. ap (set new k) (is ∙ ap f (it ∙ sym (read_at old k x d l e))) ∙ ap (λ cs. set cs k (f (get_or old k d))) same
+
 -- one change and then another, each as it is told
 pub changed_here : (f : Client → Client) (k : ℕ) (old mid : List Client) (d : Client) → k < length old → ChangesAt k f old mid → get_or mid k d ≡ f (get_or old k d)
 changed_here f k old mid d l h = ap (λ cs. get_or cs k d) (h d) ∙ get_or-set_same old k (f (get_or old k d)) d l
@@ -253,11 +263,11 @@ still_sound h h' sound rest same =
 
 pub still_told : (h h' : Hall) (files : Files) → h' ≡ record h { clients = h'.clients } → h'.clients.items ≡ h.clients.items → Carries h files h' files (λ s t. t ≡ s)
 still_told h h' files rest same = λ s holds. (
-      s,
-      refl,
-      subst (λ (x : Hall). HoldsFor x files s) (sym rest)
-          (subst (λ cs. HoldsFor (record h { clients = h'.clients }) files (record s { clients = cs })) (same ∙ sym holds.stands.clients) (holds_clients h h'.clients files s holds)),
-    )
+  s,
+  refl,
+  subst (λ (x : Hall). HoldsFor x files s) (sym rest)
+      (subst (λ cs. HoldsFor (record h { clients = h'.clients }) files (record s { clients = cs })) (same ∙ sym holds.stands.clients) (holds_clients h h'.clients files s holds)),
+)
 
 -- a fact that no error breaks
 pub in_error : {X Y : Type 0} (r : Result X Y) (P : Type 0) → P → OnErr r P

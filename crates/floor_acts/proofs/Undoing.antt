@@ -26,6 +26,10 @@ use Rattle.floor_acts.specs.Sending.{DrawsStall, HasDrawn, UnsendsStall}
 use Rattle.floor_acts.proofs.Flying.{stays_rooms}
 use Rattle.floor_acts.proofs.Drawing.{Both, draw_stall, join}
 
+-- what differs of the hall
+pub back_rest : (h1 h2 h3 : Hall) → h2 ≡ record h1 { rooms = h2.rooms } → h3 ≡ record h2 { quiet_until = h3.quiet_until } → h3 ≡ record h1 { rooms = h3.rooms; quiet_until = h3.quiet_until }
+back_rest h1 h2 h3 e2 e3 = e3 ∙ ap (λ (h : Hall). record h { quiet_until = h3.quiet_until }) e2 ∙ ap (λ rooms. record h1 { rooms = rooms; quiet_until = h3.quiet_until }) (sym (ap (λ (h : Hall). h.rooms) e3))
+
 module _ (tells : Bool) (i j client : ℕ) (message : Message) (f0 f1 : Files) (n0 n1 : ℕ) (hb h1 h2 h3 : Hall) (d : HasDrawn tells i j client (next.Send message) f0 f1 n0 n1 hb h1) (rest2 : h2 ≡ record h1 { rooms = h2.rooms })
     (back : AtStall i j (UnsendsStall message) h1.rooms.items h2.rooms.items) (rest3 : h3 ≡ record h2 { quiet_until = h3.quiet_until }) where
   abbrev Drew : Stall → Stall → Type 0

@@ -1,7 +1,7 @@
 use Rattle.std.proofs.Common.{◌∙◌, ap, arith, refl}
 use Rattle.broker_history.specs.State.{Client, Closing, is_subscribed}
 use Rattle.broker_history.specs.Step.{spoke}
-use Rattle.floor_acts.proofs.Putting.{carries_twice, changed_length, changed_range, changed_read, changed_twice, closed, sound_client}
+use Rattle.floor_acts.proofs.Putting.{carries_twice, changed_length, changed_range, changed_read, changed_twice, clients_rest, closed, sound_client}
 use Rattle.floor_acts.proofs.clients.close.Goals as goal
 
 pub index_mut-requires : goal.index_mut-requires
@@ -14,6 +14,9 @@ pub close-requires : goal.close-requires
 close-requires c =
     ap (λ (d : Client). is_subscribed d.phase) (changed_read (spoke c.args.hall.now.moment) c.args.k c.args.hall.now.clients.items c.speak.new.hall.clients.items c.index_mut.result.now c.index_mut.result.now c.requires.client c.speak.ensures.clients c.index_mut.ensures.value)
     ∙ c.requires.subscribed c.index_mut.result.now
+
+pub returns-clause-rest : goal.returns-clause-rest
+returns-clause-rest c = clients_rest c.args.hall.now c.speak.new.hall _ c.speak.ensures.rest refl
 
 pub returns-clause-clients : goal.returns-clause-clients
 returns-clause-clients c =

@@ -3,7 +3,7 @@ use Rattle.broker_history.specs.State.{Client}
 use Rattle.broker_history.specs.Step.{known_as, spoke}
 use Rattle.negotiation.specs.Said.{said}
 use Rattle.floor_clients.specs.Seen.{held_channel}
-use Rattle.floor_acts.proofs.Putting.{carries_twice, changed_length, changed_range, changed_read, changed_twice, identifies, introduced, sound_client}
+use Rattle.floor_acts.proofs.Putting.{carries_twice, changed_length, changed_range, changed_read, changed_twice, clients_rest, identifies, introduced, sound_client}
 use Rattle.floor_acts.proofs.clients.identify.Goals as goal
 
 pub index_mut-requires : goal.index_mut-requires
@@ -11,6 +11,9 @@ index_mut-requires c =
     let same = changed_length (spoke c.args.hall.now.moment) c.args.k c.args.hall.now.clients.items c.speak.new.hall.clients.items c.requires.client c.speak.ensures.clients in
     let there = c.requires.client in
     omega (arith, same, there, c.speak.new.hall.clients.ok.0)
+
+pub returns-clause-rest : goal.returns-clause-rest
+returns-clause-rest c = clients_rest c.args.hall.now c.speak.new.hall _ c.speak.ensures.rest refl
 
 pub returns-clause-clients : goal.returns-clause-clients
 returns-clause-clients c =

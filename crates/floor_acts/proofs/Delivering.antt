@@ -73,6 +73,10 @@ named_on None (Some r) name same is = absurd same
 named_on (Some q) None name same is = absurd same
 named_on (Some q) (Some r) name same is = same.name ∙ is
 
+-- the client counts it
+sent_last : (t u : State) (y x : Client) → t ≡ with_client u (record y { message_count = counted y.message_count }) → y ≡ x → t ≡ with_client u (record x { message_count = counted x.message_count })
+sent_last t u y x e same = e ∙ ap (λ (c : Client). with_client u (record c { message_count = counted c.message_count })) same
+
 module _ (tells : Bool) (i j : ℕ) (message : Message) (f0 f1 f2 : Files) (n0 n1 n2 : ℕ) (hb h1 h2 h3 : Hall) (k : ℕ) (x : Client) (d : HasDrawn tells i j x.number (next.Send message) f0 f1 n0 n1 hb h1) (l : k < length h1.clients.items) (e : x ≡ get_or h1.clients.items k x)
     (is_drawn : HoldsAt (λ (r : Room). HoldsAt (IsToSend h1.moment x.number message) r.stalls.items j) h1.rooms.items i) (rest2 : h2 ≡ record h1 { rooms = h2.rooms }) (sent : AtStall i j (SendsStall tells x.number h1.moment message f1 f2 n1 n2) h1.rooms.items h2.rooms.items)
     (rest3 : h3 ≡ record h2 { quiet_until = h3.quiet_until }) where
@@ -209,6 +213,6 @@ module _ (tells : Bool) (i j : ℕ) (message : Message) (f0 f1 f2 : Files) (n0 n
       let last = carries_client h3 h4 k y (g y) sound3 (subst (λ cs. k < length cs) (sym sent_clients) l) e3 refl rest4 (put4 ∙ ap (slice_set h3.clients.items k) counts) f2 r.0 (end r.0 r.2) in
       let there : client_in s.clients x.number ≡ Some x = ap (λ cs. client_in cs x.number) (holds.stands.clients ∙ sym (ap (λ (h : Hall). h.clients.items) d.marks)) ∙ found in (
         last.0,
-        record { client = x; there = there; sends = record { route = at.0; between = r.0; on = at.1; channel = r.1; is = last.1 ∙ ap (λ c. with_client r.0 (g c)) y_is } },
+        record { client = x; there = there; sends = record { route = at.0; between = r.0; on = at.1; channel = r.1; is = sent_last last.0 r.0 y x last.1 y_is } },
         last.2,
       )

@@ -33,10 +33,20 @@ use Rattle.floor_acts.specs.declared.spots.Spot.{Spot}
 use Rattle.floor_acts.specs.Acts.{DoesAt}
 use Rattle.floor_acts.specs.Flights.{ReadiesStall}
 use Rattle.floor_acts.specs.Spots.{GetsOf, IsSpotFor}
-use Rattle.floor_acts.proofs.Putting.{SameMember, carries_ordered, found_at_place, holds_read, put_at_place, read_at, read_holds}
+use Rattle.floor_acts.proofs.Putting.{SameMember, carries_ordered, clients_rest, found_at_place, holds_read, put_at_place, read_at, read_holds}
 use Rattle.floor_acts.proofs.Finding.{member_here, on_its}
 use Rattle.floor_acts.proofs.Flying.{same_stall, stays_rooms, topic_there, channel_there}
 use Rattle.floor_acts.proofs.Belonging.{Regroups, and_false, sound_regrouped}
+
+-- what differs of a hall whose channel and then whose client changed
+pub both_rest : (h0 h1 h2 : Hall) → h1 ≡ record h0 { rooms = h1.rooms } → h2 ≡ record h1 { clients = h2.clients } → h2 ≡ record h0 { clients = h2.clients; rooms = h2.rooms }
+both_rest h0 h1 h2 e1 e2 = e2 ∙ ap (λ (h : Hall). record h { clients = h2.clients }) e1 ∙ ap (λ rooms. record h0 { clients = h2.clients; rooms = rooms }) (sym (ap (λ (h : Hall). h.rooms) e2))
+
+-- or whose client changed alone
+pub alone_rest : (h0 h1 h2 : Hall) → h1 ≡ record h0 { clients = h1.clients } → h2 ≡ record h1 { clients = h2.clients } → h2 ≡ record h0 { clients = h2.clients; rooms = h2.rooms }
+alone_rest h0 h1 h2 e1 e2 =
+    let e : h2 ≡ record h0 { clients = h2.clients } = clients_rest h0 h1 h2 e1 e2 in
+    e ∙ ap (λ rooms. record h0 { clients = h2.clients; rooms = rooms }) (sym (ap (λ (h : Hall). h.rooms) e))
 
 -- a client that a channel has, or hasn't
 abbrev some_if : Bool → (timeout ready : ℕ) → Option copies.Client

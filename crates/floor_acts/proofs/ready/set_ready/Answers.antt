@@ -4,8 +4,8 @@ use Rattle.std.proofs.Common.{◌∙◌, ap, subst}
 use Rattle.floor_rooms.specs.declared.hall.Hall.{Hall}
 use Rattle.floor_rooms.specs.Changes.{KeepsRooms}
 use Rattle.floor_rooms.proofs.Dating.{keeps_equal}
-use Rattle.floor_acts.proofs.Putting.{carries_then, changed_range, changes_then, clients_rest}
-use Rattle.floor_acts.proofs.Readying.{readies}
+use Rattle.floor_acts.proofs.Putting.{carries_then, changed_range, changes_then}
+use Rattle.floor_acts.proofs.Readying.{alone_rest, readies}
 use Rattle.floor_acts.proofs.ready.set_ready.Goals as goal
 
 pub spot_for-requires-clause-client : goal.spot_for-requires-clause-client
@@ -32,7 +32,7 @@ pub returns-in-Some-clause-keeps : goal.returns-in-Some-clause-keeps
 returns-in-Some-clause-keeps c = subst (λ (h : Hall). KeepsRooms h.moment h.rooms.items c.ready_both.new.hall.rooms.items) c.speak.ensures.rest c.ready_both.ensures.keeps
 
 pub returns-in-None-clause-rest : goal.returns-in-None-clause-rest
-returns-in-None-clause-rest c = clients_rest c.args.hall.now c.speak.new.hall c.ready_alone.new.hall c.speak.ensures.rest c.ready_alone.ensures.rest
+returns-in-None-clause-rest c = alone_rest c.args.hall.now c.speak.new.hall c.ready_alone.new.hall c.speak.ensures.rest c.ready_alone.ensures.rest
 
 pub returns-in-None-clause-clients : goal.returns-in-None-clause-clients
 returns-in-None-clause-clients c = changes_then (spoke c.args.hall.now.moment) (λ (d : Client). record d { ready = ready_for d.phase c.args.count d.ready }) c.args.k c.args.hall.now.clients.items c.speak.new.hall.clients.items c.ready_alone.new.hall.clients.items c.requires.client c.speak.ensures.clients c.ready_alone.ensures.clients

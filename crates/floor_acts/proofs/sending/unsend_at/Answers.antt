@@ -1,10 +1,18 @@
-use Rattle.std.proofs.Common.{get_or, refl, subst, sym}
+use Rattle.std.proofs.Common.{◌<◌, get_or, refl, subst, sym}
 use Rattle.floor_rooms.specs.declared.room.Room.{Room}
 use Rattle.floor_rooms.specs.declared.stall.Stall.{Stall}
 use Rattle.floor_rooms.specs.Changes.{InRoom}
 use Rattle.floor_rooms.proofs.Marked.{at_room_read, in_room_read, range_of}
 use Rattle.floor_acts.specs.Sending.{IsDrawnForSome, UnsendsStall}
 use Rattle.floor_acts.proofs.sending.unsend_at.Goals as goal
+
+pub index_mut-requires : goal.index_mut-requires
+index_mut-requires c = subst (λ n. c.args.i < n) (sym c.args.hall.now.rooms.ok.0) c.requires.room
+
+pub index_mut-requires-2 : goal.index_mut-requires-2
+index_mut-requires-2 c =
+    let room = c.index_mut.result.now in
+    subst (λ n. c.args.j < n) (sym room.stalls.ok.0) (range_of c.args.j c.args.hall.now.rooms.items c.args.i room c.index_mut.ensures.value c.requires.stall)
 
 pub unsend-requires-clause-drawn : goal.unsend-requires-clause-drawn
 unsend-requires-clause-drawn c =

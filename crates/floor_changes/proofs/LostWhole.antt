@@ -1,9 +1,10 @@
 -- A channel is lost, from its going out of its topic to the end.
-use Rattle.std.proofs.Common.{◌≡◌, ◌<◌, ℕ, suc, set, true, false, List, ◌++◌, map, length, take, drop, Some, refl, sym, ap, subst, ◌∙◌, arith}
+use Rattle.std.proofs.Common.{◌≡◌, ◌<◌, ℕ, suc, set, true, false, List, ◌++◌, map, get_or, length, take, drop, Some, refl, sym, ap, subst, ◌∙◌, arith}
 use Rattle.std.specs.Prelude.{HoldsAt}
 use Rattle.std.specs.List.{slice_get}
 use Rattle.std.proofs.lemmas.Bool.{false≢true}
-use Rattle.std.proofs.lemmas.List.{length-set}
+use Rattle.std.proofs.lemmas.List.{get_or-set_same, length-set}
+use Rattle.std.proofs.lemmas.Option.{slice_get_within}
 use Rattle.nsq_outside.specs.Files.{Files}
 use Rattle.queue_image.specs.FileNames.{meta_file}
 use Rattle.queue_image.specs.Metas.{IsIdle}
@@ -124,3 +125,9 @@ module _ (h0 h1 h3 : Hall) (i j : ℕ) (topic channel : List ℕ) (room room' : 
 -- as many topics as before a mark
 pub marked_range : (m i j k : ℕ) (old new : List Room) → AtStall i j (MarksStall m) old new → k < length old → k < length new
 marked_range m i j k old new mark l = omega (arith, ap length mark.is, length-set old i mark.after, l)
+
+-- and as many channels of the topic
+pub marked_stalls : (m i j : ℕ) (old new : List Room) → AtStall i j (MarksStall m) old new → HoldsAt (λ (r : Room). j < length r.stalls.items) new i
+marked_stalls m i j old new mark =
+    let in_range : j < length mark.after.stalls.items = omega (arith, ap length mark.does.stalls, length-set mark.room.stalls.items j mark.does.after, slice_get_within mark.room.stalls.items j mark.does.stall mark.does.there) in
+    λ d. subst (λ (r : Room). j < length r.stalls.items) (sym (ap (λ rs. get_or rs i d) mark.is ∙ get_or-set_same old i mark.after d (slice_get_within old i mark.room mark.there))) in_range

@@ -11,6 +11,7 @@ ghost use Rattle.floor_changes.specs.Going.{DropsRoom, DropsTopic, LostFails, Un
 ghost use Rattle.floor_changes.specs.declared.lost.Lost.TheVariants.{Done};
 
 use crate::Lost;
+use crate::items::{drop_at, put_back};
 use floor_rooms::{Hall, Room};
 use nsq_outside::Folder;
 use topic_core::DropTopic;
@@ -28,7 +29,7 @@ pub fn forget_room(hall: &mut Hall, i: usize)
     ensures names { NamesTold hall.old hall.new }
     ensures since { KeepsSince hall.old.moment hall.old.rooms.items hall.new.rooms.items }
 {
-    let _ = hall.rooms.remove(i);
+    drop_at(&mut hall.rooms, i);
 }
 
 /// Deletes a topic that has no channel, with its messages and the files of its queue. After Fault it is as it was, and may be unsaved.
@@ -69,9 +70,7 @@ pub fn delete_room<F: Folder>(hall: &mut Hall, folder: &mut F, i: usize) -> Lost
                 names,
                 stalls,
             };
-            let Ok(()) = hall.rooms.insert(i, room) else {
-                unreachable!()
-            };
+            put_back(&mut hall.rooms, i, room);
             Lost::Fault
         }
     }

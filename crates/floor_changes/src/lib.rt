@@ -2,6 +2,7 @@
 #![tactic(auto)]
 
 mod going;
+mod items;
 mod losing;
 mod lost;
 mod seating;

@@ -1,4 +1,4 @@
-ghost use Rattle.std.specs.Prelude.{◌≡◌, ◌≤◌, ◌<◌, ◌||◌, true, HoldsAt, IsTrue, MatchBool, length};
+ghost use Rattle.std.specs.Prelude.{◌≡◌, ◌≤◌, ◌<◌, ◌||◌, ◌++◌, true, HoldsAt, IsTrue, MatchBool, drop, length, suc, take};
 ghost use Rattle.nsq_outside.specs.Files.{Files};
 ghost use Rattle.backlog.specs.Lists.{DiskChanges};
 ghost use Rattle.broker_history.specs.State.{is_ephemeral_channel};
@@ -16,6 +16,7 @@ ghost use Rattle.floor_changes.specs.Losing.{DropsChannel, Forgets, LosesClients
 ghost use Rattle.floor_changes.specs.declared.lost.Lost.TheVariants.{Done};
 
 use crate::Lost;
+use crate::items::put_back;
 use channel_core::DropChannel;
 use floor_clients::{Client, place_of};
 use floor_rooms::{Hall, Room, Stall};
@@ -73,8 +74,25 @@ fn forget_stall(hall: &mut Hall, i: usize, j: usize)
     ensures since { KeepsSince hall.old.moment hall.old.rooms.items hall.new.rooms.items }
 {
     let topic = hall.rooms[i].name();
-    let stall = hall.rooms[i].stalls.remove(j);
-    strike(hall, i, topic, stall.name(), &stall.members);
+    let channel = hall.rooms[i].stalls[j].name();
+    let members = drop_stall(&mut hall.rooms[i], j);
+    strike(hall, i, topic, channel, &members);
+}
+
+// Drops the channel at a place of a topic, with its copies, and answers the numbers of its clients.
+fn drop_stall(room: &mut Room, j: usize) -> Vec<u64>
+    requires { j < length room.old.stalls.items }
+    ensures is { room.new ≡ record room.old { stalls = room.new.stalls } }
+    ensures left { room.new.stalls.items ≡ take j room.old.stalls.items ++ drop (suc j) room.old.stalls.items }
+    ensures members { HoldsAt (λ s. result.items ≡ s.members.items) room.old.stalls.items j }
+{
+    let Stall {
+        channel,
+        since: _,
+        members,
+    } = room.stalls.remove(j);
+    drop(channel);
+    members
 }
 
 // Deletes a durable channel, with its copies and the files of its queue. After Fault it is as it was, and may be unsaved.
@@ -130,9 +148,7 @@ fn take_out<F: Folder>(room: &mut Room, folder: &mut F, j: usize) -> Option<Vec<
                 since,
                 members,
             };
-            let Ok(()) = room.stalls.insert(j, stall) else {
-                unreachable!()
-            };
+            put_back(&mut room.stalls, j, stall);
             None
         }
     }

@@ -8,6 +8,7 @@ ghost use Rattle.floor_rooms.specs.Sound.{IsSound};
 ghost use Rattle.floor_rooms.specs.Standing.{Carries};
 ghost use Rattle.floor_changes.specs.Seating.{IsSeatOf};
 
+use crate::items::drop_at;
 use crate::seats::leave_in;
 use floor_rooms::Hall;
 
@@ -27,12 +28,12 @@ pub fn part(hall: &mut Hall, k: usize)
 {
     match seat_of(hall, k) {
         None => {
-            let _ = hall.clients.remove(k);
+            drop_at(&mut hall.clients, k);
         }
         Some(places) => {
             let number = hall.clients[k].number();
             leave_in(&mut hall.rooms[places.0].stalls[places.1], number);
-            let _ = hall.clients.remove(k);
+            drop_at(&mut hall.clients, k);
             hall.list_room(places.0);
         }
     }

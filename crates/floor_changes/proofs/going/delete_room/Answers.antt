@@ -48,45 +48,45 @@ returns-in-Done-clause-others g c = λ told d.
     subst (λ (n : List ℕ). OthersStay n old new) (marked_name h0 h1 c.args.i room mark.sound c.requires.room mark.room c.requires.none c.remove-queue.ensures.value d)
     (marked_others h0 h1 c.args.i room mark.sound c.requires.room mark.room c.requires.none c.remove-queue.ensures.value old new (c.delete.ensures.others told))
 
-pub returns-in-Ok-clause-sound : goal.returns-in-Ok-clause-sound
-returns-in-Ok-clause-sound g c =
+pub returns-in-Fault-clause-sound : goal.returns-in-Fault-clause-sound
+returns-in-Fault-clause-sound g c =
     let h0 = c.args.hall.now in
     let h1 = c.mark_room.new.self in
     let room = c.remove-queue.result in
     let mark = c.mark_room.ensures in
-    let back : AtRoom c.args.i KeepsBack h1.rooms.items c.insert.new.self.items = record {
+    let back : AtRoom c.args.i KeepsBack h1.rooms.items c.put_back.new.items.items = record {
       room = room;
       after = record room { queue = c.in-Fault.queue };
       there = marked_at h0 h1 c.args.i room mark.sound c.requires.room mark.room c.requires.none c.remove-queue.ensures.value;
-      is = c.in-Ok.ensures.items ∙ ap (λ (xs : List Room). insert xs c.args.i (record room { queue = c.in-Fault.queue })) c.remove-queue.ensures.items
+      is = c.put_back.ensures ∙ ap (λ (xs : List Room). insert xs c.args.i (record room { queue = c.in-Fault.queue })) c.remove-queue.ensures.items
           ∙ put_back_at h1.rooms.items c.args.i (record room { queue = c.in-Fault.queue }) (marked_range h0 h1 c.args.i room mark.sound c.requires.room mark.room c.requires.none c.remove-queue.ensures.value);
       does = (refl, c.in-Fault.ensures.seen);
     } in
-    back_sound h0 h1 c.args.i room mark.sound c.requires.room mark.room c.requires.none c.remove-queue.ensures.value (record h1 { rooms = c.insert.new.self }) refl back (keeps_rooms h1 c.insert.new.self h1.unsaved_names mark.sound)
+    back_sound h0 h1 c.args.i room mark.sound c.requires.room mark.room c.requires.none c.remove-queue.ensures.value (record h1 { rooms = c.put_back.new.items }) refl back (keeps_rooms h1 c.put_back.new.items h1.unsaved_names mark.sound)
 
-pub returns-in-Ok-clause-stands : goal.returns-in-Ok-clause-stands
-returns-in-Ok-clause-stands g c = λ told d s holds.
+pub returns-in-Fault-clause-stands : goal.returns-in-Fault-clause-stands
+returns-in-Fault-clause-stands g c = λ told d s holds.
     let h0 = c.args.hall.now in
     let h1 = c.mark_room.new.self in
     let room = c.remove-queue.result in
     let mark = c.mark_room.ensures in
     let old = g.F.Folder.files c.args.folder.now in
     let new = g.F.Folder.files c.delete.new.folder in
-    let back : AtRoom c.args.i KeepsBack h1.rooms.items c.insert.new.self.items = record {
+    let back : AtRoom c.args.i KeepsBack h1.rooms.items c.put_back.new.items.items = record {
       room = room;
       after = record room { queue = c.in-Fault.queue };
       there = marked_at h0 h1 c.args.i room mark.sound c.requires.room mark.room c.requires.none c.remove-queue.ensures.value;
-      is = c.in-Ok.ensures.items ∙ ap (λ (xs : List Room). insert xs c.args.i (record room { queue = c.in-Fault.queue })) c.remove-queue.ensures.items
+      is = c.put_back.ensures ∙ ap (λ (xs : List Room). insert xs c.args.i (record room { queue = c.in-Fault.queue })) c.remove-queue.ensures.items
           ∙ put_back_at h1.rooms.items c.args.i (record room { queue = c.in-Fault.queue }) (marked_range h0 h1 c.args.i room mark.sound c.requires.room mark.room c.requires.none c.remove-queue.ensures.value);
       does = (refl, c.in-Fault.ensures.seen);
     } in (
       s,
       refl,
-      back_stands h0 h1 c.args.i room mark.sound c.requires.room mark.room c.requires.none c.remove-queue.ensures.value (record h1 { rooms = c.insert.new.self }) refl back old new s (c.delete.ensures.others told) (c.in-Fault.ensures.row told) (c.in-Fault.ensures.stands told) (mark.stands old s holds),
+      back_stands h0 h1 c.args.i room mark.sound c.requires.room mark.room c.requires.none c.remove-queue.ensures.value (record h1 { rooms = c.put_back.new.items }) refl back old new s (c.delete.ensures.others told) (c.in-Fault.ensures.row told) (c.in-Fault.ensures.stands told) (mark.stands old s holds),
     )
 
-pub returns-in-Ok-clause-others : goal.returns-in-Ok-clause-others
-returns-in-Ok-clause-others g c = λ told d.
+pub returns-in-Fault-clause-others : goal.returns-in-Fault-clause-others
+returns-in-Fault-clause-others g c = λ told d.
     let h0 = c.args.hall.now in
     let h1 = c.mark_room.new.self in
     let room = c.remove-queue.result in
@@ -120,33 +120,33 @@ returns-in-Done-clause-since g c =
     let mark = c.mark_room.ensures in
     since_without h0.moment h0.rooms.items c.remove-queue.new.self.items (topic_name (get_or h0.rooms.items c.args.i room)) (marked_gone h0 h1 c.args.i room mark.sound c.requires.room mark.room c.requires.none c.remove-queue.ensures.value c.requires.sound c.remove-queue.new.self.items c.remove-queue.ensures.items room)
 
-pub returns-in-Ok-clause-rooms : goal.returns-in-Ok-clause-rooms
-returns-in-Ok-clause-rooms g c = λ d.
+pub returns-in-Fault-clause-rooms : goal.returns-in-Fault-clause-rooms
+returns-in-Fault-clause-rooms g c = λ d.
     let h0 = c.args.hall.now in
     let h1 = c.mark_room.new.self in
     let room = c.remove-queue.result in
     let mark = c.mark_room.ensures in
-    let back : AtRoom c.args.i KeepsBack h1.rooms.items c.insert.new.self.items = record {
+    let back : AtRoom c.args.i KeepsBack h1.rooms.items c.put_back.new.items.items = record {
       room = room;
       after = record room { queue = c.in-Fault.queue };
       there = marked_at h0 h1 c.args.i room mark.sound c.requires.room mark.room c.requires.none c.remove-queue.ensures.value;
-      is = c.in-Ok.ensures.items ∙ ap (λ (xs : List Room). insert xs c.args.i (record room { queue = c.in-Fault.queue })) c.remove-queue.ensures.items
+      is = c.put_back.ensures ∙ ap (λ (xs : List Room). insert xs c.args.i (record room { queue = c.in-Fault.queue })) c.remove-queue.ensures.items
           ∙ put_back_at h1.rooms.items c.args.i (record room { queue = c.in-Fault.queue }) (marked_range h0 h1 c.args.i room mark.sound c.requires.room mark.room c.requires.none c.remove-queue.ensures.value);
       does = (refl, c.in-Fault.ensures.seen);
     } in
-    back_keeps h0 h1 c.args.i room mark.sound c.requires.room mark.room c.requires.none c.remove-queue.ensures.value (record h1 { rooms = c.insert.new.self }) refl back
+    back_keeps h0 h1 c.args.i room mark.sound c.requires.room mark.room c.requires.none c.remove-queue.ensures.value (record h1 { rooms = c.put_back.new.items }) refl back
 
-pub returns-in-Ok-clause-files : goal.returns-in-Ok-clause-files
-returns-in-Ok-clause-files g c = λ told.
+pub returns-in-Fault-clause-files : goal.returns-in-Fault-clause-files
+returns-in-Fault-clause-files g c = λ told.
     let h0 = c.args.hall.now in
     let h1 = c.mark_room.new.self in
     let room = c.remove-queue.result in
     let mark = c.mark_room.ensures in
     marked_only h0 h1 c.args.i room mark.sound c.requires.room mark.room c.requires.none c.remove-queue.ensures.value (g.F.Folder.files c.args.folder.now) (g.F.Folder.files c.delete.new.folder) (c.delete.ensures.others told)
 
-pub returns-in-Ok-clause-names : goal.returns-in-Ok-clause-names
-returns-in-Ok-clause-names g c =
-    names_kept c.args.hall.now.moment c.args.hall.now (record (c.mark_room.new.self) { rooms = c.insert.new.self }) (ap (λ (x : Hall). x.unsaved_names) c.mark_room.ensures.rest) (returns-in-Ok-clause-rooms g c c.remove-queue.result)
+pub returns-in-Fault-clause-names : goal.returns-in-Fault-clause-names
+returns-in-Fault-clause-names g c =
+    names_kept c.args.hall.now.moment c.args.hall.now (record (c.mark_room.new.self) { rooms = c.put_back.new.items }) (ap (λ (x : Hall). x.unsaved_names) c.mark_room.ensures.rest) (returns-in-Fault-clause-rooms g c c.remove-queue.result)
 
-pub returns-in-Ok-clause-since : goal.returns-in-Ok-clause-since
-returns-in-Ok-clause-since g c = since_kept c.args.hall.now.moment c.args.hall.now.rooms.items c.insert.new.self.items (returns-in-Ok-clause-rooms g c c.remove-queue.result)
+pub returns-in-Fault-clause-since : goal.returns-in-Fault-clause-since
+returns-in-Fault-clause-since g c = since_kept c.args.hall.now.moment c.args.hall.now.rooms.items c.put_back.new.items.items (returns-in-Fault-clause-rooms g c c.remove-queue.result)

@@ -10,13 +10,13 @@ use Rattle.floor_rooms.specs.declared.hall.Hall.{Hall}
 use Rattle.floor_rooms.specs.Rooms.{channel_name, topic_name}
 use Rattle.floor_rooms.specs.Changes.{AtStall, OthersStay}
 use Rattle.floor_rooms.proofs.Placing.{at_place}
-use Rattle.floor_rooms.proofs.Marked.{MarksStall}
+use Rattle.floor_rooms.proofs.Marked.{MarksStall, range_of}
 use Rattle.floor_rooms.proofs.Dating.{since_kept}
-use Rattle.floor_rooms.proofs.Naming.{names_kept}
+use Rattle.floor_rooms.proofs.Naming.{names_kept, names_unsaved}
 use Rattle.floor_changes.specs.Losing.{StaysBack}
 use Rattle.floor_changes.proofs.Goes.{keeps_rooms}
-use Rattle.floor_changes.proofs.LostPlaces.{at_stall_held, back_keeps, back_sound, back_stands, channel_was, held_stall, lost_only, lost_others, read_same, topic_was}
-use Rattle.floor_changes.proofs.LostWhole.{GoesOut, gone_clients, gone_files, gone_others, gone_rooms, gone_since, gone_stands, marked_range, whole_sound}
+use Rattle.floor_changes.proofs.LostPlaces.{at_stall_held, back_keeps, back_sound, back_stands, channel_was, held_stall, lost_only, lost_others, none_drawn, read_same, settled_still, topic_was}
+use Rattle.floor_changes.proofs.LostWhole.{GoesOut, gone_clients, gone_files, gone_others, gone_rooms, gone_since, gone_stands, marked_range, marked_stalls, whole_sound}
 use Rattle.floor_changes.proofs.losing.delete_stall.Goals as goal
 
 pub returns-in-None-clause-rooms : goal.returns-in-None-clause-rooms
@@ -327,3 +327,65 @@ returns-in-Some-clause-stands g c = λ told.
       room3 = c.strike.ensures.room;
     } in
     gone_stands h0 h1 c.strike.new.hall c.args.i c.args.j c.name-topic.result c.name-channel.result room c.take_out.new.room stall (ap (λ (x : Hall). record x { unsaved_from = h1.unsaved_from }) mark.rest) mark.stall goes (g.F.Folder.files c.args.folder.now) (g.F.Folder.files c.take_out.new.folder) (at_stall_held (λ (s : Stall). DiskChanges s.channel.backlog.queue (g.F.Folder.files c.args.folder.now) (g.F.Folder.files c.take_out.new.folder)) room.stalls.items c.args.j stall (c.take_out.ensures.disk told) takes.there) (takes.found told) (mark.stands (g.F.Folder.files c.args.folder.now))
+
+pub take_out-requires-clause-stall : goal.take_out-requires-clause-stall
+take_out-requires-clause-stall g c =
+    let h0 = c.args.hall.now in
+    let h1 = c.mark_stall.new.self in
+    range_of c.args.j h1.rooms.items c.args.i c.index_mut.result.now c.index_mut.ensures.value (marked_stalls h0.moment c.args.i c.args.j h0.rooms.items h1.rooms.items c.mark_stall.ensures.stall)
+
+pub take_out-requires-clause-nothing : goal.take_out-requires-clause-nothing
+take_out-requires-clause-nothing g c =
+    let h0 = c.args.hall.now in
+    let h1 = c.mark_stall.new.self in
+    let mark = c.mark_stall.ensures in
+    let room = c.index_mut.result.now in
+    let at : slice_get h1.rooms.items c.args.i ≡ Some room = at_place h1.rooms.items c.args.i room (marked_range h0.moment c.args.i c.args.j c.args.i h0.rooms.items h1.rooms.items mark.stall c.requires.room) c.index_mut.ensures.value in
+    none_drawn h1 c.args.i room mark.sound at c.args.j (take_out-requires-clause-stall g c)
+
+pub strike-requires-clause-order : goal.strike-requires-clause-order
+strike-requires-clause-order g c = c.mark_stall.ensures.sound.client_order
+
+pub strike-requires-clause-settled : goal.strike-requires-clause-settled
+strike-requires-clause-settled g c =
+    let h0 = c.args.hall.now in
+    let h1 = c.mark_stall.new.self in
+    let mark = c.mark_stall.ensures in
+    let room = c.index_mut.result.now in
+    let at : slice_get h1.rooms.items c.args.i ≡ Some room = at_place h1.rooms.items c.args.i room (marked_range h0.moment c.args.i c.args.j c.args.i h0.rooms.items h1.rooms.items mark.stall c.requires.room) c.index_mut.ensures.value in
+    settled_still h1 c.args.i room mark.sound at c.take_out.new.room (ap (λ (r : Room). r.queue) c.in-Some.ensures.takes.is)
+
+pub returns-in-None-clause-rest : goal.returns-in-None-clause-rest
+returns-in-None-clause-rest g c =
+    let h1 = c.mark_stall.new.self in
+    ap (λ (x : Hall). record x { rooms = with_item h1.rooms c.args.i c.take_out.new.room; clients = h1.clients; unsaved_names = h1.unsaved_names; unsaved_from = h1.unsaved_from }) c.mark_stall.ensures.rest
+
+pub returns-in-None-clause-clients : goal.returns-in-None-clause-clients
+returns-in-None-clause-clients g c = λ d e. ap (λ (x : Hall). x.clients.items) c.mark_stall.ensures.rest
+
+pub returns-in-None-clause-faults : goal.returns-in-None-clause-faults
+returns-in-None-clause-faults g c = c.take_out.ensures.faults
+
+pub returns-in-None-clause-cause : goal.returns-in-None-clause-cause
+returns-in-None-clause-cause g c = c.in-None.ensures.cause
+
+pub returns-in-None-clause-unsaved : goal.returns-in-None-clause-unsaved
+returns-in-None-clause-unsaved g c = ap (λ (x : Hall). x.unsaved_names) c.mark_stall.ensures.rest
+
+pub returns-in-Some-clause-rest : goal.returns-in-Some-clause-rest
+returns-in-Some-clause-rest g c =
+    let h3 = c.strike.new.hall in
+    ap (λ (x : Hall). record x { unsaved_names = h3.unsaved_names; unsaved_from = h3.unsaved_from }) c.strike.ensures.rest
+    ∙ ap (λ (x : Hall). record x { rooms = h3.rooms; clients = h3.clients; unsaved_names = h3.unsaved_names; unsaved_from = h3.unsaved_from }) c.mark_stall.ensures.rest
+
+pub returns-in-Some-clause-names : goal.returns-in-Some-clause-names
+returns-in-Some-clause-names g c = names_unsaved c.args.hall.now c.strike.new.hall (ap (λ (x : Hall). x.unsaved_names) c.strike.ensures.rest)
+
+pub returns-in-Some-clause-faults : goal.returns-in-Some-clause-faults
+returns-in-Some-clause-faults g c = c.take_out.ensures.faults
+
+pub returns-in-Some-clause-cause : goal.returns-in-Some-clause-cause
+returns-in-Some-clause-cause g c = tt
+
+pub returns-in-Some-clause-unsaved : goal.returns-in-Some-clause-unsaved
+returns-in-Some-clause-unsaved g c = ap (λ (x : Hall). x.unsaved_names) c.strike.ensures.rest

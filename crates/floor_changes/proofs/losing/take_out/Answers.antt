@@ -15,8 +15,8 @@ returns-in-Done-clause-takes g c = record {
   found = λ told. c.in-Done.ensures.found told;
 }
 
-pub returns-in-Ok-clause-takes : goal.returns-in-Ok-clause-takes
-returns-in-Ok-clause-takes g c =
+pub returns-in-Fault-clause-takes : goal.returns-in-Fault-clause-takes
+returns-in-Fault-clause-takes g c =
     let stall = c.remove-channel.result in
     let after = record stall { channel = c.in-Fault.channel } in
     record {
@@ -24,6 +24,6 @@ returns-in-Ok-clause-takes g c =
       after = after;
       there = at_place c.args.room.now.stalls.items c.args.j stall c.requires.stall c.remove-channel.ensures.value;
       is = refl;
-      stalls = c.in-Ok.ensures.items ∙ ap (λ (xs : List Stall). insert xs c.args.j after) c.remove-channel.ensures.items ∙ put_back_at c.args.room.now.stalls.items c.args.j after c.requires.stall;
+      stalls = c.put_back.ensures ∙ ap (λ (xs : List Stall). insert xs c.args.j after) c.remove-channel.ensures.items ∙ put_back_at c.args.room.now.stalls.items c.args.j after c.requires.stall;
       does = record { is = refl; seen = c.in-Fault.ensures.seen; row = λ told. c.in-Fault.ensures.row told; stands = λ told. c.in-Fault.ensures.stands told };
     }

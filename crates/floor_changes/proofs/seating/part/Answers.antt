@@ -82,7 +82,7 @@ returns-in-None-clause-clients c = λ d.
     let x = some_at h.clients.items k c.requires.client in
     let read : (d : Client) → get_or h.clients.items k d ≡ x.0 = λ d. get_or_from_slice_get h.clients.items k x.0 d x.1 in
     let none : held_channel x.0.phase x.0.route ≡ None = subst (λ (y : Client). held_channel y.phase y.route ≡ None) (read x.0) (c.in-None.ensures x.0) in
-    free_clients h c.remove.new.self k x.0 c.requires.sound x.1 none c.remove.ensures.items ∙ ap (λ (y : Client). without_client h.clients.items y.number) (sym (read d))
+    free_clients h c.drop_at.new.items k x.0 c.requires.sound x.1 none c.drop_at.ensures ∙ ap (λ (y : Client). without_client h.clients.items y.number) (sym (read d))
 
 pub returns-in-None-clause-sound : goal.returns-in-None-clause-sound
 returns-in-None-clause-sound c =
@@ -91,7 +91,7 @@ returns-in-None-clause-sound c =
     let x = some_at h.clients.items k c.requires.client in
     let read : (d : Client) → get_or h.clients.items k d ≡ x.0 = λ d. get_or_from_slice_get h.clients.items k x.0 d x.1 in
     let none : held_channel x.0.phase x.0.route ≡ None = subst (λ (y : Client). held_channel y.phase y.route ≡ None) (read x.0) (c.in-None.ensures x.0) in
-    free_sound h c.remove.new.self k x.0 c.requires.sound x.1 none c.remove.ensures.items
+    free_sound h c.drop_at.new.items k x.0 c.requires.sound x.1 none c.drop_at.ensures
 
 pub returns-in-None-clause-stands : goal.returns-in-None-clause-stands
 returns-in-None-clause-stands c = λ files d u holds.
@@ -100,7 +100,7 @@ returns-in-None-clause-stands c = λ files d u holds.
     let x = some_at h.clients.items k c.requires.client in
     let read : (d : Client) → get_or h.clients.items k d ≡ x.0 = λ d. get_or_from_slice_get h.clients.items k x.0 d x.1 in
     let none : held_channel x.0.phase x.0.route ≡ None = subst (λ (y : Client). held_channel y.phase y.route ≡ None) (read x.0) (c.in-None.ensures x.0) in
-    (record u { clients = without_client u.clients x.0.number }, ap (λ (y : Client). record u { clients = without_client u.clients y.number }) (sym (read d)), free_stands h c.remove.new.self k x.0 c.requires.sound x.1 none c.remove.ensures.items files u holds)
+    (record u { clients = without_client u.clients x.0.number }, ap (λ (y : Client). record u { clients = without_client u.clients y.number }) (sym (read d)), free_stands h c.drop_at.new.items k x.0 c.requires.sound x.1 none c.drop_at.ensures files u holds)
 
 pub returns-in-Some-clause-clients : goal.returns-in-Some-clause-clients
 returns-in-Some-clause-clients c = λ d.
@@ -115,10 +115,10 @@ returns-in-Some-clause-clients c = λ d.
     let first : HasSeat h.rooms.items client i j = subst (λ (x : Client). HasSeat h.rooms.items x i j) (get_or_from_slice_get h.clients.items k client client has) (c.in-Some.ensures client) in
     let seat : HasSeat h.rooms.items client i j = reseated h.rooms.items client i j first room stall c.index_mut.ensures.value c.index_mut-in-Some.ensures.value in
     let room1 = record room { stalls = with_item room.stalls j c.leave_in.new.stall } in
-    let h1 = record h { rooms = with_item h.rooms i room1; clients = c.remove-in-Some.new.self } in
+    let h1 = record h { rooms = with_item h.rooms i room1; clients = c.drop_at-in-Some.new.items } in
     let seats : Seats client.number None stall c.leave_in.new.stall = subst (λ (n : ℕ). Seats n None stall c.leave_in.new.stall) c.number-number.ensures c.leave_in.ensures in
     let read : (d : Client) → client ≡ get_or h.clients.items k d = λ d. sym (get_or_from_slice_get h.clients.items k client d has) in
-    ap (λ (x : Hall). x.clients.items) c.list_room.ensures.rest ∙ left_clients h k i j client c.requires.sound has seat h1 room1 c.leave_in.new.stall refl refl refl refl refl seats c.remove-in-Some.ensures.items ∙ ap (λ (y : Client). without_client h.clients.items y.number) (read d)
+    ap (λ (x : Hall). x.clients.items) c.list_room.ensures.rest ∙ left_clients h k i j client c.requires.sound has seat h1 room1 c.leave_in.new.stall refl refl refl refl refl seats c.drop_at-in-Some.ensures ∙ ap (λ (y : Client). without_client h.clients.items y.number) (read d)
 
 pub returns-in-Some-clause-sound : goal.returns-in-Some-clause-sound
 returns-in-Some-clause-sound c =
@@ -133,10 +133,10 @@ returns-in-Some-clause-sound c =
     let first : HasSeat h.rooms.items client i j = subst (λ (x : Client). HasSeat h.rooms.items x i j) (get_or_from_slice_get h.clients.items k client client has) (c.in-Some.ensures client) in
     let seat : HasSeat h.rooms.items client i j = reseated h.rooms.items client i j first room stall c.index_mut.ensures.value c.index_mut-in-Some.ensures.value in
     let room1 = record room { stalls = with_item room.stalls j c.leave_in.new.stall } in
-    let h1 = record h { rooms = with_item h.rooms i room1; clients = c.remove-in-Some.new.self } in
+    let h1 = record h { rooms = with_item h.rooms i room1; clients = c.drop_at-in-Some.new.items } in
     let seats : Seats client.number None stall c.leave_in.new.stall = subst (λ (n : ℕ). Seats n None stall c.leave_in.new.stall) c.number-number.ensures c.leave_in.ensures in
     let read : (d : Client) → client ≡ get_or h.clients.items k d = λ d. sym (get_or_from_slice_get h.clients.items k client d has) in
-    c.list_room.ensures.sound (left_sound h k i j client c.requires.sound has seat h1 room1 c.leave_in.new.stall refl refl refl refl refl seats c.remove-in-Some.ensures.items)
+    c.list_room.ensures.sound (left_sound h k i j client c.requires.sound has seat h1 room1 c.leave_in.new.stall refl refl refl refl refl seats c.drop_at-in-Some.ensures)
 
 pub returns-in-Some-clause-stands : goal.returns-in-Some-clause-stands
 returns-in-Some-clause-stands c = λ files d u holds.
@@ -151,10 +151,10 @@ returns-in-Some-clause-stands c = λ files d u holds.
     let first : HasSeat h.rooms.items client i j = subst (λ (x : Client). HasSeat h.rooms.items x i j) (get_or_from_slice_get h.clients.items k client client has) (c.in-Some.ensures client) in
     let seat : HasSeat h.rooms.items client i j = reseated h.rooms.items client i j first room stall c.index_mut.ensures.value c.index_mut-in-Some.ensures.value in
     let room1 = record room { stalls = with_item room.stalls j c.leave_in.new.stall } in
-    let h1 = record h { rooms = with_item h.rooms i room1; clients = c.remove-in-Some.new.self } in
+    let h1 = record h { rooms = with_item h.rooms i room1; clients = c.drop_at-in-Some.new.items } in
     let seats : Seats client.number None stall c.leave_in.new.stall = subst (λ (n : ℕ). Seats n None stall c.leave_in.new.stall) c.number-number.ensures c.leave_in.ensures in
     let read : (d : Client) → client ≡ get_or h.clients.items k d = λ d. sym (get_or_from_slice_get h.clients.items k client d has) in
-    (record u { clients = without_client u.clients client.number }, ap (λ (y : Client). record u { clients = without_client u.clients y.number }) (read d), c.list_room.ensures.stands files (record u { clients = without_client u.clients client.number }) (left_stands h k i j client c.requires.sound has seat h1 room1 c.leave_in.new.stall refl refl refl refl refl seats c.remove-in-Some.ensures.items files u holds))
+    (record u { clients = without_client u.clients client.number }, ap (λ (y : Client). record u { clients = without_client u.clients y.number }) (read d), c.list_room.ensures.stands files (record u { clients = without_client u.clients client.number }) (left_stands h k i j client c.requires.sound has seat h1 room1 c.leave_in.new.stall refl refl refl refl refl seats c.drop_at-in-Some.ensures files u holds))
 
 pub returns-in-Some-clause-names : goal.returns-in-Some-clause-names
 returns-in-Some-clause-names c =
@@ -169,10 +169,10 @@ returns-in-Some-clause-names c =
     let first : HasSeat h.rooms.items client i j = subst (λ (x : Client). HasSeat h.rooms.items x i j) (get_or_from_slice_get h.clients.items k client client has) (c.in-Some.ensures client) in
     let seat : HasSeat h.rooms.items client i j = reseated h.rooms.items client i j first room stall c.index_mut.ensures.value c.index_mut-in-Some.ensures.value in
     let room1 = record room { stalls = with_item room.stalls j c.leave_in.new.stall } in
-    let h1 = record h { rooms = with_item h.rooms i room1; clients = c.remove-in-Some.new.self } in
+    let h1 = record h { rooms = with_item h.rooms i room1; clients = c.drop_at-in-Some.new.items } in
     let seats : Seats client.number None stall c.leave_in.new.stall = subst (λ (n : ℕ). Seats n None stall c.leave_in.new.stall) c.number-number.ensures c.leave_in.ensures in
     let read : (d : Client) → client ≡ get_or h.clients.items k d = λ d. sym (get_or_from_slice_get h.clients.items k client d has) in
-    names_then h h1 c.list_room.new.self (left_names h k i j client c.requires.sound has seat h1 room1 c.leave_in.new.stall refl refl refl refl refl seats c.remove-in-Some.ensures.items) (names_kept h.moment h1 c.list_room.new.self (ap (λ (x : Hall). x.unsaved_names) c.list_room.ensures.rest) (keeps_lists h.moment i h1.pending.items c.list_room.new.self.pending.items h1.rooms.items c.list_room.new.self.rooms.items c.list_room.ensures.room))
+    names_then h h1 c.list_room.new.self (left_names h k i j client c.requires.sound has seat h1 room1 c.leave_in.new.stall refl refl refl refl refl seats c.drop_at-in-Some.ensures) (names_kept h.moment h1 c.list_room.new.self (ap (λ (x : Hall). x.unsaved_names) c.list_room.ensures.rest) (keeps_lists h.moment i h1.pending.items c.list_room.new.self.pending.items h1.rooms.items c.list_room.new.self.rooms.items c.list_room.ensures.room))
 
 pub returns-in-Some-clause-since : goal.returns-in-Some-clause-since
 returns-in-Some-clause-since c =
@@ -187,7 +187,7 @@ returns-in-Some-clause-since c =
     let first : HasSeat h.rooms.items client i j = subst (λ (x : Client). HasSeat h.rooms.items x i j) (get_or_from_slice_get h.clients.items k client client has) (c.in-Some.ensures client) in
     let seat : HasSeat h.rooms.items client i j = reseated h.rooms.items client i j first room stall c.index_mut.ensures.value c.index_mut-in-Some.ensures.value in
     let room1 = record room { stalls = with_item room.stalls j c.leave_in.new.stall } in
-    let h1 = record h { rooms = with_item h.rooms i room1; clients = c.remove-in-Some.new.self } in
+    let h1 = record h { rooms = with_item h.rooms i room1; clients = c.drop_at-in-Some.new.items } in
     let seats : Seats client.number None stall c.leave_in.new.stall = subst (λ (n : ℕ). Seats n None stall c.leave_in.new.stall) c.number-number.ensures c.leave_in.ensures in
     let read : (d : Client) → client ≡ get_or h.clients.items k d = λ d. sym (get_or_from_slice_get h.clients.items k client d has) in
-    since_then_kept h.moment h.rooms.items h1.rooms.items c.list_room.new.self.rooms.items (left_since h k i j client c.requires.sound has seat h1 room1 c.leave_in.new.stall refl refl refl refl refl seats c.remove-in-Some.ensures.items) (keeps_lists h.moment i h1.pending.items c.list_room.new.self.pending.items h1.rooms.items c.list_room.new.self.rooms.items c.list_room.ensures.room)
+    since_then_kept h.moment h.rooms.items h1.rooms.items c.list_room.new.self.rooms.items (left_since h k i j client c.requires.sound has seat h1 room1 c.leave_in.new.stall refl refl refl refl refl seats c.drop_at-in-Some.ensures) (keeps_lists h.moment i h1.pending.items c.list_room.new.self.pending.items h1.rooms.items c.list_room.new.self.rooms.items c.list_room.ensures.room)

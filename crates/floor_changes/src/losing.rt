@@ -75,22 +75,21 @@ fn forget_stall(hall: &mut Hall, i: usize, j: usize)
 {
     let topic = hall.rooms[i].name();
     let channel = hall.rooms[i].stalls[j].name();
-    let members = drop_stall(&mut hall.rooms[i], j);
+    let members = drop_stall(&mut hall.rooms[i].stalls, j);
     strike(hall, i, topic, channel, &members);
 }
 
-// Drops the channel at a place of a topic, with its copies, and answers the numbers of its clients.
-fn drop_stall(room: &mut Room, j: usize) -> Vec<u64>
-    requires { j < length room.old.stalls.items }
-    ensures is { room.new ≡ record room.old { stalls = room.new.stalls } }
-    ensures left { room.new.stalls.items ≡ take j room.old.stalls.items ++ drop (suc j) room.old.stalls.items }
-    ensures members { HoldsAt (λ s. result.items ≡ s.members.items) room.old.stalls.items j }
+// Drops the channel at a place, with its copies, and answers the numbers of its clients.
+fn drop_stall(stalls: &mut Vec<Stall>, j: usize) -> Vec<u64>
+    requires { j < length stalls.old.items }
+    ensures left { stalls.new.items ≡ take j stalls.old.items ++ drop (suc j) stalls.old.items }
+    ensures members { HoldsAt (λ s. result.items ≡ s.members.items) stalls.old.items j }
 {
     let Stall {
         channel,
         since: _,
         members,
-    } = room.stalls.remove(j);
+    } = stalls.remove(j);
     drop(channel);
     members
 }

@@ -1,4 +1,4 @@
-use Rattle.std.proofs.Common.{◌≡◌, ◌∙◌, true, Some, get_or, ap}
+use Rattle.std.proofs.Common.{◌≡◌, ◌∙◌, true, Some, get_or, refl, ap}
 use Rattle.std.specs.List.{slice_get}
 use Rattle.std.proofs.lemmas.Option.{slice_get-get_or}
 use Rattle.broker_history.specs.State.{is_ephemeral_channel}
@@ -15,7 +15,7 @@ pub returns-clause-rooms : goal.returns-clause-rooms
 returns-clause-rooms c =
     let h = c.args.hall.now in
     let room = c.index_mut.result.now in
-    let room2 = c.drop_stall-members.new.room in
+    let room2 = record room { stalls = c.drop_stall-members.new.stalls } in
     let stall = get_or room.stalls.items c.args.j c.index-3.result.now in
     let at : slice_get h.rooms.items c.args.i ≡ Some room = at_place h.rooms.items c.args.i room c.requires.room c.index_mut.ensures.value in
     let there : slice_get room.stalls.items c.args.j ≡ Some stall = slice_get-get_or room.stalls.items c.args.j c.index-3.result.now (range_of c.args.j h.rooms.items c.args.i room c.index_mut.ensures.value c.requires.stall) in
@@ -28,7 +28,7 @@ returns-clause-rooms c =
       there = there;
       called = c.name-topic.ensures ∙ ap topic_name (read_same h.rooms.items c.args.i room c.index.result.now at c.index.ensures);
       named = named;
-      is = c.drop_stall-members.ensures.is;
+      is = refl;
       left = c.drop_stall-members.ensures.left;
       numbers = c.deref.result.now;
       members = c.deref.ensures.value ∙ c.drop_stall-members.ensures.members c.index-3.result.now;
@@ -42,7 +42,7 @@ pub returns-clause-clients : goal.returns-clause-clients
 returns-clause-clients c =
     let h = c.args.hall.now in
     let room = c.index_mut.result.now in
-    let room2 = c.drop_stall-members.new.room in
+    let room2 = record room { stalls = c.drop_stall-members.new.stalls } in
     let stall = get_or room.stalls.items c.args.j c.index-3.result.now in
     let at : slice_get h.rooms.items c.args.i ≡ Some room = at_place h.rooms.items c.args.i room c.requires.room c.index_mut.ensures.value in
     let there : slice_get room.stalls.items c.args.j ≡ Some stall = slice_get-get_or room.stalls.items c.args.j c.index-3.result.now (range_of c.args.j h.rooms.items c.args.i room c.index_mut.ensures.value c.requires.stall) in
@@ -55,7 +55,7 @@ returns-clause-clients c =
       there = there;
       called = c.name-topic.ensures ∙ ap topic_name (read_same h.rooms.items c.args.i room c.index.result.now at c.index.ensures);
       named = named;
-      is = c.drop_stall-members.ensures.is;
+      is = refl;
       left = c.drop_stall-members.ensures.left;
       numbers = c.deref.result.now;
       members = c.deref.ensures.value ∙ c.drop_stall-members.ensures.members c.index-3.result.now;
@@ -69,7 +69,7 @@ pub returns-clause-sound : goal.returns-clause-sound
 returns-clause-sound c =
     let h = c.args.hall.now in
     let room = c.index_mut.result.now in
-    let room2 = c.drop_stall-members.new.room in
+    let room2 = record room { stalls = c.drop_stall-members.new.stalls } in
     let stall = get_or room.stalls.items c.args.j c.index-3.result.now in
     let at : slice_get h.rooms.items c.args.i ≡ Some room = at_place h.rooms.items c.args.i room c.requires.room c.index_mut.ensures.value in
     let there : slice_get room.stalls.items c.args.j ≡ Some stall = slice_get-get_or room.stalls.items c.args.j c.index-3.result.now (range_of c.args.j h.rooms.items c.args.i room c.index_mut.ensures.value c.requires.stall) in
@@ -82,7 +82,7 @@ returns-clause-sound c =
       there = there;
       called = c.name-topic.ensures ∙ ap topic_name (read_same h.rooms.items c.args.i room c.index.result.now at c.index.ensures);
       named = named;
-      is = c.drop_stall-members.ensures.is;
+      is = refl;
       left = c.drop_stall-members.ensures.left;
       numbers = c.deref.result.now;
       members = c.deref.ensures.value ∙ c.drop_stall-members.ensures.members c.index-3.result.now;
@@ -96,7 +96,7 @@ pub returns-clause-stands : goal.returns-clause-stands
 returns-clause-stands c = λ files.
     let h = c.args.hall.now in
     let room = c.index_mut.result.now in
-    let room2 = c.drop_stall-members.new.room in
+    let room2 = record room { stalls = c.drop_stall-members.new.stalls } in
     let stall = get_or room.stalls.items c.args.j c.index-3.result.now in
     let at : slice_get h.rooms.items c.args.i ≡ Some room = at_place h.rooms.items c.args.i room c.requires.room c.index_mut.ensures.value in
     let there : slice_get room.stalls.items c.args.j ≡ Some stall = slice_get-get_or room.stalls.items c.args.j c.index-3.result.now (range_of c.args.j h.rooms.items c.args.i room c.index_mut.ensures.value c.requires.stall) in
@@ -109,7 +109,7 @@ returns-clause-stands c = λ files.
       there = there;
       called = c.name-topic.ensures ∙ ap topic_name (read_same h.rooms.items c.args.i room c.index.result.now at c.index.ensures);
       named = named;
-      is = c.drop_stall-members.ensures.is;
+      is = refl;
       left = c.drop_stall-members.ensures.left;
       numbers = c.deref.result.now;
       members = c.deref.ensures.value ∙ c.drop_stall-members.ensures.members c.index-3.result.now;
@@ -123,7 +123,7 @@ pub returns-clause-names : goal.returns-clause-names
 returns-clause-names c =
     let h = c.args.hall.now in
     let room = c.index_mut.result.now in
-    let room2 = c.drop_stall-members.new.room in
+    let room2 = record room { stalls = c.drop_stall-members.new.stalls } in
     let stall = get_or room.stalls.items c.args.j c.index-3.result.now in
     let at : slice_get h.rooms.items c.args.i ≡ Some room = at_place h.rooms.items c.args.i room c.requires.room c.index_mut.ensures.value in
     let there : slice_get room.stalls.items c.args.j ≡ Some stall = slice_get-get_or room.stalls.items c.args.j c.index-3.result.now (range_of c.args.j h.rooms.items c.args.i room c.index_mut.ensures.value c.requires.stall) in
@@ -136,7 +136,7 @@ returns-clause-names c =
       there = there;
       called = c.name-topic.ensures ∙ ap topic_name (read_same h.rooms.items c.args.i room c.index.result.now at c.index.ensures);
       named = named;
-      is = c.drop_stall-members.ensures.is;
+      is = refl;
       left = c.drop_stall-members.ensures.left;
       numbers = c.deref.result.now;
       members = c.deref.ensures.value ∙ c.drop_stall-members.ensures.members c.index-3.result.now;
@@ -150,7 +150,7 @@ pub returns-clause-since : goal.returns-clause-since
 returns-clause-since c =
     let h = c.args.hall.now in
     let room = c.index_mut.result.now in
-    let room2 = c.drop_stall-members.new.room in
+    let room2 = record room { stalls = c.drop_stall-members.new.stalls } in
     let stall = get_or room.stalls.items c.args.j c.index-3.result.now in
     let at : slice_get h.rooms.items c.args.i ≡ Some room = at_place h.rooms.items c.args.i room c.requires.room c.index_mut.ensures.value in
     let there : slice_get room.stalls.items c.args.j ≡ Some stall = slice_get-get_or room.stalls.items c.args.j c.index-3.result.now (range_of c.args.j h.rooms.items c.args.i room c.index_mut.ensures.value c.requires.stall) in
@@ -163,7 +163,7 @@ returns-clause-since c =
       there = there;
       called = c.name-topic.ensures ∙ ap topic_name (read_same h.rooms.items c.args.i room c.index.result.now at c.index.ensures);
       named = named;
-      is = c.drop_stall-members.ensures.is;
+      is = refl;
       left = c.drop_stall-members.ensures.left;
       numbers = c.deref.result.now;
       members = c.deref.ensures.value ∙ c.drop_stall-members.ensures.members c.index-3.result.now;

@@ -7,12 +7,14 @@ use Rattle.std.proofs.lemmas.Option.{get_or_from_slice_get, slice_get_within}
 use Rattle.broker_history.specs.State.{Client, without_client}
 use Rattle.channel_copies.specs.Clients.{client_of}
 use Rattle.floor_clients.specs.Seen.{held_channel}
+use Rattle.floor_rooms.specs.declared.room.Room.{Room}
 use Rattle.floor_rooms.specs.declared.hall.Hall.{Hall}
 use Rattle.floor_rooms.proofs.Placing.{at_place}
 use Rattle.floor_rooms.proofs.Forming.{some_at}
-use Rattle.floor_rooms.proofs.Dating.{keeps_lists, since_then_kept}
+use Rattle.floor_rooms.proofs.Dating.{keeps_lists, keeps_same, since_kept, since_then_kept}
 use Rattle.floor_rooms.proofs.Naming.{names_kept, names_then}
 use Rattle.floor_changes.specs.Seating.{HasSeat, Seats}
+use Rattle.floor_changes.proofs.LostPlaces.{read_same}
 use Rattle.floor_changes.proofs.SeatLeaves.{free_clients, free_sound, free_stands, left_clients, left_names, left_since, left_sound, left_stands, reseated, seat_known, seat_listed, seat_order}
 use Rattle.floor_changes.proofs.seating.part.Goals as goal
 
@@ -191,3 +193,45 @@ returns-in-Some-clause-since c =
     let seats : Seats client.number None stall c.leave_in.new.stall = subst (λ (n : ℕ). Seats n None stall c.leave_in.new.stall) c.number-number.ensures c.leave_in.ensures in
     let read : (d : Client) → client ≡ get_or h.clients.items k d = λ d. sym (get_or_from_slice_get h.clients.items k client d has) in
     since_then_kept h.moment h.rooms.items h1.rooms.items c.list_room.new.self.rooms.items (left_since h k i j client c.requires.sound has seat h1 room1 c.leave_in.new.stall refl refl refl refl refl seats c.drop_at-in-Some.ensures) (keeps_lists h.moment i h1.pending.items c.list_room.new.self.pending.items h1.rooms.items c.list_room.new.self.rooms.items c.list_room.ensures.room)
+
+pub index_mut-requires : goal.index_mut-requires
+index_mut-requires c =
+    let h = c.args.hall.now in
+    let k = c.args.k in
+    let i = c.in-Some.places.0 in
+    let j = c.in-Some.places.1 in
+    let client = c.index.result.now in
+    let has : slice_get h.clients.items k ≡ Some client = at_place h.clients.items k client c.requires.client c.index.ensures in
+    let first : HasSeat h.rooms.items client i j = subst (λ (x : Client). HasSeat h.rooms.items x i j) (get_or_from_slice_get h.clients.items k client client has) (c.in-Some.ensures client) in
+    let within : i < length h.rooms.items = slice_get_within h.rooms.items i first.room first.at in
+    omega (arith, within, h.rooms.ok.0)
+
+pub index_mut-requires-in-Some : goal.index_mut-requires-in-Some
+index_mut-requires-in-Some c =
+    let h = c.args.hall.now in
+    let k = c.args.k in
+    let i = c.in-Some.places.0 in
+    let j = c.in-Some.places.1 in
+    let client = c.index.result.now in
+    let has : slice_get h.clients.items k ≡ Some client = at_place h.clients.items k client c.requires.client c.index.ensures in
+    let first : HasSeat h.rooms.items client i j = subst (λ (x : Client). HasSeat h.rooms.items x i j) (get_or_from_slice_get h.clients.items k client client has) (c.in-Some.ensures client) in
+    let room = c.index_mut.result.now in
+    let within : j < length room.stalls.items = subst (λ (r : Room). j < length r.stalls.items) (sym (read_same h.rooms.items i first.room c.index_mut.result.now first.at c.index_mut.ensures.value)) (slice_get_within first.room.stalls.items j first.stall first.there) in
+    omega (arith, within, room.stalls.ok.0)
+
+pub list_room-requires-clause-space : goal.list_room-requires-clause-space
+list_room-requires-clause-space c = c.requires.space
+
+pub returns-in-None-clause-rest : goal.returns-in-None-clause-rest
+returns-in-None-clause-rest c = refl
+
+pub returns-in-None-clause-names : goal.returns-in-None-clause-names
+returns-in-None-clause-names c = record { before = λ e. e; same = λ e. refl }
+
+pub returns-in-None-clause-since : goal.returns-in-None-clause-since
+returns-in-None-clause-since c =
+    let h = c.args.hall.now in
+    since_kept h.moment h.rooms.items h.rooms.items (keeps_same h.moment h.rooms.items)
+
+pub returns-in-Some-clause-rest : goal.returns-in-Some-clause-rest
+returns-in-Some-clause-rest c = ap (λ (x : Hall). record x { clients = c.list_room.new.self.clients }) c.list_room.ensures.rest

@@ -6,6 +6,7 @@ use Rattle.nsq_outside.specs.Causes.{Rose}
 use Rattle.nsq_outside.specs.Files.{Files}
 use Rattle.nsq_outside.specs.declared.journal.End.TheVariants as end
 use Rattle.broker_history.specs.declared.entry.Act.{Act}
+use Rattle.broker_history.specs.declared.entry.Entry.{Entry}
 use Rattle.broker_history.specs.declared.entry.Act.TheVariants.{Began, Beat, Gone, Stop, Refused, Idle, Silent, Dropped, Listed, Ticked}
 use Rattle.broker_history.specs.State.{Client, State, put_client, without_client}
 use Rattle.broker_history.specs.Entries.{is_faulted, is_stop}
@@ -23,9 +24,14 @@ use Rattle.floor_rooms.proofs.Dating.{keeps_same}
 use Rattle.floor_rooms.proofs.Forming.{some_at}
 use Rattle.floor_words.specs.Plans.{IsShortAct}
 use Rattle.floor_turns.specs.Acting.{ActCarries, IsNoted, LeavesClients, SameClients, StaysSet, answer_of, there_after}
+use Rattle.floor_turns.proofs.Carrying.{entry_of}
 use Rattle.floor_carrying.specs.declared.carried.Carried.{Carried}
 use Rattle.floor_carrying.specs.Carrying.{Around, Basis, CarriesOut, IsLeft, basis}
 use Rattle.floor_carrying.proofs.Staying.{around_same, stays_kept}
+
+-- what was kept aside, by the act and the number that it is read with
+pub kept_so : (tells : Bool) (kept : Option Entry) (n m at : ℕ) (a b : Act) → (IsTrue tells → kept ≡ Some (entry_of n at a)) → b ≡ a → n ≡ m → IsTrue tells → kept ≡ Some (entry_of m at b)
+kept_so tells kept n m at a b is same conn told = is told ∙ ap (λ x. Some (entry_of n at x)) (sym same) ∙ ap (λ x. Some (entry_of x at b)) conn
 
 -- an act that ended Done
 pub act_done : (tells : Bool) (number : ℕ) (a : Act) (old new : Basis) (answer : Turned) {E : Type 0} → Around tells old new → (IsTrue tells → Carries old.hall old.files new.hall new.files (λ s t. DoesAct s old.hall.moment number a end.Done t)) → answer ≡ answer_of old.hall.moment a end.Done → LeavesClients a number old.hall new.hall → IsShortAnswer answer

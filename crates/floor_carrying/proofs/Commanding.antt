@@ -1,5 +1,5 @@
 -- A command of a client, carried out.
-use Rattle.std.proofs.Common.{◌≡◌, ℕ, Bool, true, false, get_or, Option, Some, None, is_some, Ok, Err, ◌||◌, refl, sym, ap, subst, ◌∙◌}
+use Rattle.std.proofs.Common.{◌≡◌, ℕ, ℤ, List, Bool, true, false, get_or, Option, Some, None, is_some, Ok, Err, ◌||◌, refl, sym, ap, subst, ◌∙◌}
 use Rattle.std.specs.Prelude.{HoldsAt, IsTrue}
 use Rattle.std.proofs.lemmas.Bool.{false≢true}
 use Rattle.nsq_outside.specs.Files.{Files}
@@ -27,11 +27,51 @@ use Rattle.desk.specs.Answers.{IsShortAnswer}
 use Rattle.floor_carrying.specs.declared.carried.Carried.{Carried}
 use Rattle.floor_carrying.specs.declared.commanded.Commanded.TheVariants as commanded
 use Rattle.floor_carrying.specs.Carrying.{Around, Basis, CarriesOut, basis}
-use Rattle.floor_carrying.specs.Commands.{CarriesCommand, IsAccepted, KeepsOff, KnowsSaid}
+use Rattle.floor_carrying.specs.Commands.{CarriesCommand, IsAccepted, IsLine, IsNoIdentify, KeepsOff, KnowsSaid}
 use Rattle.floor_carrying.proofs.Conditions.{at_accepted, can_fault}
 use Rattle.floor_carrying.proofs.Planning.{IsDid, planned_did}
 use Rattle.floor_carrying.proofs.Staying.{around_kept}
 use Rattle.floor_topics.proofs.Marks.{some_same}
+
+-- which command it isn't
+pub no_identify : (c : Command) → ((body : List ℕ) → c ≡ command.Identify body → ⊥) → IsNoIdentify c
+no_identify (command.Identify body) identify = identify body refl
+no_identify (command.Sub topic channel) identify = tt
+no_identify (command.Pub topic body) identify = tt
+no_identify (command.Mpub topic bodies) identify = tt
+no_identify (command.Dpub topic delay body) identify = tt
+no_identify (command.Rdy count) identify = tt
+no_identify (command.Fin id) identify = tt
+no_identify (command.Req id delay) identify = tt
+no_identify (command.Touch id) identify = tt
+no_identify command.Cls identify = tt
+no_identify command.Nop identify = tt
+
+pub is_line : (c : Command) → IsNoIdentify c → ((topic body : List ℕ) → c ≡ command.Pub topic body → ⊥) → ((topic : List ℕ) (bodies : List (List ℕ)) → c ≡ command.Mpub topic bodies → ⊥) → ((topic : List ℕ) (delay : ℤ) (body : List ℕ) → c ≡ command.Dpub topic delay body → ⊥) → IsLine c
+is_line (command.Identify body) other one batch delayed = other
+is_line (command.Sub topic channel) other one batch delayed = tt
+is_line (command.Pub topic body) other one batch delayed = one topic body refl
+is_line (command.Mpub topic bodies) other one batch delayed = batch topic bodies refl
+is_line (command.Dpub topic delay body) other one batch delayed = delayed topic delay body refl
+is_line (command.Rdy count) other one batch delayed = tt
+is_line (command.Fin id) other one batch delayed = tt
+is_line (command.Req id delay) other one batch delayed = tt
+is_line (command.Touch id) other one batch delayed = tt
+is_line command.Cls other one batch delayed = tt
+is_line command.Nop other one batch delayed = tt
+
+pub line_is : (c : Command) → IsLine c → ((topic channel : List ℕ) → c ≡ command.Sub topic channel → ⊥) → ((count : ℤ) → c ≡ command.Rdy count → ⊥) → ((id : List ℕ) → c ≡ command.Fin id → ⊥) → ((id : List ℕ) (delay : ℤ) → c ≡ command.Req id delay → ⊥) → ((id : List ℕ) → c ≡ command.Touch id → ⊥) → (c ≡ command.Cls → ⊥) → (c ≡ command.Nop → ⊥) → ⊥
+line_is (command.Identify body) line sub rdy fin req touch cls nop = line
+line_is (command.Sub topic channel) line sub rdy fin req touch cls nop = sub topic channel refl
+line_is (command.Pub topic body) line sub rdy fin req touch cls nop = line
+line_is (command.Mpub topic bodies) line sub rdy fin req touch cls nop = line
+line_is (command.Dpub topic delay body) line sub rdy fin req touch cls nop = line
+line_is (command.Rdy count) line sub rdy fin req touch cls nop = rdy count refl
+line_is (command.Fin id) line sub rdy fin req touch cls nop = fin id refl
+line_is (command.Req id delay) line sub rdy fin req touch cls nop = req id delay refl
+line_is (command.Touch id) line sub rdy fin req touch cls nop = touch id refl
+line_is command.Cls line sub rdy fin req touch cls nop = cls refl
+line_is command.Nop line sub rdy fin req touch cls nop = nop refl
 
 -- the client of a number, where it stands
 module _ (h : Hall) (number k : ℕ) (c : Client) (there : client_in h.clients.items number ≡ Some c) where

@@ -18,7 +18,7 @@ use Rattle.floor_rooms.specs.Rooms.{client_in}
 use Rattle.floor_replies.specs.Replies.{reply_in}
 use Rattle.floor_words.specs.Plans.{IsCallsAct, IsNextAct, is_strange}
 use Rattle.floor_turns.specs.Acting.{IsPlanned}
-use Rattle.floor_carrying.specs.Carrying.{IsLeft}
+use Rattle.floor_carrying.specs.Carrying.{IsLeft, IsNoCommand}
 
 -- acts by number
 abbrev pub kind : Act → ℕ
@@ -202,6 +202,22 @@ dids h number call.Stop command reply is k can = absurd (omega (arith, k))
 
 pub planned_did : (h : Hall) (number : ℕ) (command : Command) (reply : Option Frame) (said : Option Identity) → IsPlanned h number (Did command reply) said → IsDid h number command reply
 planned_did h number command reply said p = dids h number p.of command reply p.is (kinds h number p.of (Did command reply) p.is) p.can
+
+-- the acts that are no commands
+pub no_command : (a : Act) → kind a ≤ 11 → ((command : Command) (reply : Option Frame) → a ≡ Did command reply → ⊥) → IsNoCommand a
+no_command Began most did = tt
+no_command (Did command reply) most did = did command reply refl
+no_command (Refused fault frame) most did = tt
+no_command Beat most did = tt
+no_command Idle most did = tt
+no_command Silent most did = tt
+no_command Dropped most did = tt
+no_command Gone most did = tt
+no_command (Asked a answer) most did = tt
+no_command (Listed names) most did = tt
+no_command Ticked most did = tt
+no_command Stop most did = tt
+no_command a most did = absurd (omega (arith, most))
 
 -- the acts that change nothing
 pub left : (a : Act) → kind a ≤ 11 → (a ≡ Began → ⊥) → ((command : Command) (reply : Option Frame) → a ≡ Did command reply → ⊥) → (a ≡ Beat → ⊥) → (a ≡ Gone → ⊥) → ((asked : Ask) (answer : Said) → a ≡ Asked asked answer → ⊥) → (a ≡ Stop → ⊥) → IsLeft a

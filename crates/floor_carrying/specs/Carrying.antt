@@ -56,6 +56,11 @@ pub record CarriesOut {E : Type 0} (tells : Bool) (number : ℕ) (a : Act) (old 
   pub around : Around tells old new
   pub ends : EndsBy tells number a old new r
 
+-- the act is no command
+abbrev pub IsNoCommand : Act → Type 0
+IsNoCommand (act.Did command reply) = ⊥
+IsNoCommand _ = Unit {0}
+
 -- the act changes nothing but the moment, and no call leads to another one that the hall carries out so
 abbrev pub IsLeft : Act → Type 0
 IsLeft (act.Refused fault frame) = Unit {0}

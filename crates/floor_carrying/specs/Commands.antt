@@ -34,6 +34,19 @@ abbrev pub KnowsSaid : Options → Command → Option Identity → Type 0
 KnowsSaid o (command.Identify body) found = SaysOf o body found
 KnowsSaid o _ found = Unit {0}
 
+-- the command is no IDENTIFY
+abbrev pub IsNoIdentify : Command → Type 0
+IsNoIdentify (command.Identify body) = ⊥
+IsNoIdentify _ = Unit {0}
+
+-- the command is a line alone, with no body behind it
+abbrev pub IsLine : Command → Type 0
+IsLine (command.Identify body) = ⊥
+IsLine (command.Pub topic body) = ⊥
+IsLine (command.Mpub topic bodies) = ⊥
+IsLine (command.Dpub topic delay body) = ⊥
+IsLine _ = Unit {0}
+
 -- a disk fault kept the command off, and this frame says so
 pub record KeepsOff (tells : Bool) (k : ℕ) (c : Command) (old new : Basis) (frame : Frame) : Type 0 where
   pub does : IsTrue tells → DoesAt k c true old.hall old.files new.hall new.files

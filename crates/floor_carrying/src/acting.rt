@@ -1,4 +1,4 @@
-ghost use Rattle.std.specs.Prelude.{◌≡◌, ◌≤◌, IsTrue, IfOk, OnErr, OnOk, Some, false, true, length};
+ghost use Rattle.std.specs.Prelude.{◌≡◌, ◌≤◌, IsTrue, IfOk, OnErr, OnOk, Option, Some, false, true, length};
 ghost use Rattle.nsq_outside.specs.Causes.{Rose};
 ghost use Rattle.broker_history.specs.Entries.{is_faulted};
 ghost use Rattle.desk.specs.Answers.{IsShortAnswer};
@@ -8,7 +8,8 @@ ghost use Rattle.floor_rooms.specs.Standing.{Carries};
 ghost use Rattle.floor_moves.specs.Moves.{sight};
 ghost use Rattle.desk.specs.declared.call.Call.{Call};
 ghost use Rattle.floor_turns.specs.Acting.{ActCarries, Acts, IsNoted, IsPlanned, IsPlannedFor, LeavesClients, SameClients, StaysSet, answer_of, conn_of};
-ghost use Rattle.floor_carrying.specs.Carrying.{CarriesOut, basis};
+ghost use Rattle.negotiation.specs.declared.identity.Identity.{Identity};
+ghost use Rattle.floor_carrying.specs.Carrying.{CarriesOut, IsNoCommand, basis};
 
 use crate::Carried;
 use crate::acts::{carry_beat, carry_begin, carry_gone, carry_stop, leave};
@@ -70,10 +71,32 @@ fn carry_act<F: Folder, L: Ledger>(
     ensures { CarriesOut F.tells_files number act (basis hall.old (F.files folder.old) (F.folder_faults folder.old)) (basis hall.new (F.files folder.new) (F.folder_faults folder.new)) result }
 {
     match act {
-        Act::Began => carry_begin(hall, number),
         Act::Did(command, reply) => {
             carry_command(hall, number, command, reply, said, folder, scratch, steps)
         }
+        act => {
+            drop(said);
+            carry_other(hall, number, act, folder, scratch)
+        }
+    }
+}
+
+// The same of an act that is no command.
+fn carry_other<F: Folder>(
+    hall: &mut Hall,
+    number: u64,
+    act: Act,
+    folder: &mut F,
+    scratch: &mut [u8],
+) -> Result<Carried, Memory>
+    requires sound { IsSound hall.old }
+    requires plan { (said : Option Identity) × IsPlanned hall.old number act said }
+    requires other { IsNoCommand act }
+    requires scratch { 16777242 ≤ length scratch.old }
+    ensures { CarriesOut F.tells_files number act (basis hall.old (F.files folder.old) (F.folder_faults folder.old)) (basis hall.new (F.files folder.new) (F.folder_faults folder.new)) result }
+{
+    match act {
+        Act::Began => carry_begin(hall, number),
         Act::Beat => carry_beat(hall, number),
         Act::Gone => carry_gone(hall, number, folder),
         Act::Asked(ask, answer) => carry_asked(hall, ask, answer, folder, scratch),
@@ -81,6 +104,7 @@ fn carry_act<F: Folder, L: Ledger>(
         act => Ok(leave(hall.moment, act)),
     }
 }
+
 /// Makes the act of a call of this number: it is kept aside, carried out, and noted with its end. After Memory nothing is noted, and all is as it was.
 /// Requires 16,777,242 bytes of `scratch`.
 pub fn make_act<F: Folder, J: Journal<Entry>, L: Ledger>(
@@ -104,6 +128,7 @@ pub fn make_act<F: Folder, J: Journal<Entry>, L: Ledger>(
     let Planned { act, said } = planned;
     let conn = conn_of(&act, number);
     let Ok(act) = announce_act(journal, conn, hall.moment, act) else {
+        drop(said);
         return Turned::Memory;
     };
     match carry_out(hall, conn, Planned { act, said }, folder, scratch, steps) {
@@ -143,6 +168,11 @@ fn announce_act<J: Journal<Entry>>(
     ensures notes { IsTrue J.tells_notes → J.notes journal.new ≡ J.notes journal.old }
 {
     let entry = Entry { conn, at, act };
-    journal.ready(&entry)?;
-    Ok(entry.act)
+    match journal.ready(&entry) {
+        Ok(()) => Ok(entry.act),
+        Err(_) => {
+            drop(entry);
+            Err(Memory)
+        }
+    }
 }

@@ -32,6 +32,7 @@ pub(crate) fn carry_asked<F: Folder>(
     ensures { (number : ℕ) → CarriesOut F.tells_files number (Asked ask said) (basis hall.old (F.files folder.old) (F.folder_faults folder.old)) (basis hall.new (F.files folder.new) (F.folder_faults folder.new)) result }
 {
     if !is_done(&said) {
+        drop(ask);
         return Ok(Carried {
             end: End::Done,
             answer: Turned::Said(said),
@@ -42,11 +43,17 @@ pub(crate) fn carry_asked<F: Folder>(
             end: End::Done,
             answer: Turned::Said(said),
         }),
-        Ok(Served::Fault(count)) => Ok(Carried {
-            end: End::Faulted(count),
-            answer: Turned::Said(Said::Disk),
-        }),
-        Err(_) => Err(Memory),
+        Ok(Served::Fault(count)) => {
+            drop(said);
+            Ok(Carried {
+                end: End::Faulted(count),
+                answer: Turned::Said(Said::Disk),
+            })
+        }
+        Err(_) => {
+            drop(said);
+            Err(Memory)
+        }
     }
 }
 

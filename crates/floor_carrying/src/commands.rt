@@ -5,7 +5,7 @@ ghost use Rattle.broker_history.specs.declared.entry.Act.TheVariants.{Did};
 ghost use Rattle.floor_rooms.specs.Sound.{IsSound};
 ghost use Rattle.floor_turns.specs.Acting.{IsPlanned};
 ghost use Rattle.floor_carrying.specs.Carrying.{CarriesOut, basis};
-ghost use Rattle.floor_carrying.specs.Commands.{CarriesCommand, IsAccepted, KnowsSaid};
+ghost use Rattle.floor_carrying.specs.Commands.{CarriesCommand, IsAccepted, IsLine, IsNoIdentify, KnowsSaid};
 
 use crate::Carried;
 use crate::commanded::Commanded;
@@ -43,13 +43,20 @@ pub(crate) fn carry_command<F: Folder, L: Ledger>(
         unreachable!()
     };
     if is_error(&reply) {
+        drop((command, said));
         speak(hall, k);
         return Ok(replied(reply));
     }
     match do_command(hall, k, command, said, folder, scratch, steps) {
         Ok(Commanded::Done) => Ok(replied(reply)),
-        Ok(Commanded::Fault(frame)) => Ok(kept_off(frame)),
-        Err(_) => Err(Memory),
+        Ok(Commanded::Fault(frame)) => {
+            drop(reply);
+            Ok(kept_off(frame))
+        }
+        Err(_) => {
+            drop(reply);
+            Err(Memory)
+        }
     }
 }
 
@@ -71,18 +78,66 @@ fn do_command<F: Folder, L: Ledger>(
 {
     match command {
         Command::Identify(body) => introduce(hall, k, body, said),
-        Command::Sub(topic, channel) => join(hall, k, topic, channel),
+        command => {
+            drop(said);
+            do_other(hall, k, command, folder, scratch, steps)
+        }
+    }
+}
+
+// The same of any command but IDENTIFY.
+fn do_other<F: Folder, L: Ledger>(
+    hall: &mut Hall,
+    k: usize,
+    command: Command,
+    folder: &mut F,
+    scratch: &mut [u8],
+    steps: &mut Steps<L>,
+) -> Result<Commanded, Memory>
+    requires sound { IsSound hall.old }
+    requires accepted { IsAccepted hall.old k command }
+    requires other { IsNoIdentify command }
+    requires scratch { 16777242 ≤ length scratch.old }
+    ensures { CarriesCommand F.tells_files k command (basis hall.old (F.files folder.old) (F.folder_faults folder.old)) (basis hall.new (F.files folder.new) (F.folder_faults folder.new)) result }
+{
+    match command {
         Command::Pub(topic, body) => publish_one(hall, k, topic, body, folder, scratch),
         Command::Mpub(topic, bodies) => publish_batch(hall, k, topic, bodies, folder, scratch),
         Command::Dpub(topic, delay, body) => {
             publish_delayed(hall, k, topic, delay, body, folder, scratch)
         }
-        Command::Rdy(count) => ready(hall, k, count),
-        Command::Fin(id) => finish_own(hall, k, id, steps),
-        Command::Req(id, delay) => requeue_own(hall, k, id, delay, folder, scratch, steps),
-        Command::Touch(id) => touch_own(hall, k, id, steps),
+        command => {
+            let ended = do_line(hall, k, &command, folder, scratch, steps);
+            drop(command);
+            ended
+        }
+    }
+}
+
+// The same of a command that is a line alone.
+fn do_line<F: Folder, L: Ledger>(
+    hall: &mut Hall,
+    k: usize,
+    command: &Command,
+    folder: &mut F,
+    scratch: &mut [u8],
+    steps: &mut Steps<L>,
+) -> Result<Commanded, Memory>
+    requires sound { IsSound hall.old }
+    requires accepted { IsAccepted hall.old k command.now }
+    requires line { IsLine command.now }
+    requires scratch { 16777242 ≤ length scratch.old }
+    ensures { CarriesCommand F.tells_files k command.now (basis hall.old (F.files folder.old) (F.folder_faults folder.old)) (basis hall.new (F.files folder.new) (F.folder_faults folder.new)) result }
+{
+    match command {
+        Command::Sub(topic, channel) => join(hall, k, *topic, *channel),
+        Command::Rdy(count) => ready(hall, k, *count),
+        Command::Fin(id) => finish_own(hall, k, *id, steps),
+        Command::Req(id, delay) => requeue_own(hall, k, *id, *delay, folder, scratch, steps),
+        Command::Touch(id) => touch_own(hall, k, *id, steps),
         Command::Cls => end(hall, k),
         Command::Nop => nothing(hall, k),
+        _ => unreachable!(),
     }
 }
 

@@ -33,6 +33,7 @@ pub(crate) fn serve_publish<F: Folder>(
     ensures { CarriesAsk F.tells_files (ask.Publish topic delay bodies) (basis hall.old (F.files folder.old) (F.folder_faults folder.old)) (basis hall.new (F.files folder.new) (F.folder_faults folder.new)) result }
 {
     if !are_left(hall.ids_used, bodies.count() as u64) {
+        drop(bodies);
         return Ok(Served::Done);
     }
     match publish(hall, topic, delay, bodies.spend(), folder, scratch) {

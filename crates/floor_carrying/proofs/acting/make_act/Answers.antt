@@ -1,7 +1,8 @@
-use Rattle.std.proofs.Common.{◌≡◌, Some, refl, sym, ap, subst, ◌∙◌, arith}
+use Rattle.std.proofs.Common.{◌≡◌, refl, sym, ap, subst, ◌∙◌, arith}
 use Rattle.std.proofs.lemmas.List.{append-nil}
 use Rattle.floor_turns.specs.Acting.{ActCarries, IsPlanned, IsPlannedFor, LeavesClients, conn_of}
 use Rattle.floor_turns.proofs.Carrying.{acts_made, acts_none, entry_of, noted_act, noted_none, planned_conn, stays_same}
+use Rattle.floor_carrying.proofs.Closing.{kept_so}
 use Rattle.floor_carrying.proofs.acting.make_act.Goals as goal
 
 pub carry_out-requires-clause-plan : goal.carry_out-requires-clause-plan
@@ -23,7 +24,7 @@ returns-in-Ok-carry_out-clause-acts g c =
     acts_made g.J.Journal.tells_notes g.F.Folder.tells_files c.args.number d c.args.hall.now c.carry_out.new.hall (g.J.Journal.notes c.args.journal.now) (g.J.Journal.notes c.note.new.self) (g.F.Folder.files c.args.folder.now) (g.F.Folder.files c.carry_out.new.folder) (g.F.Folder.folder_faults c.args.folder.now) (g.F.Folder.folder_faults c.carry_out.new.folder)
     c.requires.sound c.carry_out.ensures.stays c.carry_out.ensures.faults c.in-Ok.act c.in-Ok-carry_out.carried.end c.in-Ok-carry_out.carried.answer (subst (λ a. IsPlannedFor c.args.hall.now c.args.number d a) (sym same) planned) c.in-Ok-carry_out.ensures.noted c.in-Ok-carry_out.ensures.answer c.in-Ok-carry_out.ensures.short
     (noted_act g.J.Journal.tells_notes (g.J.Journal.notes c.args.journal.now) (g.J.Journal.notes c.announce_act.new.journal) (g.J.Journal.notes c.note.new.self) (g.J.Journal.kept c.announce_act.new.journal) (entry_of (conn_of c.in-Ok.act c.args.number) c.args.hall.now.moment c.in-Ok.act) c.in-Ok-carry_out.carried.end c.in-Ok-carry_out.ensures.noted
-    (λ told. c.in-Ok.ensures.kept told ∙ ap (λ a. Some (entry_of c.conn_of-conn.result c.args.hall.now.moment a)) (sym same) ∙ ap (λ m. Some (entry_of m c.args.hall.now.moment c.in-Ok.act)) conn) c.announce_act.ensures.notes c.note.ensures.notes)
+    (kept_so g.J.Journal.tells_notes (g.J.Journal.kept c.announce_act.new.journal) c.conn_of-conn.result (conn_of c.in-Ok.act c.args.number) c.args.hall.now.moment c.args.planned.act c.in-Ok.act c.in-Ok.ensures.kept same conn) c.announce_act.ensures.notes c.note.ensures.notes)
     (λ told. subst (λ m. ActCarries c.args.hall.now (g.F.Folder.files c.args.folder.now) c.carry_out.new.hall (g.F.Folder.files c.carry_out.new.folder) m c.in-Ok.act c.in-Ok-carry_out.carried.end) conn (c.in-Ok-carry_out.ensures.does told))
     c.in-Ok-carry_out.ensures.cause (subst (λ m. LeavesClients c.in-Ok.act m c.args.hall.now c.carry_out.new.hall) conn c.in-Ok-carry_out.ensures.clients)
 

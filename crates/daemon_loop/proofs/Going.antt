@@ -16,7 +16,7 @@ use Rattle.turn_laws.proofs.Laying.{timed_join}
 use Rattle.turn_laws.proofs.Faulting.{faults_join, stuck_join}
 use Rattle.floor_turns.specs.Scenes.{Scene}
 use Rattle.floor_turns.specs.Leads.{Leads, LedTo, Times}
-use Rattle.broker_floor.specs.Held.{Held}
+use Rattle.path_closing.specs.Held.{Held}
 use Rattle.path_closing.specs.Closings.{HeldBehind}
 use Rattle.path_closing.specs.declared.saving.Saved.{Saved}
 use Rattle.path_closing.specs.declared.saving.Saved.TheVariants as saved

@@ -2,7 +2,7 @@ ghost use Rattle.std.specs.Prelude.{◌≡◌, [], IsTrue, false};
 ghost use Rattle.nsq_base.specs.Options.{IsInRange};
 ghost use Rattle.nsq_outside.specs.Causes.{Rose};
 ghost use Rattle.nsq_outside.specs.Hosts.{OnlyAcceptFaults};
-ghost use Rattle.broker_floor.specs.Floors.{flushed_of, kit_of, notes_of, scene_of};
+ghost use Rattle.path_closing.specs.Floors.{flushed_of, kit_of, notes_of, scene_of};
 ghost use Rattle.daemon_loop.specs.Going.{Went};
 ghost use Rattle.daemon_loop.specs.Rounds.{LoopsOver};
 ghost use Rattle.daemon_loop.specs.Served.{views, AllTell, ListenersFailedLast};
@@ -10,11 +10,10 @@ ghost use Rattle.daemon_loop.specs.declared.callers.LoopEnd.TheVariants.{Failed}
 
 use crate::serving::serve_caller;
 use crate::ticking::{Ticked, tick};
-use broker_floor::Floor;
 use broker_history::Entry;
 use nsq_base::Options;
 use nsq_outside::{Accept, Clock, Folder, Host, Journal};
-use path_closing::save;
+use path_closing::{Floor, save};
 use std::alloc::Global;
 use std::sync::Wait;
 

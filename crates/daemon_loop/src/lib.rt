@@ -12,4 +12,5 @@ mod stopping;
 mod ticking;
 
 pub use callers::{LoopEnd, serve_callers};
+pub use path_closing::{Floor, ShutEnd, shut};
 pub use stopping::stop;

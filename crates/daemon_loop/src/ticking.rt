@@ -1,8 +1,8 @@
 ghost use Rattle.std.specs.Prelude.{◌≡◌, false};
-ghost use Rattle.broker_floor.specs.Floors.{flushed_of, scene_of};
+ghost use Rattle.path_closing.specs.Floors.{flushed_of, scene_of};
 ghost use Rattle.daemon_loop.specs.Rounds.{Ticks, ticked_of};
 
-use broker_floor::Floor;
+use path_closing::Floor;
 use broker_history::Entry;
 use desk::{Call, Turned};
 use nsq_outside::{Clock, Folder, Journal};

@@ -6,7 +6,7 @@ use Rattle.nsq_base.specs.declared.options.Options.{Options}
 use Rattle.nsq_outside.specs.Causes.{Rose}
 use Rattle.nsq_outside.specs.Files.{Files}
 use Rattle.nsq_outside.specs.Hosts.{HostContent, HostState, OnlyPrintFaults, OnlyTellFaults}
-use Rattle.daemon_loop.specs.Served.{Views}
+use Rattle.daemon_run.specs.Served.{Views}
 use Rattle.daemon_run.specs.Endings.{status_of as serve_status}
 use Rattle.broker_history.specs.Entries.{History}
 use Rattle.daemon_run.specs.Runs.{NoCaller}

@@ -7,7 +7,7 @@ use Rattle.nsq_outside.specs.Files.{Files}
 use Rattle.nsq_outside.specs.Hosts.{HostContent, HostState, OnlyTellFaults, Tells}
 use Rattle.nsq_outside.specs.declared.host.Kit.{Kit}
 use Rattle.broker_history.specs.Entries.{History}
-use Rattle.daemon_loop.specs.Served.{Views}
+use Rattle.daemon_run.specs.Served.{Views}
 use Rattle.daemon_run.specs.Asked.{StartsOnce, start_of}
 use Rattle.daemon_run.specs.Endings.{IsCaused, status_of as serve_status}
 use Rattle.daemon_run.specs.Runs.{HasWorked, NoCaller, Runs, StayedHome}

@@ -4,7 +4,7 @@ use Rattle.nsq_base.specs.Options.{IsInRange}
 use Rattle.nsq_base.specs.declared.options.Options.{Options}
 use Rattle.nsq_outside.specs.Causes.{Rose}
 use Rattle.nsq_outside.specs.Hosts.{HostContent, HostState, OnlyPrintFaults}
-use Rattle.daemon_loop.specs.Served.{Views}
+use Rattle.daemon_run.specs.Served.{Views}
 use Rattle.daemon_run.specs.Asked.{HasAsked}
 use Rattle.daemon_run.specs.Endings.{IsCaused, status_of as serve_status}
 use Rattle.daemon_run.specs.Parts.{KeepsFaults}

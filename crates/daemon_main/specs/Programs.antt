@@ -3,8 +3,8 @@ use Rattle.std.specs.Prelude.{◌≡◌, ℕ, Bool, IsTrue, List, [], ◌∷◌,
 use Rattle.nsq_base.specs.declared.options.Options.{Options}
 use Rattle.nsq_outside.specs.Causes.{Rose}
 use Rattle.nsq_outside.specs.Hosts.{HostContent, HostState}
-use Rattle.path_opening.specs.Opening.{HaveBytes}
-use Rattle.daemon_loop.specs.Served.{Views}
+use Rattle.daemon_run.specs.Opening.{HaveBytes}
+use Rattle.daemon_run.specs.Served.{Views}
 use Rattle.daemon_run.specs.Asked.{HasAsked}
 use Rattle.daemon_run.specs.Endings.{IsCaused, IsComplete, status_of as serve_status}
 use Rattle.daemon_run.specs.Runs.{NoCaller, Runs}

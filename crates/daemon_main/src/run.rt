@@ -3,7 +3,7 @@ ghost use Rattle.nsq_base.specs.Options.{IsInRange};
 ghost use Rattle.nsq_base.specs.declared.options.Options.{Options as SaidOptions};
 ghost use Rattle.nsq_outside.specs.Causes.{Rose};
 ghost use Rattle.nsq_outside.specs.Hosts.{OnlyPrintFaults, OnlyTellFaults};
-ghost use Rattle.daemon_loop.specs.Served.{ListenersFailedLast};
+ghost use Rattle.daemon_run.specs.Served.{ListenersFailedLast};
 ghost use Rattle.daemon_run.specs.Sights.{Both};
 ghost use Rattle.daemon_main.specs.Doing.{CanDo, Does, DrillsSo, Obeys, PrintsSo};
 ghost use Rattle.daemon_main.specs.Drills.{ShowsDrill, drill_text};

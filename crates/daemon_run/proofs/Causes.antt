@@ -8,9 +8,9 @@ use Rattle.path_image.proofs.FindingOnce.{one_found}
 use Rattle.path_opening.specs.Opening.{HaveBytes, IsNamesFinding, IsWhy}
 use Rattle.path_opening.specs.declared.opening.Why.{Why}
 use Rattle.path_opening.specs.declared.opening.Why.TheVariants as why
-use Rattle.path_closing.specs.Closings.{ShutFails, WhereClean}
-use Rattle.path_closing.specs.declared.shutting.ShutEnd.{ShutEnd}
-use Rattle.path_closing.specs.declared.shutting.ShutEnd.TheVariants as shut
+use Rattle.daemon_loop.specs.Closings.{ShutFails, WhereClean}
+use Rattle.daemon_loop.specs.ShutEnd.{ShutEnd}
+use Rattle.daemon_loop.specs.ShutEnd.TheVariants as shut
 use Rattle.daemon_loop.specs.declared.callers.LoopEnd.{LoopEnd}
 use Rattle.daemon_loop.specs.declared.callers.LoopEnd.TheVariants as loop
 use Rattle.daemon_run.specs.Endings.{ending_of, refusal_of, status_of, IsCaused, IsComplete, IsOrWants}

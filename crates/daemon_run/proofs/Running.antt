@@ -22,7 +22,7 @@ use Rattle.turn_laws.proofs.Laying.{turns_of}
 use Rattle.floor_turns.specs.Leads.{LedTo}
 use Rattle.floor_turns.specs.Scenes.{Scene, Stands}
 use Rattle.path_opening.specs.Opening.{HaveBytes, OnlyOpeningFiles}
-use Rattle.path_closing.specs.Closings.{Leaves}
+use Rattle.daemon_loop.specs.Closings.{Leaves}
 use Rattle.daemon_loop.specs.Going.{Went}
 use Rattle.daemon_loop.specs.Rounds.{IsHalted, WhyOver}
 use Rattle.daemon_loop.specs.Served.{HasServed, UpTo, Views, ticks_of}

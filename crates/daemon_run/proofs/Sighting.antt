@@ -17,7 +17,7 @@ use Rattle.broker_history.specs.Moments.{HasReadings, IsTimed, moment_of}
 use Rattle.broker_history.specs.State.{State}
 use Rattle.turn_laws.specs.Laws.{RoseBy}
 use Rattle.turn_laws.proofs.Laying.{all_so}
-use Rattle.path_closing.specs.Closings.{Leaves}
+use Rattle.daemon_loop.specs.Closings.{Leaves}
 use Rattle.path_opening.specs.Opening.{FindsAgain, HaveBytes}
 use Rattle.daemon_loop.specs.Rounds.{IsHalted}
 use Rattle.daemon_loop.specs.Served.{UpTo, Views, ticks_of}

@@ -6,8 +6,8 @@ use Rattle.path_image.specs.Found.{BadData, EpochSpent, Finding, Found, IsFound,
 use Rattle.path_opening.specs.Opening.{HaveBytes, IsNamesFinding}
 use Rattle.path_opening.specs.declared.opening.Why.{Why}
 use Rattle.path_opening.specs.declared.opening.Why.TheVariants as why
-use Rattle.path_closing.specs.declared.shutting.ShutEnd.{ShutEnd}
-use Rattle.path_closing.specs.declared.shutting.ShutEnd.TheVariants as shut
+use Rattle.daemon_loop.specs.ShutEnd.{ShutEnd}
+use Rattle.daemon_loop.specs.ShutEnd.TheVariants as shut
 use Rattle.daemon_loop.specs.declared.callers.LoopEnd.{LoopEnd}
 use Rattle.daemon_loop.specs.declared.callers.LoopEnd.TheVariants as loop
 use Rattle.daemon_run.specs.declared.ending.ServeEnd.{ServeEnd}

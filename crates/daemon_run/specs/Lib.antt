@@ -4,3 +4,6 @@ pub mod Asked
 pub mod Callers
 pub mod Runs
 pub mod Parts
+pub use Rattle.daemon_loop.specs.Rounds
+pub use Rattle.daemon_loop.specs.Served
+pub use Rattle.path_opening.specs.Opening

@@ -9,8 +9,8 @@ use Rattle.broker_history.specs.State.{State}
 use Rattle.floor_rooms.specs.Standing.{HoldsFor}
 use Rattle.floor_turns.specs.Leads.{Leads}
 use Rattle.floor_turns.specs.Scenes.{Scene}
-use Rattle.path_closing.specs.Closings.{Leaves, ShutChanges, ShutFails, WhereClean}
-use Rattle.path_closing.specs.declared.shutting.ShutEnd.{ShutEnd}
+use Rattle.daemon_loop.specs.Closings.{Leaves, ShutChanges, ShutFails, WhereClean}
+use Rattle.daemon_loop.specs.ShutEnd.{ShutEnd}
 use Rattle.daemon_loop.specs.Rounds.{Rounds, WhyOver}
 use Rattle.daemon_loop.specs.Served.{Views}
 use Rattle.daemon_loop.specs.Stops.{AddsStop}

@@ -11,7 +11,7 @@ use Rattle.broker_history.specs.Moments.{HasReadings, IsTimed, moment_of}
 use Rattle.broker_history.specs.State.{State}
 use Rattle.turn_laws.specs.Laws.{RoseBy}
 use Rattle.path_opening.specs.Opening.{FindsAgain, HaveBytes, OnlyOpeningFiles}
-use Rattle.path_closing.specs.Closings.{Leaves}
+use Rattle.daemon_loop.specs.Closings.{Leaves}
 use Rattle.daemon_loop.specs.Rounds.{IsHalted}
 use Rattle.daemon_loop.specs.Served.{Views}
 use Rattle.daemon_run.specs.Asked.{StartsOnce}

@@ -1,8 +1,7 @@
 ghost use Rattle.std.specs.Prelude.{◌≡◌};
 ghost use Rattle.daemon_run.specs.Endings.{ending_of, refusal_of};
 
-use daemon_loop::LoopEnd;
-use path_closing::ShutEnd;
+use daemon_loop::{LoopEnd, ShutEnd};
 use path_opening::Why;
 
 /// How a run that serves ended.

@@ -3,7 +3,7 @@ ghost use Rattle.nsq_base.specs.Options.{IsInRange};
 ghost use Rattle.nsq_base.specs.Text.{IsText};
 ghost use Rattle.nsq_outside.specs.Causes.{DidFails};
 ghost use Rattle.nsq_outside.specs.Hosts.{OnlyAcceptFaults, Starts};
-ghost use Rattle.broker_floor.specs.Floors.{flushed_of, notes_of, scene_of};
+ghost use Rattle.daemon_loop.specs.Floors.{flushed_of, notes_of, scene_of};
 ghost use Rattle.path_opening.specs.Opening.{HaveBytes};
 ghost use Rattle.daemon_loop.specs.Served.{AllTell, ListenersFailedLast, OnlyCallersChange, views};
 ghost use Rattle.daemon_run.specs.Asked.{HasAsked};
@@ -15,12 +15,10 @@ ghost use Rattle.daemon_run.specs.declared.ending.ServeEnd.TheVariants.{AcceptFa
 
 use crate::ending::{ServeEnd, ending_after, refusal};
 use crate::watched::Watched;
-use broker_floor::Floor;
 use broker_history::Entry;
-use daemon_loop::{serve_callers, stop};
+use daemon_loop::{Floor, serve_callers, shut, stop};
 use nsq_base::{Body, Options};
 use nsq_outside::{Did, Host, Kit};
-use path_closing::shut;
 use path_opening::{Refused, open};
 use std::alloc::Global;
 use std::str;

@@ -13,7 +13,7 @@ use Rattle.nsq_fakes.proofs.Shown.{nobody_to_come, nothing_left}
 use Rattle.broker_history.specs.declared.ended.Ended.TheVariants.{Memory}
 use Rattle.broker_history.specs.declared.entry.Entry.{Entry}
 use Rattle.broker_history.specs.Entries.{History, faults_of}
-use Rattle.daemon_loop.specs.Served.{IsServedTcp}
+use Rattle.daemon_run.specs.Served.{IsServedTcp}
 use Rattle.daemon_run.specs.Callers.{IsHandedBack, numbers_of}
 use Rattle.daemon_run.specs.declared.ending.ServeEnd.TheVariants as end
 use Rattle.drill_laws.specs.Counts.{published}

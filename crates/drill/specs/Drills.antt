@@ -12,7 +12,7 @@ use Rattle.path_image.specs.Found.{Found, IsFound, Names}
 use Rattle.broker_history.specs.declared.ended.Ended.TheVariants.{Memory}
 use Rattle.broker_history.specs.declared.entry.Entry.{Entry}
 use Rattle.broker_history.specs.Entries.{History}
-use Rattle.daemon_loop.specs.Served.{IsServedTcp, Views, limits_of, views}
+use Rattle.daemon_run.specs.Served.{IsServedTcp, Views, limits_of, views}
 use Rattle.daemon_run.specs.Asked.{StartsOnce}
 use Rattle.daemon_run.specs.Runs.{HasRun}
 use Rattle.daemon_run.specs.Sights.{Sight, sight}

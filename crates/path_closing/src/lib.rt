@@ -6,6 +6,7 @@ mod laws;
 mod saving;
 mod shutting;
 
+pub use broker_floor::Floor;
 pub use laws::names_are_kept;
 pub use saving::{Saved, save};
 pub use shutting::{ShutEnd, shut};

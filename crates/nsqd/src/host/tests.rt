@@ -3,8 +3,7 @@ ghost use Rattle.std.specs.Prelude.{IfOk};
 ghost use Rattle.nsq_base.specs.Options.{IsInRange};
 
 use super::*;
-use daemon_main::{Ending, close, line};
-use daemon_run::serve;
+use daemon_main::{Ending, close, line, serve};
 use nsq_base::{Body, Options};
 use nsq_outside::{Clock as _, Folder, Kind, Read, Sink, Source, Write};
 use std::io::{Read as _, Write as _};

@@ -1,6 +1,6 @@
 use Rattle.std.proofs.Common.{◌≡◌, false}
 use Rattle.nsq_outside.specs.Hosts.{OnlyAcceptFaults}
-use Rattle.broker_floor.specs.Floors.{flushed_of, scene_of}
+use Rattle.path_closing.specs.Floors.{flushed_of, scene_of}
 use Rattle.daemon_loop.specs.Rounds.{Rounds}
 use Rattle.daemon_loop.specs.Served.{views, AllTell}
 use Rattle.daemon_loop.proofs.callers.serve_callers.Given as goal

@@ -2,10 +2,10 @@ ghost use Rattle.std.specs.Prelude.{◌≡◌, false};
 ghost use Rattle.path_closing.specs.Floors.{flushed_of, scene_of};
 ghost use Rattle.daemon_loop.specs.Rounds.{Ticks, ticked_of};
 
-use path_closing::Floor;
 use broker_history::Entry;
 use desk::{Call, Turned};
 use nsq_outside::{Clock, Folder, Journal};
+use path_closing::Floor;
 use std::alloc::Global;
 
 /// How a tick was answered.

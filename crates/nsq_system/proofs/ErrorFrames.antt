@@ -32,3 +32,13 @@ goes_on n bytes front frame s more (next _ rest) = subst EndsInError (sym (behin
 pub goes_back : (n : ℕ) (bytes front frame : List ℕ) → IsSplit n bytes front frame → n < length frame → EndsInError (drop n frame) → EndsInError bytes
 goes_back n bytes front frame s more rest =
     next (omega (arith, more, s.whole, size_is n bytes front frame s)) (subst EndsInError (behind_is n bytes front frame s) rest)
+
+-- a frame of which a part is wanting ends nothing
+pub too_short : (n : ℕ) (bytes front frame : List ℕ) → IsSplit n bytes front frame → length frame < n → EndsInError bytes → ⊥
+too_short n bytes front frame s short (last whole long kind) = omega (arith, short, whole, s.whole, size_is n bytes front frame s)
+too_short n bytes front frame s short (next more rest) = omega (arith, short, more, s.whole, size_is n bytes front frame s)
+
+-- where the last frame ends the bytes, it is an error frame
+pub last_is_error : (n : ℕ) (bytes front frame : List ℕ) → IsSplit n bytes front frame → length frame ≡ n → EndsInError bytes → (4 ≤ length frame) × (number_at frame ≡ 1)
+last_is_error n bytes front frame s end (last whole long kind) = (omega (arith, long, s.whole), ap number_at s.behind ∙ kind)
+last_is_error n bytes front frame s end (next more rest) = absurd (omega (arith, more, end, s.whole, size_is n bytes front frame s))

@@ -1,4 +1,5 @@
 pub mod Around
+pub mod Placed
 pub mod Naming
 pub mod Twice
 pub mod Heads

@@ -1,5 +1,5 @@
 -- A copy is offered to a channel: it gets it, in each state that the hall stood for, or stays as it was.
-use Rattle.std.proofs.Common.{◌≡◌, inl, ℕ, Bool, List, refl, sym, ap, subst, ◌∙◌}
+use Rattle.std.proofs.Common.{◌≡◌, inl, ◌≤◌, ℕ, Bool, List, refl, sym, ap, subst, ◌∙◌}
 use Rattle.std.specs.Prelude.{IsTrue, slice_get}
 use Rattle.nsq_outside.specs.Files.{Files}
 use Rattle.v2_frame.specs.declared.message.Message.{Message}
@@ -135,6 +135,12 @@ module _ (tells : Bool) (h0 h1 h2 h3 : Hall) (unsaved quiet : ℕ) (f0 f1 : File
 
   pub offer_files : IsTrue tells → OnlyQueueFiles f0 f1
   offer_files told = only_of_channel (topic_name at.room) (channel_name at.does.stall) at.does.stall.channel.backlog.queue f0 f1 room_is.named stall_is.named stall_is.queue (at.does.does.disk.others told)
+
+  pub offer_faults : n0 ≤ n1
+  offer_faults = at.does.does.disk.faults
+
+  pub offer_cause : GiveFails n0 n1 answer
+  offer_cause = at.does.does.cause
 
   -- the topic's own queue stays
   pub offer_room : AtRoom place.room KeepsQueue h0.rooms.items h3.rooms.items

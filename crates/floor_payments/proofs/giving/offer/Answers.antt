@@ -1,9 +1,23 @@
-use Rattle.std.proofs.Common.{refl}
+use Rattle.std.proofs.Common.{◌<◌, refl, subst, sym}
 use Rattle.floor_rooms.specs.Changes.{InRoom}
 use Rattle.floor_rooms.proofs.Marked.{at_room_read, in_room_read, range_of}
 use Rattle.floor_payments.specs.Copying.{OffersStall, bounded}
 use Rattle.floor_payments.proofs.Offering.{offers_stall}
 use Rattle.floor_payments.proofs.giving.offer.Goals as goal
+
+pub index_mut-requires : goal.index_mut-requires
+index_mut-requires g c = subst (λ n. c.args.place.room < n) (sym c.args.hall.now.rooms.ok.0) c.requires.room
+
+pub index_mut-requires-2 : goal.index_mut-requires-2
+index_mut-requires-2 g c =
+    let room = c.index_mut.result.now in
+    subst (λ n. c.args.place.stall < n) (sym room.stalls.ok.0) (range_of c.args.place.stall c.args.hall.now.rooms.items c.args.place.room room c.index_mut.ensures.value c.requires.stall)
+
+pub offer-offered-requires-clause-scratch : goal.offer-offered-requires-clause-scratch
+offer-offered-requires-clause-scratch g c = c.requires.scratch
+
+pub returns-clause-rest : goal.returns-clause-rest
+returns-clause-rest g c = refl
 
 pub returns-clause-stall : goal.returns-clause-stall
 returns-clause-stall g c =

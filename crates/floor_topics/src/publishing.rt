@@ -172,8 +172,28 @@ fn filled<F: Folder>(
     ensures cause { result ≡ None → Rose (F.folder_faults folder.old) (F.folder_faults folder.new) }
 {
     let mut room = room;
-    match room.queue.put_all(folder, scratch, messages) {
+    match fill(&mut room, messages, folder, scratch) {
         PutAll::Done => Some(room),
-        PutAll::Fault => None,
+        PutAll::Fault => {
+            drop(room);
+            None
+        }
     }
+}
+
+// One call of the queue of a topic that no hall has.
+fn fill<F: Folder>(
+    room: &mut Room,
+    messages: &mut Vec<Message>,
+    folder: &mut F,
+    scratch: &mut [u8],
+) -> PutAll
+    requires settled { IsSettled room.old.queue }
+    requires short { All FitsLimit messages.old.items }
+    requires scratch { 16777242 ≤ length scratch.old }
+    ensures room { FillsRoom F.tells_files messages.old.items result (F.files folder.old) (F.files folder.new) room.old room.new }
+    ensures faults { F.folder_faults folder.old ≤ F.folder_faults folder.new }
+    ensures cause { PutAllFails (F.folder_faults folder.old) (F.folder_faults folder.new) result }
+{
+    room.queue.put_all(folder, scratch, messages)
 }

@@ -3,9 +3,11 @@ use Rattle.nsq_base.specs.Places.{BelongsAt}
 use Rattle.floor_rooms.specs.declared.hall.Hall.{Hall}
 use Rattle.floor_rooms.specs.declared.room.Room.{Room}
 use Rattle.floor_rooms.specs.Rooms.{topic_name}
+use Rattle.floor_rooms.specs.Standing.{Carries}
 use Rattle.floor_rooms.proofs.Dating.{keeps_equal, since_kept}
 use Rattle.floor_rooms.proofs.Placing.{none_belonging}
-use Rattle.floor_topics.proofs.Frames.{ids_sound}
+use Rattle.floor_rooms.proofs.Forming.{fresh_room_sound}
+use Rattle.floor_topics.proofs.Frames.{came_rest, ids_sound, on_error, spaced_more, spaced_names, spaced_since, spaced_stays}
 use Rattle.floor_topics.proofs.Joining.{fresh_files, joined_counted, joined_sound, joins_name, joins_stalls, refused_stays}
 use Rattle.floor_topics.proofs.Coming.{added_else, came_names, came_since}
 use Rattle.floor_topics.proofs.publishing.put_new.Goals as goal
@@ -52,3 +54,107 @@ returns-clause-since g c =
 
 pub returns-clause-files : goal.returns-clause-files
 returns-clause-files g c = λ told. fresh_files c.args.topic c.reserve_room.new.self.options c.in_ok-room.room (g.F.Folder.files c.args.folder.now) (g.F.Folder.files c.filled.new.folder) c.in_ok-room.ensures.room (c.in-Some.ensures.room.others told)
+
+pub returns-clause-rest : goal.returns-clause-rest
+returns-clause-rest g c = came_rest c.args.hall.now c.reserve_room.new.self c.add_room.new.self c.min-hall.result (c.add_room.new.self.ids_used + c.len-count.result) _ c.reserve_room.ensures.rest c.add_room.ensures.rest
+
+pub returns-clause-ids : goal.returns-clause-ids
+returns-clause-ids g c = 
+    let count : c.len-count.result ≡ length c.args.messages.now.items = omega (arith, c.len-count.ensures, c.args.messages.now.ok.0) in
+    let same : c.add_room.new.self.ids_used ≡ c.args.hall.now.ids_used = ap (λ (x : Hall). x.ids_used) (added_else c.reserve_room.new.self c.add_room.new.self c.min-hall.result _ c.add_room.ensures.rest) ∙ ap (λ (x : Hall). x.ids_used) c.reserve_room.ensures.rest in
+    omega (arith, same, count)
+
+pub returns-clause-stays : goal.returns-clause-stays
+returns-clause-stays g c = λ files. tt
+
+pub returns-clause-none : goal.returns-clause-none
+returns-clause-none g c = tt
+
+pub returns-clause-faults : goal.returns-clause-faults
+returns-clause-faults g c = c.filled.ensures.faults
+
+pub returns-clause-cause : goal.returns-clause-cause
+returns-clause-cause g c = tt
+
+pub returns-in_default-clause-rest : goal.returns-in_default-clause-rest
+returns-in_default-clause-rest g c = spaced_more c.args.hall.now c.reserve_room.new.self c.reserve_room.ensures.rest
+
+pub returns-in_default-clause-ids : goal.returns-in_default-clause-ids
+returns-in_default-clause-ids g c = ap (λ (x : Hall). x.ids_used) c.reserve_room.ensures.rest
+
+pub returns-in_default-clause-stays : goal.returns-in_default-clause-stays
+returns-in_default-clause-stays g c = λ files. tt
+
+pub returns-in_default-clause-none : goal.returns-in_default-clause-none
+returns-in_default-clause-none g c = tt
+
+pub returns-in_default-clause-sound : goal.returns-in_default-clause-sound
+returns-in_default-clause-sound g c = c.reserve_room.ensures.sound c.requires.sound
+
+pub returns-in_default-clause-names : goal.returns-in_default-clause-names
+returns-in_default-clause-names g c = spaced_names c.args.hall.now c.reserve_room.new.self c.reserve_room.ensures.rest c.reserve_room.ensures.rooms
+
+pub returns-in_default-clause-faults : goal.returns-in_default-clause-faults
+returns-in_default-clause-faults g c = c.filled.ensures.faults
+
+pub returns-in_default-clause-cause : goal.returns-in_default-clause-cause
+returns-in_default-clause-cause g c = c.in_default.ensures.cause refl
+
+pub returns-in_err-reserve_room-clause-rest : goal.returns-in_err-reserve_room-clause-rest
+returns-in_err-reserve_room-clause-rest g c = spaced_more c.args.hall.now c.reserve_room.new.self c.reserve_room.ensures.rest
+
+pub returns-in_err-reserve_room-clause-stays : goal.returns-in_err-reserve_room-clause-stays
+returns-in_err-reserve_room-clause-stays g c = λ files. on_error _ (Carries c.args.hall.now files c.reserve_room.new.self files (λ s t. t ≡ s)) (spaced_stays c.args.hall.now c.reserve_room.new.self files (c.reserve_room.ensures.stands files))
+
+pub returns-in_err-reserve_room-clause-none : goal.returns-in_err-reserve_room-clause-none
+returns-in_err-reserve_room-clause-none g c = on_error c.from_residual.result _ (ap (λ (x : Hall). x.ids_used) c.reserve_room.ensures.rest, refl)
+
+pub returns-in_err-reserve_room-clause-sound : goal.returns-in_err-reserve_room-clause-sound
+returns-in_err-reserve_room-clause-sound g c = c.reserve_room.ensures.sound c.requires.sound
+
+pub returns-in_err-reserve_room-clause-names : goal.returns-in_err-reserve_room-clause-names
+returns-in_err-reserve_room-clause-names g c = spaced_names c.args.hall.now c.reserve_room.new.self c.reserve_room.ensures.rest c.reserve_room.ensures.rooms
+
+pub returns-in_err-reserve_room-clause-since : goal.returns-in_err-reserve_room-clause-since
+returns-in_err-reserve_room-clause-since g c = spaced_since c.args.hall.now c.reserve_room.new.self c.reserve_room.ensures.rooms
+
+pub returns-in_err-reserve_room-clause-files : goal.returns-in_err-reserve_room-clause-files
+returns-in_err-reserve_room-clause-files g c = λ told file others. refl
+
+pub returns-in_err-room-clause-rest : goal.returns-in_err-room-clause-rest
+returns-in_err-room-clause-rest g c = spaced_more c.args.hall.now c.reserve_room.new.self c.reserve_room.ensures.rest
+
+pub returns-in_err-room-clause-stays : goal.returns-in_err-room-clause-stays
+returns-in_err-room-clause-stays g c = λ files. on_error _ (Carries c.args.hall.now files c.reserve_room.new.self files (λ s t. t ≡ s)) (spaced_stays c.args.hall.now c.reserve_room.new.self files (c.reserve_room.ensures.stands files))
+
+pub returns-in_err-room-clause-none : goal.returns-in_err-room-clause-none
+returns-in_err-room-clause-none g c = on_error c.from_residual-in_err-room.result _ (ap (λ (x : Hall). x.ids_used) c.reserve_room.ensures.rest, refl)
+
+pub returns-in_err-room-clause-sound : goal.returns-in_err-room-clause-sound
+returns-in_err-room-clause-sound g c = c.reserve_room.ensures.sound c.requires.sound
+
+pub returns-in_err-room-clause-names : goal.returns-in_err-room-clause-names
+returns-in_err-room-clause-names g c = spaced_names c.args.hall.now c.reserve_room.new.self c.reserve_room.ensures.rest c.reserve_room.ensures.rooms
+
+pub returns-in_err-room-clause-since : goal.returns-in_err-room-clause-since
+returns-in_err-room-clause-since g c = spaced_since c.args.hall.now c.reserve_room.new.self c.reserve_room.ensures.rooms
+
+pub returns-in_err-room-clause-files : goal.returns-in_err-room-clause-files
+returns-in_err-room-clause-files g c = λ told file others. refl
+
+pub filled-requires-clause-settled : goal.filled-requires-clause-settled
+filled-requires-clause-settled g c = (fresh_room_sound c.reserve_room.new.self c.args.topic c.in_ok-room.room c.in_ok-room.ensures.room).settled
+
+pub filled-requires-clause-short : goal.filled-requires-clause-short
+filled-requires-clause-short g c = c.requires.short
+
+pub filled-requires-clause-scratch : goal.filled-requires-clause-scratch
+filled-requires-clause-scratch g c = c.requires.scratch
+
+pub add_room-requires-clause-place : goal.add_room-requires-clause-place
+add_room-requires-clause-place g c = 
+    let place : BelongsAt topic_name c.reserve_room.new.self.rooms.items c.args.topic c.args.i = subst (λ (xs : List Room). BelongsAt topic_name xs c.args.topic c.args.i) (sym c.reserve_room.ensures.rooms) c.requires.place in
+    subst (λ n. BelongsAt topic_name c.reserve_room.new.self.rooms.items n c.args.i) (sym (joins_name c.reserve_room.new.self g.F.Folder.tells_files (g.F.Folder.files c.args.folder.now) (g.F.Folder.files c.filled.new.folder) c.args.messages.now.items c.args.topic c.reserve_room.new.self.options c.in_ok-room.room c.in-Some.room c.reserve_room.new.self.moment c.in_ok-room.ensures.room c.in-Some.ensures.room)) place
+
+pub add_room-requires-clause-space : goal.add_room-requires-clause-space
+add_room-requires-clause-space g c = c.in_ok-reserve_room.ensures.space

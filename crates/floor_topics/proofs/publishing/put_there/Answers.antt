@@ -69,7 +69,7 @@ pub returns-in-Done-clause-rest : goal.returns-in-Done-clause-rest
 returns-in-Done-clause-rest g c = there_rest c.args.hall.now c.reserve_room.new.self c.mark_room.new.self c.list_room.new.self c.put_at.new.hall (min c.reserve_room.new.self.unsaved_from c.reserve_room.new.self.moment) (c.put_at.new.hall.ids_used + c.len-count.result) c.reserve_room.ensures.rest c.mark_room.ensures.rest c.list_room.ensures.rest c.put_at.ensures.rest
 
 pub returns-in-Done-clause-ids : goal.returns-in-Done-clause-ids
-returns-in-Done-clause-ids g c = 
+returns-in-Done-clause-ids g c =
     let sound = c.list_room.ensures.sound (c.mark_room.ensures.sound) in
     let count : c.len-count.result ≡ length c.args.messages.now.items = omega (arith, c.len-count.ensures, c.args.messages.now.ok.0) in
     let same : c.put_at.new.hall.ids_used ≡ c.args.hall.now.ids_used = there_ids g.F.Folder.tells_files c.args.hall.now c.reserve_room.new.self c.mark_room.new.self c.list_room.new.self c.put_at.new.hall (g.F.Folder.files c.args.folder.now) (g.F.Folder.files c.put_at.new.folder) c.args.messages.now.items AllDone c.args.i (min c.reserve_room.new.self.unsaved_from c.reserve_room.new.self.moment) c.reserve_room.ensures.rest c.reserve_room.ensures.rooms c.mark_room.ensures.rest c.mark_room.ensures.room c.list_room.ensures.rest c.list_room.ensures.room sound c.put_at.ensures.rest c.in-Done.ensures.room in
@@ -91,7 +91,7 @@ pub returns-in-Fault-clause-rest : goal.returns-in-Fault-clause-rest
 returns-in-Fault-clause-rest g c = there_rest c.args.hall.now c.reserve_room.new.self c.mark_room.new.self c.list_room.new.self c.put_at.new.hall (min c.reserve_room.new.self.unsaved_from c.reserve_room.new.self.moment) c.put_at.new.hall.ids_used c.reserve_room.ensures.rest c.mark_room.ensures.rest c.list_room.ensures.rest c.put_at.ensures.rest
 
 pub returns-in-Fault-clause-ids : goal.returns-in-Fault-clause-ids
-returns-in-Fault-clause-ids g c = 
+returns-in-Fault-clause-ids g c =
     let sound = c.list_room.ensures.sound (c.mark_room.ensures.sound) in
     there_ids g.F.Folder.tells_files c.args.hall.now c.reserve_room.new.self c.mark_room.new.self c.list_room.new.self c.put_at.new.hall (g.F.Folder.files c.args.folder.now) (g.F.Folder.files c.put_at.new.folder) c.args.messages.now.items AllFault c.args.i (min c.reserve_room.new.self.unsaved_from c.reserve_room.new.self.moment) c.reserve_room.ensures.rest c.reserve_room.ensures.rooms c.mark_room.ensures.rest c.mark_room.ensures.room c.list_room.ensures.rest c.list_room.ensures.room sound c.put_at.ensures.rest c.in-Fault.ensures.room
 

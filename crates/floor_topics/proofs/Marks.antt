@@ -1,13 +1,14 @@
 -- A topic that comes into a hall with a mark, and what stands at a place that changed.
-use Rattle.std.proofs.Common.{◌≡◌, ℕ, suc, zero, set, Bool, true, false, if◌then◌else◌, List, [], ◌∷◌, Option, Some, None, refl, sym, ap, subst, ◌∙◌}
-use Rattle.std.specs.Prelude.{IfSome, IsSome, option_and_then}
+use Rattle.std.proofs.Common.{◌≡◌, ◌<◌, ℕ, suc, zero, set, Bool, true, false, if◌then◌else◌, List, [], ◌∷◌, length, Option, Some, None, refl, sym, ap, subst, ◌∙◌}
+use Rattle.std.specs.Prelude.{HoldsAt, IfSome, IsSome, option_and_then}
 use Rattle.std.specs.List.{slice_get}
 use Rattle.std.specs.Str.{bytes_eq}
+use Rattle.std.proofs.lemmas.Option.{get_or_from_slice_get, slice_get_within}
 use Rattle.broker_history.proofs.Lists.{exact_bytes, find_put}
 use Rattle.floor_rooms.specs.declared.stall.Stall.{Stall}
 use Rattle.floor_rooms.specs.declared.room.Room.{Room}
 use Rattle.floor_rooms.specs.Rooms.{topic_name, put_room, room_in, stall_in}
-use Rattle.floor_rooms.specs.Changes.{AtRoom, KeepsSince, SinceStays, marked, room_since, stall_since}
+use Rattle.floor_rooms.specs.Changes.{AtRoom, AtStall, KeepsSince, SinceStays, marked, room_since, stall_since}
 use Rattle.floor_rooms.proofs.Dating.{since_same}
 use Rattle.floor_rooms.proofs.Marked.{ListsRoom, MarksRoom}
 
@@ -22,6 +23,15 @@ stands_now (z ∷ xs) (suc i) x y at = stands_now xs i x y at
 
 pub after_at : (i : ℕ) (Does : Room → Room → Type 0) (xs ys : List Room) (a : AtRoom i Does xs ys) (r : Room) → slice_get ys i ≡ Some r → r ≡ a.after
 after_at i Does xs ys a r at = some_same r a.after (sym at ∙ ap (λ rs. slice_get rs i) a.is ∙ stands_now xs i a.room a.after a.there)
+
+-- places stand that something changed at
+pub range_behind : (i : ℕ) (Does : Room → Room → Type 0) (xs ys : List Room) → AtRoom i Does xs ys → i < length ys
+range_behind i Does xs ys x = slice_get_within ys i x.after (ap (λ rs. slice_get rs i) x.is ∙ stands_now xs i x.room x.after x.there)
+
+pub stall_range_behind : (i j : ℕ) (Does : Stall → Stall → Type 0) (xs ys : List Room) → AtStall i j Does xs ys → HoldsAt (λ (r : Room). j < length r.stalls.items) ys i
+stall_range_behind i j Does xs ys x d =
+    subst (λ (r : Room). j < length r.stalls.items) (sym (get_or_from_slice_get ys i x.after d (ap (λ rs. slice_get rs i) x.is ∙ stands_now xs i x.room x.after x.there)))
+    (slice_get_within x.after.stalls.items j x.does.after (ap (λ ss. slice_get ss j) x.does.stalls ∙ stands_now x.room.stalls.items j x.does.stall x.does.after x.does.there))
 
 pub marked_some : (since : Option ℕ) (at : ℕ) → IsSome (marked since at)
 marked_some None at = refl

@@ -1,5 +1,5 @@
 /// How a topic's deletion ended.
-#[derive(Clone, Copy, PartialEq, Eq)]
+#[derive(Clone, Copy)]
 pub enum Deleted {
     /// It is gone, with its channels and all their messages.
     Done,

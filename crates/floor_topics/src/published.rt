@@ -1,5 +1,5 @@
 /// How a publish ended.
-#[derive(Clone, Copy, PartialEq, Eq)]
+#[derive(Clone, Copy)]
 pub enum Published {
     /// Its messages were put, and each used an id.
     Done,

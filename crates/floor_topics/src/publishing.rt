@@ -1,17 +1,15 @@
-ghost use Rattle.std.specs.Prelude.{◌≡◌, ◌≤◌, ◌+◌, ◌^◌, ◌<◌, All, HoldsAt, IfOk, IfSome, IsTrue, None, OnErr, length};
+ghost use Rattle.std.specs.Prelude.{◌≡◌, ◌≤◌, ◌+◌, ◌^◌, ◌<◌, All, HoldsAt, IfOk, IsTrue, OnErr, length};
 ghost use Rattle.nsq_base.specs.Places.{BelongsAt};
 ghost use Rattle.nsq_outside.specs.Files.{Files};
 ghost use Rattle.backlog.specs.Answers.{PutAllFails};
 ghost use Rattle.backlog.specs.Seen.{FitsLimit};
-ghost use Rattle.backlog.specs.declared.answers.PutAll.TheVariants.{Done as AllDone};
-ghost use Rattle.nsq_outside.specs.Causes.{Rose};
 ghost use Rattle.topic_core.specs.Seen.{IsSettled};
 ghost use Rattle.floor_rooms.specs.Changes.{AtRoom, KeepsSince, OnlyQueueFiles};
 ghost use Rattle.floor_rooms.specs.Kept.{NamesTold};
 ghost use Rattle.floor_rooms.specs.Rooms.{topic_name};
 ghost use Rattle.floor_rooms.specs.Sound.{IsSound};
 ghost use Rattle.floor_rooms.specs.Standing.{Carries, longest_delay};
-ghost use Rattle.floor_topics.specs.Publishing.{Publishes, PublishFails, PutsInto, FillsRoom, Refuses, ids_after};
+ghost use Rattle.floor_topics.specs.Publishing.{Publishes, PublishFails, PutsInto, FillsRoom, ids_after};
 
 use crate::Published;
 use crate::messages::messages_of;
@@ -145,10 +143,14 @@ fn put_new<F: Folder>(
 {
     let count = messages.len() as u64;
     hall.reserve_room()?;
-    let room = hall.free_room(topic)?;
-    let Some(mut room) = filled(room, messages, folder, scratch) else {
-        return Ok(Published::Fault);
-    };
+    let mut room = hall.free_room(topic)?;
+    match fill(&mut room, messages, folder, scratch) {
+        PutAll::Done => {}
+        PutAll::Fault => {
+            drop(room);
+            return Ok(Published::Fault);
+        }
+    }
     room.since = Some(hall.moment);
     hall.unsaved_from = hall.unsaved_from.min(hall.moment);
     hall.add_room(i, room);
@@ -156,24 +158,19 @@ fn put_new<F: Folder>(
     Ok(Published::Done)
 }
 
-// The topic with these messages put into it; None where the folder failed, and it was dropped.
-fn filled<F: Folder>(
-    room: Room,
+// One call of the queue of a topic that no hall has.
+fn fill<F: Folder>(
+    room: &mut Room,
     messages: &mut Vec<Message>,
     folder: &mut F,
     scratch: &mut [u8],
-) -> Option<Room>
-    requires settled { IsSettled room.queue }
+) -> PutAll
+    requires settled { IsSettled room.old.queue }
     requires short { All FitsLimit messages.old.items }
     requires scratch { 16777242 ≤ length scratch.old }
-    ensures room { IfSome result (λ r. FillsRoom F.tells_files messages.old.items AllDone (F.files folder.old) (F.files folder.new) room r) }
-    ensures refused { result ≡ None → Refuses F.tells_files room.queue.backlog.queue (F.files folder.old) (F.files folder.new) }
+    ensures room { FillsRoom F.tells_files messages.old.items result (F.files folder.old) (F.files folder.new) room.old room.new }
     ensures faults { F.folder_faults folder.old ≤ F.folder_faults folder.new }
-    ensures cause { result ≡ None → Rose (F.folder_faults folder.old) (F.folder_faults folder.new) }
+    ensures cause { PutAllFails (F.folder_faults folder.old) (F.folder_faults folder.new) result }
 {
-    let mut room = room;
-    match room.queue.put_all(folder, scratch, messages) {
-        PutAll::Done => Some(room),
-        PutAll::Fault => None,
-    }
+    room.queue.put_all(folder, scratch, messages)
 }

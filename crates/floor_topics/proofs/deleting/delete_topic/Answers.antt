@@ -6,6 +6,7 @@ use Rattle.floor_rooms.proofs.Filing.{only_then}
 use Rattle.floor_rooms.proofs.Forming.{some_at}
 use Rattle.floor_rooms.proofs.Naming.{names_then}
 use Rattle.floor_topics.proofs.Dropping.{absent_deleted, counted_at, dropped_name, dropped_none, dropped_rest, dropped_since, dropped_within, durable_fault, went_first, went_not, went_whole}
+use Rattle.floor_topics.proofs.Frames.{same_names, same_since}
 use Rattle.floor_topics.proofs.deleting.delete_topic.Goals as goal
 
 pub returns-in_default-clause-told : goal.returns-in_default-clause-told
@@ -153,3 +154,48 @@ pub returns-in-Fault-drop_room-clause-numbers : goal.returns-in-Fault-drop_room-
 returns-in-Fault-drop_room-clause-numbers g c =
     let d = (some_at c.args.hall.now.rooms.items c.in-Some.i c.in-Some.ensures.stands.in_range).0 in
     λ m. ap (λ (h : Hall). is_some (client_in h.clients.items m)) c.drop_room.ensures.rest ∙ (c.in-Done.ensures.loses d).numbers m
+
+pub returns-in_default-clause-rest : goal.returns-in_default-clause-rest
+returns-in_default-clause-rest g c = refl
+
+pub returns-in_default-clause-sound : goal.returns-in_default-clause-sound
+returns-in_default-clause-sound g c = c.requires
+
+pub returns-in_default-clause-names : goal.returns-in_default-clause-names
+returns-in_default-clause-names g c = same_names c.args.hall.now
+
+pub returns-in_default-clause-since : goal.returns-in_default-clause-since
+returns-in_default-clause-since g c = same_since c.args.hall.now
+
+pub returns-in_default-clause-files : goal.returns-in_default-clause-files
+returns-in_default-clause-files g c = λ told file others. refl
+
+pub returns-in_default-clause-faults : goal.returns-in_default-clause-faults
+returns-in_default-clause-faults g c = omega arith
+
+pub returns-in_default-clause-cause : goal.returns-in_default-clause-cause
+returns-in_default-clause-cause g c = tt
+
+pub returns-in_default-clause-numbers : goal.returns-in_default-clause-numbers
+returns-in_default-clause-numbers g c = λ m. refl
+
+pub returns-in-Fault-clause-cause : goal.returns-in-Fault-clause-cause
+returns-in-Fault-clause-cause g c = c.in-Fault.ensures.cause
+
+pub returns-in-Done-drop_room-clause-sound : goal.returns-in-Done-drop_room-clause-sound
+returns-in-Done-drop_room-clause-sound g c = c.drop_room.ensures.sound
+
+pub returns-in-Done-drop_room-clause-cause : goal.returns-in-Done-drop_room-clause-cause
+returns-in-Done-drop_room-clause-cause g c = tt
+
+pub returns-in-Fault-drop_room-clause-sound : goal.returns-in-Fault-drop_room-clause-sound
+returns-in-Fault-drop_room-clause-sound g c = c.drop_room.ensures.sound
+
+pub room_place-requires : goal.room_place-requires
+room_place-requires g c = c.requires
+
+pub lose_all-requires-clause-sound : goal.lose_all-requires-clause-sound
+lose_all-requires-clause-sound g c = c.requires
+
+pub lose_all-requires-clause-room : goal.lose_all-requires-clause-room
+lose_all-requires-clause-room g c = c.in-Some.ensures.stands.in_range

@@ -4,6 +4,7 @@ use Rattle.floor_changes.specs.declared.lost.Lost.TheVariants.{Done, Fault}
 use Rattle.floor_rooms.specs.Rooms.{channel_name, topic_name}
 use Rattle.floor_rooms.specs.Standing.{HoldsFor}
 use Rattle.floor_rooms.proofs.Forming.{some_at}
+use Rattle.floor_topics.proofs.Marks.{range_behind}
 use Rattle.floor_topics.proofs.Numbers.{numbers_lost}
 use Rattle.floor_topics.proofs.Steps.{all_lost, all_read, all_rooms, ended_at, first_left, loses_ended, loses_next, loses_none, more_left}
 use Rattle.floor_topics.proofs.deleting.lose_all.Goals as goal
@@ -46,3 +47,9 @@ returns-clause-loses g c = all_lost g.F.Folder.tells_files c.args.i c.loop-count
 
 pub returns-clause-rooms : goal.returns-clause-rooms
 returns-clause-rooms g c = all_rooms g.F.Folder.tells_files c.args.i c.loop-count.count c.args.hall.now c.loop-count.hall (g.F.Folder.files c.args.folder.now) (g.F.Folder.files c.loop-count.folder) (g.F.Folder.folder_faults c.args.folder.now) (g.F.Folder.folder_faults c.loop-count.folder) c.loop-count.invariant.on c.len-all.result c.loop-count.invariant.all c.loop-count.auto.count-end c.loop-count-test.false
+
+pub lose_stall-requires-clause-sound : goal.lose_stall-requires-clause-sound
+lose_stall-requires-clause-sound g c = c.loop-count.invariant.on.loses.sound
+
+pub lose_stall-requires-clause-room : goal.lose_stall-requires-clause-room
+lose_stall-requires-clause-room g c = range_behind c.args.i _ c.args.hall.now.rooms.items c.loop-count.hall.rooms.items c.loop-count.invariant.on.rooms

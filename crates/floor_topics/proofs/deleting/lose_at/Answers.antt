@@ -4,6 +4,7 @@ use Rattle.floor_changes.specs.declared.lost.Lost.TheVariants.{Done, Fault}
 use Rattle.floor_rooms.specs.Rooms.{channel_name, client_in, topic_name}
 use Rattle.floor_rooms.proofs.Forming.{some_at}
 use Rattle.floor_rooms.proofs.Naming.{names_then}
+use Rattle.floor_topics.proofs.Frames.{frame_lost}
 use Rattle.floor_topics.proofs.Losing.{lost_room, lost_since, lost_told, lost_within}
 use Rattle.floor_topics.proofs.Numbers.{numbers_lost}
 use Rattle.floor_topics.proofs.deleting.lose_at.Goals as goal
@@ -40,3 +41,51 @@ returns-in-Fault-clause-numbers g c =
     let d = (some_at c.args.hall.now.rooms.items c.args.i c.requires.room).0 in
     let x = (some_at (get_or c.args.hall.now.rooms.items c.args.i d).stalls.items c.args.j (c.requires.stall d)).0 in
     numbers_lost Fault (topic_name (get_or c.args.hall.now.rooms.items c.args.i d)) (channel_name (get_or (get_or c.args.hall.now.rooms.items c.args.i d).stalls.items c.args.j x)) c.args.hall.now.clients.items c.lose_stall.new.hall.clients.items (c.in-Fault.ensures.clients d x)
+
+pub returns-in-Done-clause-rest : goal.returns-in-Done-clause-rest
+returns-in-Done-clause-rest g c = frame_lost c.args.hall.now c.lose_stall.new.hall c.forget_empty.new.hall c.lose_stall.ensures.rest c.forget_empty.ensures.rest
+
+pub returns-in-Done-clause-sound : goal.returns-in-Done-clause-sound
+returns-in-Done-clause-sound g c = c.forget_empty.ensures.sound
+
+pub returns-in-Done-clause-files : goal.returns-in-Done-clause-files
+returns-in-Done-clause-files g c = c.lose_stall.ensures.files
+
+pub returns-in-Done-clause-faults : goal.returns-in-Done-clause-faults
+returns-in-Done-clause-faults g c = c.lose_stall.ensures.faults
+
+pub returns-in-Done-clause-cause : goal.returns-in-Done-clause-cause
+returns-in-Done-clause-cause g c = tt
+
+pub returns-in-Fault-clause-rest : goal.returns-in-Fault-clause-rest
+returns-in-Fault-clause-rest g c = c.lose_stall.ensures.rest
+
+pub returns-in-Fault-clause-sound : goal.returns-in-Fault-clause-sound
+returns-in-Fault-clause-sound g c = c.lose_stall.ensures.sound
+
+pub returns-in-Fault-clause-names : goal.returns-in-Fault-clause-names
+returns-in-Fault-clause-names g c = c.lose_stall.ensures.names
+
+pub returns-in-Fault-clause-since : goal.returns-in-Fault-clause-since
+returns-in-Fault-clause-since g c = c.lose_stall.ensures.since
+
+pub returns-in-Fault-clause-files : goal.returns-in-Fault-clause-files
+returns-in-Fault-clause-files g c = c.lose_stall.ensures.files
+
+pub returns-in-Fault-clause-faults : goal.returns-in-Fault-clause-faults
+returns-in-Fault-clause-faults g c = c.lose_stall.ensures.faults
+
+pub returns-in-Fault-clause-cause : goal.returns-in-Fault-clause-cause
+returns-in-Fault-clause-cause g c = c.in-Fault.ensures.cause
+
+pub lose_stall-requires-clause-sound : goal.lose_stall-requires-clause-sound
+lose_stall-requires-clause-sound g c = c.requires.sound
+
+pub lose_stall-requires-clause-room : goal.lose_stall-requires-clause-room
+lose_stall-requires-clause-room g c = c.requires.room
+
+pub lose_stall-requires-clause-stall : goal.lose_stall-requires-clause-stall
+lose_stall-requires-clause-stall g c = c.requires.stall
+
+pub forget_empty-requires-clause-sound : goal.forget_empty-requires-clause-sound
+forget_empty-requires-clause-sound g c = c.lose_stall.ensures.sound

@@ -1,8 +1,9 @@
-use Rattle.std.proofs.Common.{ℕ, List, subst}
+use Rattle.std.proofs.Common.{ℕ, List, refl, subst}
 use Rattle.std.specs.Prelude.{IfOk}
 use Rattle.floor_rooms.specs.Standing.{Carries}
 use Rattle.floor_rooms.proofs.Forming.{some_at}
 use Rattle.floor_topics.specs.Publishing.{PutsInto}
+use Rattle.floor_topics.proofs.Frames.{publish_rest, same_names, same_since}
 use Rattle.floor_topics.proofs.Publishes.{made_delay, made_ids, made_short, publish_ids, publish_told}
 use Rattle.floor_topics.proofs.publishing.publish.Goals as goal
 
@@ -39,3 +40,99 @@ returns-clause-told g c = λ told.
 
 pub returns-clause-ids : goal.returns-clause-ids
 returns-clause-ids g c = publish_ids c.args.hall.now c.args.delay c.args.bodies.items c.in_ok-messages.messages.items c.in_ok-messages.ensures c.put_new.result c.put_new.new.hall.ids_used c.put_new.ensures.ids
+
+pub returns-in-Ok-clause-stays : goal.returns-in-Ok-clause-stays
+returns-in-Ok-clause-stays g c = c.put_there.ensures.stays
+
+pub returns-in-Ok-clause-none : goal.returns-in-Ok-clause-none
+returns-in-Ok-clause-none g c = c.put_there.ensures.none
+
+pub returns-in-Ok-clause-sound : goal.returns-in-Ok-clause-sound
+returns-in-Ok-clause-sound g c = c.put_there.ensures.sound
+
+pub returns-in-Ok-clause-names : goal.returns-in-Ok-clause-names
+returns-in-Ok-clause-names g c = c.put_there.ensures.names
+
+pub returns-in-Ok-clause-since : goal.returns-in-Ok-clause-since
+returns-in-Ok-clause-since g c = c.put_there.ensures.since
+
+pub returns-in-Ok-clause-files : goal.returns-in-Ok-clause-files
+returns-in-Ok-clause-files g c = c.put_there.ensures.files
+
+pub returns-in-Ok-clause-faults : goal.returns-in-Ok-clause-faults
+returns-in-Ok-clause-faults g c = c.put_there.ensures.faults
+
+pub returns-in-Ok-clause-cause : goal.returns-in-Ok-clause-cause
+returns-in-Ok-clause-cause g c = c.put_there.ensures.cause
+
+pub returns-clause-stays : goal.returns-clause-stays
+returns-clause-stays g c = c.put_new.ensures.stays
+
+pub returns-clause-none : goal.returns-clause-none
+returns-clause-none g c = c.put_new.ensures.none
+
+pub returns-clause-sound : goal.returns-clause-sound
+returns-clause-sound g c = c.put_new.ensures.sound
+
+pub returns-clause-names : goal.returns-clause-names
+returns-clause-names g c = c.put_new.ensures.names
+
+pub returns-clause-since : goal.returns-clause-since
+returns-clause-since g c = c.put_new.ensures.since
+
+pub returns-clause-files : goal.returns-clause-files
+returns-clause-files g c = c.put_new.ensures.files
+
+pub returns-clause-faults : goal.returns-clause-faults
+returns-clause-faults g c = c.put_new.ensures.faults
+
+pub returns-clause-cause : goal.returns-clause-cause
+returns-clause-cause g c = c.put_new.ensures.cause
+
+pub returns-in-Ok-clause-rest : goal.returns-in-Ok-clause-rest
+returns-in-Ok-clause-rest g c = publish_rest c.args.hall.now c.put_there.new.hall c.put_there.ensures.rest
+
+pub returns-clause-rest : goal.returns-clause-rest
+returns-clause-rest g c = c.put_new.ensures.rest
+
+pub returns-in_err-messages-clause-rest : goal.returns-in_err-messages-clause-rest
+returns-in_err-messages-clause-rest g c = refl
+
+pub returns-in_err-messages-clause-sound : goal.returns-in_err-messages-clause-sound
+returns-in_err-messages-clause-sound g c = c.requires.sound
+
+pub returns-in_err-messages-clause-names : goal.returns-in_err-messages-clause-names
+returns-in_err-messages-clause-names g c = same_names c.args.hall.now
+
+pub returns-in_err-messages-clause-since : goal.returns-in_err-messages-clause-since
+returns-in_err-messages-clause-since g c = same_since c.args.hall.now
+
+pub returns-in_err-messages-clause-files : goal.returns-in_err-messages-clause-files
+returns-in_err-messages-clause-files g c = λ told file others. refl
+
+pub messages_of-requires-clause-epoch : goal.messages_of-requires-clause-epoch
+messages_of-requires-clause-epoch g c = c.requires.sound.epoch
+
+pub messages_of-requires-clause-ids : goal.messages_of-requires-clause-ids
+messages_of-requires-clause-ids g c = c.requires.ids
+
+pub place_of-requires : goal.place_of-requires
+place_of-requires g c = c.requires.sound
+
+pub put_there-requires-clause-sound : goal.put_there-requires-clause-sound
+put_there-requires-clause-sound g c = c.requires.sound
+
+pub put_there-requires-clause-room : goal.put_there-requires-clause-room
+put_there-requires-clause-room g c = c.in-Ok.ensures.in_range
+
+pub put_there-requires-clause-scratch : goal.put_there-requires-clause-scratch
+put_there-requires-clause-scratch g c = c.requires.scratch
+
+pub put_new-requires-clause-sound : goal.put_new-requires-clause-sound
+put_new-requires-clause-sound g c = c.requires.sound
+
+pub put_new-requires-clause-place : goal.put_new-requires-clause-place
+put_new-requires-clause-place g c = c.in-Err.ensures
+
+pub put_new-requires-clause-scratch : goal.put_new-requires-clause-scratch
+put_new-requires-clause-scratch g c = c.requires.scratch

@@ -1,5 +1,5 @@
 -- Two changes of one channel, one after the other, are one change.
-use Rattle.std.proofs.Common.{◌≡◌, ◌<◌, ℕ, List, set, length, Option, Some, None, sym, ap, subst, ◌∙◌, set-set}
+use Rattle.std.proofs.Common.{◌≡◌, ◌<◌, ℕ, List, set, get_or, length, Option, Some, None, sym, ap, subst, ◌∙◌, set-set}
 use Rattle.std.specs.Prelude.{IfSome, slice_get}
 use Rattle.std.specs.List.{HoldsAt}
 use Rattle.std.proofs.lemmas.Option.{get_or_from_slice_get, slice_get_within}
@@ -73,3 +73,7 @@ pub stall_range_now : (i j : ℕ) (Does : Stall → Stall → Type 0) (r0 r1 : L
 stall_range_now i j Does r0 r1 x d =
     subst (λ (r : Room). j < length r.stalls.items) (sym (get_or_from_slice_get r1 i x.after d (ap (λ xs. slice_get xs i) x.is ∙ stands_now r0 i x.room x.after x.there)))
     (slice_get_within x.after.stalls.items j x.does.after (ap (λ xs. slice_get xs j) x.does.stalls ∙ stands_now x.room.stalls.items j x.does.stall x.does.after x.does.there))
+
+-- what holds of the channel at a place holds of the one that was read there
+pub stall_read : (i j : ℕ) (P : Stall → Type 0) (rooms : List Room) (room : Room) (stall : Stall) → room ≡ get_or rooms i room → stall ≡ get_or room.stalls.items j stall → HoldsAt (λ (r : Room). HoldsAt P r.stalls.items j) rooms i → P stall
+stall_read i j P rooms room stall r s all = subst P (sym s) (subst (λ (x : Room). HoldsAt P x.stalls.items j) (sym r) (all room) stall)

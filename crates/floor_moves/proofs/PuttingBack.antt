@@ -21,6 +21,7 @@ use Rattle.channel_core.specs.Moves.{due_in, MoveFails}
 use Rattle.channel_core.specs.Seen.{Seen as ChannelSeen, channel_with, queued_in, queue_name}
 use Rattle.channel_core.specs.Seen as core
 use Rattle.channel_core.specs.declared.answers.Moved.{Moved}
+use Rattle.channel_core.specs.declared.drawn.Drawn.TheVariants.{Nothing}
 use Rattle.channel_core.specs.declared.answers.Moved.TheVariants as moved
 use Rattle.channel_core.proofs.Dues.{tells_due}
 use Rattle.floor_laws.specs.Lifting.{Leads}
@@ -323,3 +324,10 @@ module _ (tells_notes tells_files : Bool) (h h' : Hall) (old new : Files) (befor
     },
     λ told s holds. rose,
   )
+
+-- in a sound hall nothing is drawn of the channel that was read at a place
+pub none_drawn : (h : Hall) (i j : ℕ) (room : Room) (stall : Stall) → IsSound h → i < length h.rooms.items → room ≡ get_or h.rooms.items i room → j < length room.stalls.items → stall ≡ get_or room.stalls.items j stall → stall.channel.drawn ≡ Nothing
+none_drawn h i j room stall sound within r inside s =
+    let here : IsRoomSound h room = subst (IsRoomSound h) (sym r) (sound.rooms i room within) in
+    let is : IsStallSound h.options (topic_name room) h.quiet_until h.unsaved_from stall = subst (IsStallSound h.options (topic_name room) h.quiet_until h.unsaved_from) (sym s) (here.stalls j stall inside) in
+    is.settled

@@ -86,3 +86,41 @@ pub returns-clause-files : goal.returns-clause-files
 returns-clause-files g c = λ before d told.
     settled_files g.F.Folder.tells_files c.args.place c.args.id before c.args.hall.now (g.J.Journal.notes c.args.journal.now) (g.F.Folder.files c.args.folder.now) (g.F.Folder.folder_faults c.args.folder.now) d c.settle_held.new.hall c.settle_stall-2.new.self c.settle_held.ensures.rest
     (g.F.Folder.files c.settle_held.new.folder) (g.F.Folder.folder_faults c.settle_held.new.folder) c.settle_held.ensures.stall told
+
+pub held_act-requires : goal.held_act-requires
+held_act-requires g c = c.requires.held
+
+pub announce-requires : goal.announce-requires
+announce-requires g c = c.requires.calm
+
+pub undo_held-requires-clause-room : goal.undo_held-requires-clause-room
+undo_held-requires-clause-room g c = room_range c.args.place.room c.args.place.stall (HasHeld c.args.id c.args.hall.now.moment) c.args.hall.now.rooms.items c.requires.held
+
+pub undo_held-requires-clause-stall : goal.undo_held-requires-clause-stall
+undo_held-requires-clause-stall g c = stall_range c.args.place.room c.args.place.stall (HasHeld c.args.id c.args.hall.now.moment) c.args.hall.now.rooms.items c.requires.held
+
+pub undo_held-requires-clause-held : goal.undo_held-requires-clause-held
+undo_held-requires-clause-held g c = λ d e.
+    let x = stall_holds c.args.place.room c.args.place.stall (HasHeld c.args.id c.args.hall.now.moment) c.args.hall.now.rooms.items c.requires.held d e in
+    record { held = x.held; is = x.is }
+
+pub settle_stall-requires-clause-room : goal.settle_stall-requires-clause-room
+settle_stall-requires-clause-room g c = room_range_now c.args.place.room c.args.place.stall _ c.args.hall.now.rooms.items c.undo_held.new.hall.rooms.items c.undo_held.ensures.stall
+
+pub settle_stall-requires-clause-stall : goal.settle_stall-requires-clause-stall
+settle_stall-requires-clause-stall g c = stall_range_now c.args.place.room c.args.place.stall _ c.args.hall.now.rooms.items c.undo_held.new.hall.rooms.items c.undo_held.ensures.stall
+
+pub returns-in_default-clause-moves : goal.returns-in_default-clause-moves
+returns-in_default-clause-moves g c = λ before d running. tt
+
+pub settle_held-requires-clause-moment : goal.settle_held-requires-clause-moment
+settle_held-requires-clause-moment g c = c.requires.moment
+
+pub note-requires : goal.note-requires
+note-requires g c = c.in-Ok.ensures.aside
+
+pub returns-clause-rests : goal.returns-clause-rests
+returns-clause-rests g c = λ before d. tt
+
+pub returns-clause-calm : goal.returns-clause-calm
+returns-clause-calm g c = c.note.ensures.aside

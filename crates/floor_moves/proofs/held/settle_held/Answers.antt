@@ -1,7 +1,10 @@
-use Rattle.std.proofs.Common.{refl}
+use Rattle.std.proofs.Common.{◌<◌, refl, subst, sym}
 use Rattle.floor_rooms.specs.Changes.{InRoom}
 use Rattle.floor_rooms.proofs.Marked.{at_room_read, in_room_read, range_of}
+use Rattle.channel_core.specs.Drawing.{IsHeld}
+use Rattle.floor_rooms.specs.declared.stall.Stall.{Stall}
 use Rattle.floor_moves.specs.Holding.{SettlesHeld}
+use Rattle.floor_moves.proofs.Joining.{stall_read}
 use Rattle.floor_moves.proofs.held.settle_held.Goals as goal
 
 pub returns-clause-stall : goal.returns-clause-stall
@@ -18,3 +21,18 @@ returns-clause-stall g c =
       disk = c.settle_held.ensures.disk;
       same = refl;
     }))
+
+pub index_mut-requires : goal.index_mut-requires
+index_mut-requires g c = subst (λ n. c.args.place.room < n) (sym c.args.hall.now.rooms.ok.0) c.requires.room
+
+pub index_mut-requires-2 : goal.index_mut-requires-2
+index_mut-requires-2 g c =
+    let room = c.index_mut.result.now in
+    subst (λ n. c.args.place.stall < n) (sym room.stalls.ok.0) (range_of c.args.place.stall c.args.hall.now.rooms.items c.args.place.room room c.index_mut.ensures.value c.requires.stall)
+
+pub settle_held-requires-clause-drawn : goal.settle_held-requires-clause-drawn
+settle_held-requires-clause-drawn g c =
+    stall_read c.args.place.room c.args.place.stall (λ (s : Stall). IsHeld c.args.hall.now.moment s.channel.drawn) c.args.hall.now.rooms.items c.index_mut.result.now c.index_mut-2.result.now c.index_mut.ensures.value c.index_mut-2.ensures.value c.requires.held
+
+pub settle_held-requires-clause-now : goal.settle_held-requires-clause-now
+settle_held-requires-clause-now g c = c.requires.moment

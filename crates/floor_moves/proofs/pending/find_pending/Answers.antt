@@ -22,3 +22,12 @@ loop-name-preserved c =
     unlists_on c.args.hall.now c.loop-name.hall c.unlist-found.new.hall c.drop_first.new.hall c.loop-name.invariant c.unlist-found.ensures.rest c.unlist-found.ensures.rooms c.drop_first.ensures.rest
     (c.drop_first.ensures.sound c.in-Some.name first.more (ap (λ (h : Hall). h.pending.items) c.unlist-found.ensures.rest ∙ first.is))
     (λ files s holds. c.drop_first.ensures.stands files s (c.unlist-found.ensures.stands files s holds))
+
+pub unlist-found-requires : goal.unlist-found-requires
+unlist-found-requires c = c.loop-name.invariant.sound
+
+pub drop_first-requires-clause-sound : goal.drop_first-requires-clause-sound
+drop_first-requires-clause-sound c = c.unlist-found.ensures.sound
+
+pub returns-clause-unlists : goal.returns-clause-unlists
+returns-clause-unlists c = c.loop-name.invariant

@@ -1,5 +1,5 @@
 -- What is asked, done.
-use Rattle.std.proofs.Common.{◌≡◌, ◌≤◌, ◌<◌, ◌+◌, ◌^◌, ℕ, Bool, true, false, if◌then◌else◌, List, length, get_or, Option, Some, None, is_some, Ok, Err, refl, sym, ap, subst, ◌∙◌, leb-true, ◌||◌}
+use Rattle.std.proofs.Common.{◌≡◌, ◌≤◌, ◌<◌, ◌+◌, ◌^◌, ℕ, Bool, true, false, if◌then◌else◌, List, length, get_or, Option, Some, None, is_some, Result, Ok, Err, refl, sym, ap, subst, ◌∙◌, leb-true, ◌||◌}
 use Rattle.std.specs.Prelude.{HoldsAt, IsTrue}
 use Rattle.std.proofs.lemmas.Bool.{false≢true}
 use Rattle.nsq_outside.specs.Causes.{Rose}
@@ -30,6 +30,7 @@ use Rattle.floor_topics.specs.declared.deleted.Deleted.TheVariants as deleting
 use Rattle.floor_words.specs.Asked.{found_where}
 use Rattle.floor_words.proofs.Saying.{said_is}
 use Rattle.floor_turns.specs.Acting.{LeavesClients, SameClients}
+use Rattle.floor_carrying.specs.declared.served.Served.{Served}
 use Rattle.floor_carrying.specs.declared.served.Served.TheVariants.{Done, Fault}
 use Rattle.floor_carrying.specs.Carrying.{Around, Basis, CarriesOut, basis}
 use Rattle.floor_carrying.specs.Asks.{BreaksOff, CarriesAsk, pauses}
@@ -105,6 +106,10 @@ module _ (tells : Bool) (a : Ask) (h h' : Hall) (f f' : Files) (n n' : ℕ) (aro
 
   pub ask_not : (e : E) → (IsTrue tells → Carries h f h' f' (λ s t. t ≡ s)) → CarriesAsk {E = E} tells a (basis h f n) (basis h' f' n') (Err e)
   ask_not e told = record { around = around; same = same; ends = told }
+
+-- an ask that is another one is carried out as that is
+pub ask_as : {E : Type 0} (tells : Bool) (a b : Ask) (old new : Basis) (r : Result Served E) → b ≡ a → CarriesAsk {E = E} tells a old new r → CarriesAsk {E = E} tells b old new r
+ask_as {E} tells a b old new r is x = subst (λ (y : Ask). CarriesAsk {E = E} tells y old new r) (sym is) x
 
 -- faults that leave all as it was
 pub publish_breaks : (tells : Bool) (topic : List ℕ) (delay : ℕ) (bodies : List (List ℕ)) (h h' : Hall) (f f' : Files) (n n' : ℕ) → (IsTrue tells → Carries h f h' f' (λ s t. t ≡ s)) → Rose n n' → BreaksOff tells (ask.Publish topic delay bodies) 0 (basis h f n) (basis h' f' n')

@@ -43,7 +43,7 @@ pub(crate) fn carry_command<F: Folder, L: Ledger>(
         unreachable!()
     };
     if is_error(&reply) {
-        drop((command, said));
+        let_go(command, said);
         speak(hall, k);
         return Ok(replied(reply));
     }
@@ -58,6 +58,12 @@ pub(crate) fn carry_command<F: Folder, L: Ledger>(
             Err(Memory)
         }
     }
+}
+
+// Lets go of a command that is refused, and of what it said.
+fn let_go(command: Command, said: Option<Identity>) {
+    drop(command);
+    drop(said);
 }
 
 // Does what a command of the client at a place says, whose reply is no error.

@@ -69,7 +69,10 @@ pub(crate) fn requeue_own<F: Folder, L: Ledger>(
         return Err(Memory);
     };
     match requeue(hall, k, id, span, folder, scratch, steps) {
-        Requeue::Done => Ok(Commanded::Done),
+        Requeue::Done => {
+            drop(refusal);
+            Ok(Commanded::Done)
+        }
         Requeue::Fault => {
             let Some(frame) = refusal else { unreachable!() };
             Ok(Commanded::Fault(frame))

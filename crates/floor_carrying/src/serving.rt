@@ -82,35 +82,14 @@ pub(crate) fn serve_deletion<F: Folder>(
     ensures { CarriesAsk F.tells_files (ask.Delete topic channel) (basis hall.old (F.files folder.old) (F.folder_faults folder.old)) (basis hall.new (F.files folder.new) (F.folder_faults folder.new)) result }
 {
     match channel {
-        None => delete_whole(hall, topic, folder),
-        Some(channel) => delete_one(hall, topic, channel, folder),
-    }
-}
-
-// Deletes a topic with its channels.
-fn delete_whole<F: Folder>(hall: &mut Hall, topic: Topic, folder: &mut F) -> Result<Served, Memory>
-    requires { IsSound hall.old }
-    ensures { CarriesAsk F.tells_files (ask.Delete topic None) (basis hall.old (F.files folder.old) (F.folder_faults folder.old)) (basis hall.new (F.files folder.new) (F.folder_faults folder.new)) result }
-{
-    match delete_topic(hall, topic, folder) {
-        Deleted::Done => Ok(Served::Done),
-        Deleted::Fault(count) => Ok(Served::Fault(count)),
-    }
-}
-
-// Deletes a channel.
-fn delete_one<F: Folder>(
-    hall: &mut Hall,
-    topic: Topic,
-    channel: Chan,
-    folder: &mut F,
-) -> Result<Served, Memory>
-    requires { IsSound hall.old }
-    ensures { CarriesAsk F.tells_files (ask.Delete topic (Some channel)) (basis hall.old (F.files folder.old) (F.folder_faults folder.old)) (basis hall.new (F.files folder.new) (F.folder_faults folder.new)) result }
-{
-    match delete_channel(hall, topic, channel, folder) {
-        Lost::Done => Ok(Served::Done),
-        Lost::Fault => Ok(Served::Fault(0)),
+        None => match delete_topic(hall, topic, folder) {
+            Deleted::Done => Ok(Served::Done),
+            Deleted::Fault(count) => Ok(Served::Fault(count)),
+        },
+        Some(channel) => match delete_channel(hall, topic, channel, folder) {
+            Lost::Done => Ok(Served::Done),
+            Lost::Fault => Ok(Served::Fault(0)),
+        },
     }
 }
 
@@ -124,38 +103,14 @@ pub(crate) fn serve_emptying<F: Folder>(
     requires { IsSound hall.old }
     ensures { CarriesAsk F.tells_files (ask.Empty topic channel) (basis hall.old (F.files folder.old) (F.folder_faults folder.old)) (basis hall.new (F.files folder.new) (F.folder_faults folder.new)) result }
 {
-    match channel {
-        None => empty_whole(hall, topic, folder),
-        Some(channel) => empty_one(hall, topic, channel, folder),
-    }
-}
-
-// Drops what waits in a topic, where it is there.
-fn empty_whole<F: Folder>(hall: &mut Hall, topic: Topic, folder: &mut F) -> Result<Served, Memory>
-    requires { IsSound hall.old }
-    ensures { CarriesAsk F.tells_files (ask.Empty topic None) (basis hall.old (F.files folder.old) (F.folder_faults folder.old)) (basis hall.new (F.files folder.new) (F.folder_faults folder.new)) result }
-{
     let Some(i) = hall.room_place(topic) else {
         return Ok(Served::Done);
     };
-    match empty_topic(hall, i, folder) {
-        Emptied::Done => Ok(Served::Done),
-        Emptied::Fault => Ok(Served::Fault(0)),
-    }
-}
-
-// Drops all copies of a channel, where it is there.
-fn empty_one<F: Folder>(
-    hall: &mut Hall,
-    topic: Topic,
-    channel: Chan,
-    folder: &mut F,
-) -> Result<Served, Memory>
-    requires { IsSound hall.old }
-    ensures { CarriesAsk F.tells_files (ask.Empty topic (Some channel)) (basis hall.old (F.files folder.old) (F.folder_faults folder.old)) (basis hall.new (F.files folder.new) (F.folder_faults folder.new)) result }
-{
-    let Some(i) = hall.room_place(topic) else {
-        return Ok(Served::Done);
+    let Some(channel) = channel else {
+        return match empty_topic(hall, i, folder) {
+            Emptied::Done => Ok(Served::Done),
+            Emptied::Fault => Ok(Served::Fault(0)),
+        };
     };
     let Some(j) = hall.stall_place(i, channel) else {
         return Ok(Served::Done);
@@ -176,33 +131,14 @@ pub(crate) fn serve_pause(
     requires { IsSound hall.old }
     ensures { (tells : Bool) (files : Files) (faults : ℕ) → CarriesAsk tells (pauses on topic channel) (basis hall.old files faults) (basis hall.new files faults) result }
 {
-    match channel {
-        None => pause_whole(hall, topic, on),
-        Some(channel) => pause_one(hall, topic, channel, on),
-    }
-}
-
-// Pauses a topic, or ends that, where it is there.
-fn pause_whole(hall: &mut Hall, topic: Topic, on: bool) -> Result<Served, Memory>
-    requires { IsSound hall.old }
-    ensures { (tells : Bool) (files : Files) (faults : ℕ) → CarriesAsk tells (pauses on topic None) (basis hall.old files faults) (basis hall.new files faults) result }
-{
     let Some(i) = hall.room_place(topic) else {
         return Ok(Served::Done);
     };
-    match pause(hall, i, on) {
-        Ok(()) => Ok(Served::Done),
-        Err(_) => Err(Memory),
-    }
-}
-
-// Pauses a channel, or ends that, where it is there.
-fn pause_one(hall: &mut Hall, topic: Topic, channel: Chan, on: bool) -> Result<Served, Memory>
-    requires { IsSound hall.old }
-    ensures { (tells : Bool) (files : Files) (faults : ℕ) → CarriesAsk tells (pauses on topic (Some channel)) (basis hall.old files faults) (basis hall.new files faults) result }
-{
-    let Some(i) = hall.room_place(topic) else {
-        return Ok(Served::Done);
+    let Some(channel) = channel else {
+        return match pause(hall, i, on) {
+            Ok(()) => Ok(Served::Done),
+            Err(_) => Err(Memory),
+        };
     };
     let Some(j) = hall.stall_place(i, channel) else {
         return Ok(Served::Done);

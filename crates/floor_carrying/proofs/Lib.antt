@@ -1,6 +1,5 @@
 pub mod Asking
 pub mod Bodies
-pub mod Closing
 pub mod Commanding
 pub mod Conditions
 pub mod Planning

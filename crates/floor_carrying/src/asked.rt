@@ -18,8 +18,9 @@ use floor_rooms::Hall;
 use nsq_base::Memory;
 use nsq_outside::{End, Folder};
 
-// Does what is asked where this is said to be done, and answers what is said. After Memory, the only error, all is as it was.
-pub(crate) fn carry_asked<F: Folder>(
+/// Does what is asked where this is said to be done, and answers what is said. After Memory, the only error, all is as it was. Requires 16,777,242 bytes
+/// of `scratch`.
+pub fn carry_asked<F: Folder>(
     hall: &mut Hall,
     ask: Ask,
     said: Said,

@@ -22,9 +22,9 @@ use nsq_outside::Folder;
 use std::sync::ledger::Ledger;
 use v2_frame::{Command, Frame};
 
-// Carries a command of the client of this number out, which has this reply: one that is refused changes nothing but when the client spoke last. After
-// Memory, the only error, all is as it was.
-pub(crate) fn carry_command<F: Folder, L: Ledger>(
+/// Carries a command of the client of this number out, which has this reply: one that is refused changes nothing but when the client spoke last. After
+/// Memory, the only error, all is as it was. Requires 16,777,242 bytes of `scratch`.
+pub fn carry_command<F: Folder, L: Ledger>(
     hall: &mut Hall,
     number: u64,
     command: Command,

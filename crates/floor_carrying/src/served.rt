@@ -1,5 +1,5 @@
 /// How what was asked ended, where it is said to be done.
-#[derive(Clone, Copy, PartialEq, Eq)]
+#[derive(Clone, Copy)]
 pub enum Served {
     /// It was done.
     Done,

@@ -11,9 +11,9 @@ ghost use Rattle.floor_turns.specs.Timely.{TicksTimely};
 ghost use Rattle.floor_turns.specs.Turning.{PaysFor, Settles, TakesTurn, ends_at_stop, is_enough, is_stopping, is_stuck_stop, most_for};
 ghost use Rattle.floor_serving.specs.Ticks.{is_saving, is_ticking};
 
+use crate::acting::make_act;
 use broker_history::Entry;
 use desk::{Call, Turned};
-use floor_carrying::make_act;
 use floor_drawing::draw;
 use floor_moves::Place;
 use floor_rooms::Hall;

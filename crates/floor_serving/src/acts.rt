@@ -7,10 +7,10 @@ ghost use Rattle.floor_rooms.specs.Sound.{IsSound};
 ghost use Rattle.floor_turns.specs.Acting.{answer_of};
 ghost use Rattle.floor_carrying.specs.Carrying.{CarriesOut, IsLeft, basis};
 
-use crate::Carried;
 use broker_history::Act;
 use desk::Turned;
 use floor_acts::{beat, begin, stop};
+use floor_carrying::Carried;
 use floor_members::gone;
 use floor_replies::beat_frame;
 use floor_rooms::Hall;

@@ -1,5 +1,5 @@
-use Rattle.floor_carrying.proofs.Closing.{out_answer, out_cause, out_clients, out_does, out_noted, out_rests, out_same, out_short}
-use Rattle.floor_carrying.proofs.acting.carry_out.Goals as goal
+use Rattle.floor_serving.proofs.Closing.{out_answer, out_cause, out_clients, out_does, out_noted, out_rests, out_same, out_short}
+use Rattle.floor_serving.proofs.acting.carry_out.Goals as goal
 
 pub returns-clause-does : goal.returns-clause-does
 returns-clause-does g c = out_does g.F.Folder.tells_files c.args.number c.args.planned.act c.args.hall.now c.carry_act.new.hall (g.F.Folder.files c.args.folder.now) (g.F.Folder.files c.carry_act.new.folder) (g.F.Folder.folder_faults c.args.folder.now) (g.F.Folder.folder_faults c.carry_act.new.folder) c.carry_act.result c.carry_act.ensures

@@ -2,9 +2,9 @@ use Rattle.std.proofs.Common.{subst, sym}
 use Rattle.broker_history.specs.declared.entry.Act.{Act}
 use Rattle.floor_turns.specs.Acting.{IsPlanned}
 use Rattle.floor_carrying.specs.Carrying.{CarriesOut, IsNoCommand, basis}
-use Rattle.floor_carrying.proofs.Closing.{act_left}
+use Rattle.floor_serving.proofs.Closing.{act_left}
 use Rattle.floor_carrying.proofs.Planning.{asked_can, beat_there, begin_none, gone_there, left, planned_most}
-use Rattle.floor_carrying.proofs.acting.carry_other.Goals as goal
+use Rattle.floor_serving.proofs.acting.carry_other.Goals as goal
 
 pub carry_begin-requires-clause-new : goal.carry_begin-requires-clause-new
 carry_begin-requires-clause-new g c = begin_none c.args.hall.now c.args.number c.requires.plan.0 (subst (λ (a : Act). IsPlanned c.args.hall.now c.args.number a c.requires.plan.0) c.in-Began.is c.requires.plan.1)

@@ -11,12 +11,10 @@ ghost use Rattle.floor_turns.specs.Acting.{ActCarries, Acts, IsNoted, IsPlanned,
 ghost use Rattle.negotiation.specs.declared.identity.Identity.{Identity};
 ghost use Rattle.floor_carrying.specs.Carrying.{CarriesOut, IsNoCommand, basis};
 
-use crate::Carried;
 use crate::acts::{carry_beat, carry_begin, carry_gone, carry_stop, leave};
-use crate::asked::carry_asked;
-use crate::commands::carry_command;
 use broker_history::{Act, Entry};
 use desk::Turned;
+use floor_carrying::{Carried, carry_asked, carry_command};
 use floor_rooms::Hall;
 use floor_words::Planned;
 use negotiation::Identity;
@@ -24,10 +22,10 @@ use nsq_base::{Memory, Steps};
 use nsq_outside::{End, Folder, Journal};
 use std::sync::ledger::Ledger;
 
-/// Carries an act of a connection of this number out, to which a call leads in this hall: the hall stands for what the definitions make of each state that
-/// it stood for. What a disk fault keeps off ends so, and nothing more of it is done than its end says. After Memory, the only error, all is as it was.
-/// Requires 16,777,242 bytes of `scratch`.
-pub fn carry_out<F: Folder, L: Ledger>(
+// Carries an act of a connection of this number out, to which a call leads in this hall: the hall stands for what the definitions make of each state that
+// it stood for. What a disk fault keeps off ends so, and nothing more of it is done than its end says. After Memory, the only error, all is as it was.
+// Requires 16,777,242 bytes of `scratch`.
+pub(crate) fn carry_out<F: Folder, L: Ledger>(
     hall: &mut Hall,
     number: u64,
     planned: Planned,
@@ -105,9 +103,9 @@ fn carry_other<F: Folder>(
     }
 }
 
-/// Makes the act of a call of this number: it is kept aside, carried out, and noted with its end. After Memory nothing is noted, and all is as it was.
-/// Requires 16,777,242 bytes of `scratch`.
-pub fn make_act<F: Folder, J: Journal<Entry>, L: Ledger>(
+// Makes the act of a call of this number: it is kept aside, carried out, and noted with its end. After Memory nothing is noted, and all is as it was.
+// Requires 16,777,242 bytes of `scratch`.
+pub(crate) fn make_act<F: Folder, J: Journal<Entry>, L: Ledger>(
     hall: &mut Hall,
     number: u64,
     planned: Planned,

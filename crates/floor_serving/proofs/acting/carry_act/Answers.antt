@@ -3,7 +3,7 @@ use Rattle.broker_history.specs.declared.entry.Act.{Act}
 use Rattle.floor_turns.specs.Acting.{IsPlanned}
 use Rattle.floor_carrying.specs.Carrying.{CarriesOut, basis}
 use Rattle.floor_carrying.proofs.Planning.{no_command, planned_most}
-use Rattle.floor_carrying.proofs.acting.carry_act.Goals as goal
+use Rattle.floor_serving.proofs.acting.carry_act.Goals as goal
 
 pub carry_command-requires-clause-plan : goal.carry_command-requires-clause-plan
 carry_command-requires-clause-plan g c = (subst (λ (a : Act). IsPlanned c.args.hall.now c.args.number a c.args.said) c.in-Did.is c.requires.plan)

@@ -24,8 +24,11 @@ use Rattle.floor_rooms.proofs.Growing.{reserved_place}
 pub ranges_spaced : (h h' : Hall) → IsSound h → h' ≡ record h { rooms = h'.rooms; pending = h'.pending } → IsInRange h'.options
 ranges_spaced h h' sound e = subst IsInRange (sym (ap (λ (x : Hall). x.options) e)) sound.options
 
+pub range_at : (i : ℕ) (Does : Room → Room → Type 0) (xs ys : List Room) → AtRoom i Does xs ys → i < length ys
+range_at i Does xs ys at = omega (arith, ap length at.is, length-set xs i at.after, slice_get_within xs i at.room at.there)
+
 pub range_spaced : (xs ys : List Room) (i : ℕ) → AtRoom i SameStalls xs ys → i < length ys
-range_spaced xs ys i at = omega (arith, ap length at.is, length-set xs i at.after, slice_get_within xs i at.room at.there)
+range_spaced xs ys i at = range_at i SameStalls xs ys at
 
 -- a new topic belongs where its name belonged
 pub place_spaced : (xs ys : List Room) (name name' : List ℕ) (i : ℕ) → ys ≡ xs → name' ≡ name → BelongsAt topic_name xs name i → BelongsAt topic_name ys name' i

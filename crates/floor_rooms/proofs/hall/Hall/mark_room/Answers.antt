@@ -1,4 +1,4 @@
-use Rattle.std.proofs.Common.{refl, ap}
+use Rattle.std.proofs.Common.{refl, ap, arith}
 use Rattle.floor_rooms.proofs.Marked.{MarksRoom, at_room_read, marked_room_sound, marked_room_stands}
 use Rattle.floor_rooms.proofs.Spacing.{mark_leaves}
 use Rattle.floor_rooms.proofs.hall.Hall.mark_room.Goals as goal
@@ -16,3 +16,9 @@ returns-clause-stands c = λ files s holds. marked_room_stands c.args.self.now _
 
 pub returns-clause-rest : goal.returns-clause-rest
 returns-clause-rest c = mark_leaves c.args.self.now _ _ refl c.min-self.ensures
+
+pub index_mut-room-requires : goal.index_mut-room-requires
+index_mut-room-requires c =
+    let within = c.requires.room in
+    let long = c.args.self.now.rooms.ok.0 in
+    omega (arith, within, long)

@@ -27,3 +27,9 @@ returns-clause-stands c = λ files s holds. marked_stall_stands c.args.self.now 
 
 pub returns-clause-rest : goal.returns-clause-rest
 returns-clause-rest c = mark_leaves c.args.self.now _ _ refl c.min-self.ensures
+
+pub index_mut-requires : goal.index_mut-requires
+index_mut-requires c =
+    let within = c.requires.room in
+    let long = c.args.self.now.rooms.ok.0 in
+    omega (arith, within, long)

@@ -15,3 +15,4 @@ pub mod Dating
 pub mod Naming
 pub mod Filing
 pub mod Coming
+pub mod Spacing

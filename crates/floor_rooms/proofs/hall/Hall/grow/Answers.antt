@@ -1,20 +1,15 @@
-use Rattle.std.proofs.Common.{List, ℕ, sym, ap, subst}
-use Rattle.std.specs.Prelude.{HoldsAt}
-use Rattle.nsq_base.specs.Places.{BelongsAt}
-use Rattle.channel_core.specs.Seen.{Seen as ChannelSeen}
+use Rattle.std.proofs.Common.{ap}
 use Rattle.floor_rooms.specs.declared.hall.Hall.{Hall}
-use Rattle.floor_rooms.specs.declared.room.Room.{Room}
-use Rattle.floor_rooms.specs.Rooms.{channel_name}
 use Rattle.floor_rooms.proofs.Growing.{added_stall_sound, added_stall_stands, else_both, else_spaced, reserved_place, reserved_stands_at}
 use Rattle.floor_rooms.proofs.Dating.{keeps_reserved, since_kept}
 use Rattle.floor_rooms.proofs.Naming.{names_kept}
+use Rattle.floor_rooms.proofs.Spacing.{range_spaced, ranges_spaced, stall_called, stall_spaced}
 use Rattle.floor_rooms.proofs.Coming.{grew_names, grew_since, grew_there}
 use Rattle.floor_rooms.proofs.hall.Hall.grow.Goals as goal
 
 pub add_stall-requires-clause-place : goal.add_stall-requires-clause-place
 add_stall-requires-clause-place c =
-    subst (λ (n : List ℕ). HoldsAt (λ (r : Room). BelongsAt channel_name r.stalls.items n c.args.j) c.reserve_stall.new.self.rooms.items c.args.i) (sym (ap (λ (v : ChannelSeen). v.about.name) c.in_ok-stall.ensures.stall.channel.is))
-    (reserved_place c.args.self.now.rooms.items c.reserve_stall.new.self.rooms.items c.args.i c.args.j c.args.channel c.reserve_stall.ensures.room c.requires.place)
+    stall_spaced c.args.self.now.rooms.items c.reserve_stall.new.self.rooms.items c.args.i c.args.j c.args.topic c.args.channel c.reserve_stall.new.self.options c.in_ok-stall.stall c.reserve_stall.ensures.room c.requires.place c.in_ok-stall.ensures.stall
 
 pub returns-clause-sound : goal.returns-clause-sound
 returns-clause-sound c =
@@ -54,22 +49,19 @@ returns-in_err-stall-clause-since c =
 pub returns-clause-names : goal.returns-clause-names
 returns-clause-names c =
     grew_names c.args.self.now c.reserve_stall.new.self c.add_stall.new.self c.args.topic c.args.channel c.args.i c.args.j c.in_ok-stall.stall c.reserve_stall.ensures.rest c.reserve_stall.ensures.room c.add_stall.ensures.room c.add_stall.ensures.unsaved
-    (subst (λ (n : List ℕ). HoldsAt (λ (r : Room). BelongsAt channel_name r.stalls.items n c.args.j) c.reserve_stall.new.self.rooms.items c.args.i) (sym (ap (λ (v : ChannelSeen). v.about.name) c.in_ok-stall.ensures.stall.channel.is))
-    (reserved_place c.args.self.now.rooms.items c.reserve_stall.new.self.rooms.items c.args.i c.args.j c.args.channel c.reserve_stall.ensures.room c.requires.place))
+    (stall_spaced c.args.self.now.rooms.items c.reserve_stall.new.self.rooms.items c.args.i c.args.j c.args.topic c.args.channel c.reserve_stall.new.self.options c.in_ok-stall.stall c.reserve_stall.ensures.room c.requires.place c.in_ok-stall.ensures.stall)
 
 pub returns-clause-since : goal.returns-clause-since
 returns-clause-since c =
     grew_since c.args.self.now c.reserve_stall.new.self c.add_stall.new.self c.args.topic c.args.channel c.args.i c.args.j c.in_ok-stall.stall c.reserve_stall.ensures.rest c.reserve_stall.ensures.room c.add_stall.ensures.room c.add_stall.ensures.unsaved
-    (subst (λ (n : List ℕ). HoldsAt (λ (r : Room). BelongsAt channel_name r.stalls.items n c.args.j) c.reserve_stall.new.self.rooms.items c.args.i) (sym (ap (λ (v : ChannelSeen). v.about.name) c.in_ok-stall.ensures.stall.channel.is))
-    (reserved_place c.args.self.now.rooms.items c.reserve_stall.new.self.rooms.items c.args.i c.args.j c.args.channel c.reserve_stall.ensures.room c.requires.place)) c.in_ok-stall.ensures.stall.since
+    (stall_spaced c.args.self.now.rooms.items c.reserve_stall.new.self.rooms.items c.args.i c.args.j c.args.topic c.args.channel c.reserve_stall.new.self.options c.in_ok-stall.stall c.reserve_stall.ensures.room c.requires.place c.in_ok-stall.ensures.stall) c.in_ok-stall.ensures.stall.since
 
 pub returns-clause-there : goal.returns-clause-there
 returns-clause-there c =
     let sound = c.reserve_stall.ensures.sound c.requires.sound in
     grew_there c.args.self.now c.reserve_stall.new.self c.add_stall.new.self c.args.topic c.args.channel c.args.i c.args.j c.in_ok-stall.stall c.reserve_stall.ensures.rest c.reserve_stall.ensures.room c.add_stall.ensures.room c.add_stall.ensures.unsaved
-    (subst (λ (n : List ℕ). HoldsAt (λ (r : Room). BelongsAt channel_name r.stalls.items n c.args.j) c.reserve_stall.new.self.rooms.items c.args.i) (sym (ap (λ (v : ChannelSeen). v.about.name) c.in_ok-stall.ensures.stall.channel.is))
-    (reserved_place c.args.self.now.rooms.items c.reserve_stall.new.self.rooms.items c.args.i c.args.j c.args.channel c.reserve_stall.ensures.room c.requires.place)) sound.room_order
-    (reserved_stands_at c.args.self.now.rooms.items c.reserve_stall.new.self.rooms.items c.args.i c.args.topic c.reserve_stall.ensures.room sound.room_order c.requires.there) (ap (λ (v : ChannelSeen). v.about.name) c.in_ok-stall.ensures.stall.channel.is)
+    (stall_spaced c.args.self.now.rooms.items c.reserve_stall.new.self.rooms.items c.args.i c.args.j c.args.topic c.args.channel c.reserve_stall.new.self.options c.in_ok-stall.stall c.reserve_stall.ensures.room c.requires.place c.in_ok-stall.ensures.stall) sound.room_order
+    (reserved_stands_at c.args.self.now.rooms.items c.reserve_stall.new.self.rooms.items c.args.i c.args.topic c.reserve_stall.ensures.room sound.room_order c.requires.there) (stall_called c.args.topic c.args.channel c.reserve_stall.new.self.options c.in_ok-stall.stall c.in_ok-stall.ensures.stall)
 
 pub returns-clause-rest : goal.returns-clause-rest
 returns-clause-rest c = else_both c.args.self.now c.reserve_stall.new.self c.add_stall.new.self c.reserve_stall.ensures.rest c.add_stall.ensures.rest
@@ -79,3 +71,18 @@ returns-in_err-reserve_stall-clause-rest c = else_spaced c.args.self.now c.reser
 
 pub returns-in_err-stall-clause-rest : goal.returns-in_err-stall-clause-rest
 returns-in_err-stall-clause-rest c = else_spaced c.args.self.now c.reserve_stall.new.self c.reserve_stall.ensures.rest
+
+pub reserve_stall-requires : goal.reserve_stall-requires
+reserve_stall-requires c = c.requires.there.in_range
+
+pub free_stall-requires : goal.free_stall-requires
+free_stall-requires c = ranges_spaced c.args.self.now c.reserve_stall.new.self c.requires.sound c.reserve_stall.ensures.rest
+
+pub add_stall-requires-clause-room : goal.add_stall-requires-clause-room
+add_stall-requires-clause-room c = range_spaced c.args.self.now.rooms.items c.reserve_stall.new.self.rooms.items c.args.i c.reserve_stall.ensures.room
+
+pub returns-in_err-reserve_stall-clause-sound : goal.returns-in_err-reserve_stall-clause-sound
+returns-in_err-reserve_stall-clause-sound c = c.reserve_stall.ensures.sound c.requires.sound
+
+pub returns-in_err-stall-clause-sound : goal.returns-in_err-stall-clause-sound
+returns-in_err-stall-clause-sound c = c.reserve_stall.ensures.sound c.requires.sound

@@ -1,4 +1,4 @@
-use Rattle.std.proofs.Common.{refl}
+use Rattle.std.proofs.Common.{refl, arith}
 use Rattle.floor_rooms.proofs.Marked.{ListsRoom, at_room_read, listed_already, listed_now, listed_room_sound, listed_room_stands}
 use Rattle.floor_rooms.proofs.hall.Hall.list_room.Goals as goal
 
@@ -23,3 +23,12 @@ returns-clause-sound c = λ sound. listed_room_sound c.args.self.now _ c.args.i 
 
 pub returns-clause-stands : goal.returns-clause-stands
 returns-clause-stands c = λ files s holds. listed_room_stands c.args.self.now _ files s c.args.i c.args.self.now.pending.items c.push_back_reserved.new.self.items refl (returns-clause-room c) holds
+
+pub index_mut-room-requires : goal.index_mut-room-requires
+index_mut-room-requires c =
+    let within = c.requires.room in
+    let long = c.args.self.now.rooms.ok.0 in
+    omega (arith, within, long)
+
+pub returns-then-room-clause-stands : goal.returns-then-room-clause-stands
+returns-then-room-clause-stands c = λ files s holds. listed_room_stands c.args.self.now _ files s c.args.i c.args.self.now.pending.items c.args.self.now.pending.items refl (returns-then-room-clause-room c) holds

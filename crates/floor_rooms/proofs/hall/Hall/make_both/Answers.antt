@@ -1,8 +1,6 @@
 use Rattle.std.proofs.Common.{◌≡◌, List, [], None, ◌∙◌, ap, sym, subst}
 use Rattle.std.specs.List.{All}
 use Rattle.std.proofs.lemmas.List.Elements.{All-cons, All-nil}
-use Rattle.topic_core.specs.Seen.{Seen as TopicSeen}
-use Rattle.channel_core.specs.Seen.{Seen as ChannelSeen}
 use Rattle.floor_rooms.specs.declared.hall.Hall.{Hall}
 use Rattle.floor_rooms.specs.declared.stall.Stall.{Stall}
 use Rattle.floor_rooms.specs.declared.room.Room.{Room}
@@ -11,6 +9,7 @@ use Rattle.floor_rooms.proofs.Placing.{none_belonging}
 use Rattle.floor_rooms.proofs.Growing.{else_added, else_put, else_spaced, with_sound, with_stands}
 use Rattle.floor_rooms.proofs.Dating.{keeps_equal, since_kept}
 use Rattle.floor_rooms.proofs.Naming.{names_kept}
+use Rattle.floor_rooms.proofs.Spacing.{place_spaced, ranges_spaced, room_called, stall_called}
 use Rattle.floor_rooms.proofs.Coming.{came_names, came_since, came_there}
 use Rattle.floor_rooms.proofs.hall.Hall.make_both.Goals as goal
 
@@ -34,21 +33,21 @@ returns-clause-there c =
     let reserved = c.reserve_room.ensures in
     let room = c.in_ok-room.ensures.room in
     came_there c.args.self.now c.reserve_room.new.self c.add_room.new.self c.args.topic c.args.i c.in_ok-room.room reserved.rest c.add_room.ensures.rest reserved.rooms c.add_room.ensures.rooms c.requires.place
-    (ap (λ (q : TopicSeen). q.name) room.queue) c.args.channel room.stall room.stalls (ap (λ (v : ChannelSeen). v.about.name) room.fresh.channel.is)
+    (room_called c.args.topic c.reserve_room.new.self.options c.in_ok-room.room room.queue) c.args.channel room.stall room.stalls (stall_called c.args.topic c.args.channel c.reserve_room.new.self.options room.stall room.fresh)
 
 pub returns-clause-names : goal.returns-clause-names
 returns-clause-names c =
     let reserved = c.reserve_room.ensures in
     let room = c.in_ok-room.ensures.room in
     came_names c.args.self.now c.reserve_room.new.self c.add_room.new.self c.args.topic c.args.i c.in_ok-room.room reserved.rest c.add_room.ensures.rest reserved.rooms c.add_room.ensures.rooms c.requires.place
-    (ap (λ (q : TopicSeen). q.name) room.queue)
+    (room_called c.args.topic c.reserve_room.new.self.options c.in_ok-room.room room.queue)
 
 pub returns-clause-since : goal.returns-clause-since
 returns-clause-since c =
     let reserved = c.reserve_room.ensures in
     let room = c.in_ok-room.ensures.room in
     came_since c.args.self.now c.reserve_room.new.self c.add_room.new.self c.args.topic c.args.i c.in_ok-room.room reserved.rest c.add_room.ensures.rest reserved.rooms c.add_room.ensures.rooms c.requires.place
-    (ap (λ (q : TopicSeen). q.name) room.queue) room.since
+    (room_called c.args.topic c.reserve_room.new.self.options c.in_ok-room.room room.queue) room.since
     (subst (All (λ (s : Stall). s.since ≡ None)) (sym room.stalls) (All-cons (λ (s : Stall). s.since ≡ None) room.stall [] room.fresh.since (All-nil (λ (s : Stall). s.since ≡ None))))
 
 pub returns-clause-rest : goal.returns-clause-rest
@@ -79,3 +78,16 @@ pub returns-in_err-room-clause-since : goal.returns-in_err-room-clause-since
 returns-in_err-room-clause-since c =
     let h = c.args.self.now in
     since_kept h.moment h.rooms.items c.reserve_room.new.self.rooms.items (keeps_equal h.moment h.rooms.items c.reserve_room.new.self.rooms.items c.reserve_room.ensures.rooms)
+
+pub room_with-requires : goal.room_with-requires
+room_with-requires c = ranges_spaced c.args.self.now c.reserve_room.new.self c.requires.sound c.reserve_room.ensures.rest
+
+pub add_room-requires-clause-place : goal.add_room-requires-clause-place
+add_room-requires-clause-place c =
+    place_spaced c.args.self.now.rooms.items c.reserve_room.new.self.rooms.items c.args.topic (topic_name c.in_ok-room.room) c.args.i c.reserve_room.ensures.rooms (room_called c.args.topic c.reserve_room.new.self.options c.in_ok-room.room c.in_ok-room.ensures.room.queue) c.requires.place
+
+pub returns-in_err-reserve_room-clause-sound : goal.returns-in_err-reserve_room-clause-sound
+returns-in_err-reserve_room-clause-sound c = c.reserve_room.ensures.sound c.requires.sound
+
+pub returns-in_err-room-clause-sound : goal.returns-in_err-room-clause-sound
+returns-in_err-room-clause-sound c = c.reserve_room.ensures.sound c.requires.sound

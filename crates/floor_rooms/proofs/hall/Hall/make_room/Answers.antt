@@ -1,7 +1,6 @@
 use Rattle.std.proofs.Common.{◌≡◌, None, refl, ap, sym, subst}
 use Rattle.std.specs.List.{All}
 use Rattle.std.proofs.lemmas.List.Elements.{All-nil}
-use Rattle.topic_core.specs.Seen.{Seen as TopicSeen}
 use Rattle.floor_rooms.specs.declared.hall.Hall.{Hall}
 use Rattle.floor_rooms.specs.declared.stall.Stall.{Stall}
 use Rattle.floor_rooms.specs.Rooms.{topic_name}
@@ -10,6 +9,7 @@ use Rattle.floor_rooms.proofs.Forming.{added_made, added_sound, added_stands, ad
 use Rattle.floor_rooms.proofs.Dating.{keeps_equal, since_kept}
 use Rattle.floor_rooms.proofs.Growing.{else_put, else_spaced}
 use Rattle.floor_rooms.proofs.Naming.{names_kept}
+use Rattle.floor_rooms.proofs.Spacing.{place_spaced, room_called}
 use Rattle.floor_rooms.proofs.Coming.{came_names, came_since}
 use Rattle.floor_rooms.proofs.hall.Hall.make_room.Goals as goal
 
@@ -57,14 +57,14 @@ pub returns-in_ok-room-in-Err-clause-names : goal.returns-in_ok-room-in-Err-clau
 returns-in_ok-room-in-Err-clause-names c =
     let reserved = c.reserve_room.ensures in
     came_names c.args.self.now c.reserve_room.new.self c.add_room.new.self c.args.topic c.in-Err.i c.in_ok-room-in-Err.room reserved.rest c.add_room.ensures.rest reserved.rooms c.add_room.ensures.rooms c.in-Err.ensures
-    (ap (λ (q : TopicSeen). q.name) c.in_ok-room-in-Err.ensures.room.queue)
+    (room_called c.args.topic c.reserve_room.new.self.options c.in_ok-room-in-Err.room c.in_ok-room-in-Err.ensures.room.queue)
 
 pub returns-in_ok-room-in-Err-clause-since : goal.returns-in_ok-room-in-Err-clause-since
 returns-in_ok-room-in-Err-clause-since c =
     let reserved = c.reserve_room.ensures in
     let fresh = c.in_ok-room-in-Err.ensures.room in
     came_since c.args.self.now c.reserve_room.new.self c.add_room.new.self c.args.topic c.in-Err.i c.in_ok-room-in-Err.room reserved.rest c.add_room.ensures.rest reserved.rooms c.add_room.ensures.rooms c.in-Err.ensures
-    (ap (λ (q : TopicSeen). q.name) fresh.queue) fresh.since (subst (All (λ (s : Stall). s.since ≡ None)) (sym fresh.stalls) (All-nil (λ (s : Stall). s.since ≡ None)))
+    (room_called c.args.topic c.reserve_room.new.self.options c.in_ok-room-in-Err.room fresh.queue) fresh.since (subst (All (λ (s : Stall). s.since ≡ None)) (sym fresh.stalls) (All-nil (λ (s : Stall). s.since ≡ None)))
 
 pub returns-in_ok-room-in-Err-clause-rest : goal.returns-in_ok-room-in-Err-clause-rest
 returns-in_ok-room-in-Err-clause-rest c = else_put c.args.self.now c.reserve_room.new.self c.add_room.new.self _ c.reserve_room.ensures.rest c.add_room.ensures.rest
@@ -94,3 +94,25 @@ pub returns-in-Ok-clause-since : goal.returns-in-Ok-clause-since
 returns-in-Ok-clause-since c =
     let h = c.args.self.now in
     since_kept h.moment h.rooms.items h.rooms.items (keeps_equal h.moment h.rooms.items h.rooms.items refl)
+
+pub place_of-requires : goal.place_of-requires
+place_of-requires c = c.requires
+
+pub add_room-requires-clause-place : goal.add_room-requires-clause-place
+add_room-requires-clause-place c =
+    place_spaced c.args.self.now.rooms.items c.reserve_room.new.self.rooms.items c.args.topic (topic_name c.in_ok-room-in-Err.room) c.in-Err.i c.reserve_room.ensures.rooms (room_called c.args.topic c.reserve_room.new.self.options c.in_ok-room-in-Err.room c.in_ok-room-in-Err.ensures.room.queue) c.in-Err.ensures
+
+pub returns-in-Ok-clause-sound : goal.returns-in-Ok-clause-sound
+returns-in-Ok-clause-sound c = c.requires
+
+pub returns-in_err-reserve_room-in-Err-clause-sound : goal.returns-in_err-reserve_room-in-Err-clause-sound
+returns-in_err-reserve_room-in-Err-clause-sound c = c.reserve_room.ensures.sound c.requires
+
+pub returns-in_err-reserve_room-in-Err-clause-pending : goal.returns-in_err-reserve_room-in-Err-clause-pending
+returns-in_err-reserve_room-in-Err-clause-pending c = c.reserve_room.ensures.pending
+
+pub returns-in_err-room-in-Err-clause-sound : goal.returns-in_err-room-in-Err-clause-sound
+returns-in_err-room-in-Err-clause-sound c = c.reserve_room.ensures.sound c.requires
+
+pub returns-in_err-room-in-Err-clause-pending : goal.returns-in_err-room-in-Err-clause-pending
+returns-in_err-room-in-Err-clause-pending c = c.reserve_room.ensures.pending

@@ -1,5 +1,6 @@
-use Rattle.std.proofs.Common.{refl, ap}
+use Rattle.std.proofs.Common.{refl, ap, arith}
 use Rattle.floor_rooms.proofs.Marked.{MarksRoom, at_room_read, marked_room_sound, marked_room_stands}
+use Rattle.floor_rooms.proofs.Spacing.{mark_leaves}
 use Rattle.floor_rooms.proofs.hall.Hall.mark_room.Goals as goal
 
 pub returns-clause-room : goal.returns-clause-room
@@ -12,3 +13,12 @@ returns-clause-sound c = marked_room_sound c.args.self.now _ c.args.i c.requires
 
 pub returns-clause-stands : goal.returns-clause-stands
 returns-clause-stands c = λ files s holds. marked_room_stands c.args.self.now _ files s c.args.i refl (returns-clause-room c) holds
+
+pub returns-clause-rest : goal.returns-clause-rest
+returns-clause-rest c = mark_leaves c.args.self.now _ _ refl c.min-self.ensures
+
+pub index_mut-room-requires : goal.index_mut-room-requires
+index_mut-room-requires c =
+    let within = c.requires.room in
+    let long = c.args.self.now.rooms.ok.0 in
+    omega (arith, within, long)

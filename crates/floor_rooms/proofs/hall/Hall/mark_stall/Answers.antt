@@ -1,6 +1,7 @@
 use Rattle.std.proofs.Common.{◌<◌, length, refl, ap, arith}
 use Rattle.floor_rooms.specs.Changes.{InRoom}
 use Rattle.floor_rooms.proofs.Marked.{MarksStall, at_room_read, in_room_read, marked_stall_sound, marked_stall_stands, range_of}
+use Rattle.floor_rooms.proofs.Spacing.{mark_leaves}
 use Rattle.floor_rooms.proofs.hall.Hall.mark_stall.Goals as goal
 
 pub index_mut-stall-requires : goal.index_mut-stall-requires
@@ -23,3 +24,12 @@ returns-clause-sound c = marked_stall_sound c.args.self.now _ c.args.i c.args.j 
 
 pub returns-clause-stands : goal.returns-clause-stands
 returns-clause-stands c = λ files s holds. marked_stall_stands c.args.self.now _ files s c.args.i c.args.j refl (returns-clause-stall c) holds
+
+pub returns-clause-rest : goal.returns-clause-rest
+returns-clause-rest c = mark_leaves c.args.self.now _ _ refl c.min-self.ensures
+
+pub index_mut-requires : goal.index_mut-requires
+index_mut-requires c =
+    let within = c.requires.room in
+    let long = c.args.self.now.rooms.ok.0 in
+    omega (arith, within, long)

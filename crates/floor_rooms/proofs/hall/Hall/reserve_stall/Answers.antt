@@ -1,4 +1,4 @@
-use Rattle.std.proofs.Common.{refl}
+use Rattle.std.proofs.Common.{refl, arith}
 use Rattle.floor_rooms.specs.Made.{SameStalls}
 use Rattle.floor_rooms.proofs.Marked.{at_room_read}
 use Rattle.floor_rooms.proofs.Growing.{reserved_sound, reserved_stands}
@@ -30,3 +30,18 @@ returns-clause-sound c = λ sound. reserved_sound c.args.self.now _ c.args.i ref
 
 pub returns-clause-stands : goal.returns-clause-stands
 returns-clause-stands c = λ files s holds. reserved_stands c.args.self.now _ c.args.i refl (returns-clause-room c) files s holds
+
+pub index_mut-room-requires : goal.index_mut-room-requires
+index_mut-room-requires c =
+    let within = c.requires in
+    let long = c.args.self.now.rooms.ok.0 in
+    omega (arith, within, long)
+
+pub returns-in_err-reserve-clause-pending : goal.returns-in_err-reserve-clause-pending
+returns-in_err-reserve-clause-pending c = refl
+
+pub returns-in_err-reserve-2-clause-pending : goal.returns-in_err-reserve-2-clause-pending
+returns-in_err-reserve-2-clause-pending c = c.reserve-2.ensures.items
+
+pub returns-clause-pending : goal.returns-clause-pending
+returns-clause-pending c = c.reserve-2.ensures.items

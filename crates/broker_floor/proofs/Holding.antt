@@ -23,6 +23,7 @@ use Rattle.floor_turns.specs.Scenes.{IsTied, is_here, scene}
 use Rattle.floor_turns.specs.Turning.{TakesTurn}
 use Rattle.floor_turns.specs.Turns.{IsTurn, hall_at}
 use Rattle.floor_turns.proofs.Tying.{turn_ties}
+use Rattle.broker_floor.specs.Held.{Held}
 
 -- names that were saved
 pub sound_saved : (h h' : Hall) → IsSound h → h' ≡ record h { unsaved_names = h'.unsaved_names } → IsSound h'
@@ -62,6 +63,21 @@ tied_new options epoch at h notes empty none = record {
   begun = λ n over. absurd (false≢true (ap (λ (x : History). is_over (own n x)) (sym none) ∙ over));
   stopped = empty.stopped ∙ sym (ap has_stop none);
 }
+
+-- a hall with the same clients, stopped as it was
+pub tied_kept : (h h' : Hall) (notes : History) → h'.clients.items ≡ h.clients.items → h'.stopped ≡ h.stopped → IsTied h notes → IsTied h' notes
+tied_kept h h' notes clients stopped tied = record {
+  clients = λ n. ap (λ (cs : List Client). is_some (client_in cs n)) clients ∙ tied.clients n;
+  begun = tied.begun;
+  stopped = stopped ∙ tied.stopped;
+}
+
+-- of what is held, where its hall has other topics
+abbrev held_at : Hall → Bool → Held
+held_at h flushed = record { hall = h; flushed = flushed }
+
+pub added_rest : (held : Held) (h h' : Hall) (flushed : Bool) → held_at h flushed ≡ held → h' ≡ record h { rooms = h'.rooms; pending = h'.pending } → held_at h' flushed ≡ record held { hall = record (held.hall) { rooms = h'.rooms; pending = h'.pending } }
+added_rest held h h' flushed seen is = ap (λ (x : Hall). held_at x flushed) is ∙ ap (λ (x : Held). record x { hall = record (x.hall) { rooms = h'.rooms; pending = h'.pending } }) seen
 
 -- a turn whose clock was read
 module _ (tells_notes tells_files tells_readings : Bool) (number : ℕ) (c : Call) (answer : Turned) (h mid h' : Hall) (n n' : History) (f f' : Files) (k k' : ℕ) (coming coming' : ℕ → ℕ) (reading : ℕ) (passed : mid ≡ record h { moment = max h.moment (min reading (2 ^ 62)) }) (bounded : mid.moment ≤ 2 ^ 62) where

@@ -59,6 +59,9 @@ impl SoundHall {
         }
     }
 
+    // Lets go of the hall.
+    pub(crate) fn end(self) {}
+
     // Whether all that it has in memory was written.
     pub(crate) fn is_flushed(&self) -> bool
         ensures { result ≡ self.now.flushed }

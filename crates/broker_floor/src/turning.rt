@@ -82,8 +82,12 @@ impl<F: Folder, C: Clock, J: Journal<Entry>> Turner for Floor<F, C, J> {
 
     fn take_turn(&mut self, alloc: Global, conn: u64, call: Call) -> Turned {
         if self.held.is_flushed() {
+            let_go(call);
             return Turned::Memory;
         }
         self.turn(alloc, conn, call)
     }
 }
+
+// Lets go of a call that isn't made.
+fn let_go(_call: Call) {}

@@ -16,14 +16,14 @@ returns-clause-cause g c = fails_flushed c.args.self.now.held.hall.stuck (g.F.Fo
 pub returns-clause-others : goal.returns-clause-others
 returns-clause-others g c = λ told. others_flushed c.args.self.now.held.hall.stuck c.flush-flushed.result c.flushed_at.result (g.F.Folder.folder_faults c.args.self.now.folder) (g.F.Folder.folder_faults c.flush-flushed.new.folder) c.args.self.now.held.hall (g.F.Folder.files c.args.self.now.folder) (g.F.Folder.files c.flush-flushed.new.folder) (c.flushed_at.ensures ∙ ap (λ (x : Hall). flushed_at x.stuck c.flush-flushed.result) c.get.ensures.same) (c.flush-flushed.ensures.others told)
 
-pub new-steps-requires-clause-name : goal.new-steps-requires-clause-name
-new-steps-requires-clause-name g c = c.requires.name
+pub flush-flushed-requires-clause-name : goal.flush-flushed-requires-clause-name
+flush-flushed-requires-clause-name g c = c.requires.name
 
-pub new-steps-requires-clause-parts : goal.new-steps-requires-clause-parts
-new-steps-requires-clause-parts g c = c.requires.parts
+pub flush-flushed-requires-clause-parts : goal.flush-flushed-requires-clause-parts
+flush-flushed-requires-clause-parts g c = c.requires.parts
 
-pub new-steps-requires-clause-some : goal.new-steps-requires-clause-some
-new-steps-requires-clause-some g c = c.requires.some
+pub flush-flushed-requires-clause-some : goal.flush-flushed-requires-clause-some
+flush-flushed-requires-clause-some g c = c.requires.some
 
 pub flush-flushed-requires-clause-unflushed : goal.flush-flushed-requires-clause-unflushed
 flush-flushed-requires-clause-unflushed g c = c.requires.unflushed

@@ -33,3 +33,12 @@ returns-clause-cause g c = c.flush_all-flushed.ensures.cause
 
 pub returns-clause-kept : goal.returns-clause-kept
 returns-clause-kept g c = c.flush_all-flushed.ensures.kept ∙ ap (λ (x : Held). hall_kept x.hall) c.self.view_is
+
+pub new-steps-requires-clause-name : goal.new-steps-requires-clause-name
+new-steps-requires-clause-name g c = c.requires.name
+
+pub new-steps-requires-clause-parts : goal.new-steps-requires-clause-parts
+new-steps-requires-clause-parts g c = c.requires.parts
+
+pub new-steps-requires-clause-some : goal.new-steps-requires-clause-some
+new-steps-requires-clause-some g c = c.requires.some

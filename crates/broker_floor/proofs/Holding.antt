@@ -23,7 +23,6 @@ use Rattle.floor_turns.specs.Scenes.{IsTied, is_here, scene}
 use Rattle.floor_turns.specs.Turning.{TakesTurn}
 use Rattle.floor_turns.specs.Turns.{IsTurn, hall_at}
 use Rattle.floor_turns.proofs.Tying.{turn_ties}
-use Rattle.broker_floor.specs.Held.{Held}
 
 -- names that were saved
 pub sound_saved : (h h' : Hall) → IsSound h → h' ≡ record h { unsaved_names = h'.unsaved_names } → IsSound h'
@@ -71,13 +70,6 @@ tied_kept h h' notes clients stopped tied = record {
   begun = tied.begun;
   stopped = stopped ∙ tied.stopped;
 }
-
--- of what is held, where its hall has other topics
-abbrev held_at : Hall → Bool → Held
-held_at h flushed = record { hall = h; flushed = flushed }
-
-pub added_rest : (held : Held) (h h' : Hall) (flushed : Bool) → held_at h flushed ≡ held → h' ≡ record h { rooms = h'.rooms; pending = h'.pending } → held_at h' flushed ≡ record held { hall = record (held.hall) { rooms = h'.rooms; pending = h'.pending } }
-added_rest held h h' flushed seen is = ap (λ (x : Hall). held_at x flushed) is ∙ ap (λ (x : Held). record x { hall = record (x.hall) { rooms = h'.rooms; pending = h'.pending } }) seen
 
 -- a turn whose clock was read
 module _ (tells_notes tells_files tells_readings : Bool) (number : ℕ) (c : Call) (answer : Turned) (h mid h' : Hall) (n n' : History) (f f' : Files) (k k' : ℕ) (coming coming' : ℕ → ℕ) (reading : ℕ) (passed : mid ≡ record h { moment = max h.moment (min reading (2 ^ 62)) }) (bounded : mid.moment ≤ 2 ^ 62) where

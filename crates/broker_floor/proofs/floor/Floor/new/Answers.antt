@@ -1,4 +1,4 @@
-use Rattle.std.proofs.Common.{ap, refl, sym, subst, ℕ}
+use Rattle.std.proofs.Common.{ap, sym, subst, ℕ}
 use Rattle.nsq_base.specs.Options.{IsInRange}
 use Rattle.nsq_base.specs.declared.options.Options.{Options}
 use Rattle.floor_rooms.specs.declared.hall.Hall.{Hall}
@@ -16,65 +16,8 @@ returns-clause-stands g c = λ files unused.
     subst (λ (x : Held). HoldsFor x.hall files (empty_state c.args.options.now c.args.epoch x.hall.moment)) (sym c.new-held.ensures)
     (subst (λ (o : Options). HoldsFor hall files (empty_state o c.args.epoch at)) c.in-Ok-copy.ensures (subst (λ (m : ℕ). HoldsFor hall files (empty_state c.in-Ok-copy.options c.args.epoch m)) (sym c.new.ensures.is.moment) (c.new.ensures.stands files unused)))
 
-pub returns-in_default-clause-hall : goal.returns-in_default-clause-hall
-returns-in_default-clause-hall g c = tt
-
-pub returns-in_default-clause-unflushed : goal.returns-in_default-clause-unflushed
-returns-in_default-clause-unflushed g c = tt
-
-pub returns-in_default-clause-moment : goal.returns-in_default-clause-moment
-returns-in_default-clause-moment g c = tt
-
-pub returns-in_default-clause-coming : goal.returns-in_default-clause-coming
-returns-in_default-clause-coming g c = tt
-
-pub returns-in_default-clause-folder : goal.returns-in_default-clause-folder
-returns-in_default-clause-folder g c = tt
-
-pub returns-in_default-clause-journal : goal.returns-in_default-clause-journal
-returns-in_default-clause-journal g c = tt
-
-pub returns-in_default-clause-opens : goal.returns-in_default-clause-opens
-returns-in_default-clause-opens g c = λ files. tt
-
-pub returns-in_default-clause-stands : goal.returns-in_default-clause-stands
-returns-in_default-clause-stands g c = λ files unused. tt
-
-pub returns-in_default-clause-err : goal.returns-in_default-clause-err
-returns-in_default-clause-err g c = (refl, refl, refl)
-
-pub returns-in_default-copy-clause-hall : goal.returns-in_default-copy-clause-hall
-returns-in_default-copy-clause-hall g c = tt
-
-pub returns-in_default-copy-clause-unflushed : goal.returns-in_default-copy-clause-unflushed
-returns-in_default-copy-clause-unflushed g c = tt
-
-pub returns-in_default-copy-clause-moment : goal.returns-in_default-copy-clause-moment
-returns-in_default-copy-clause-moment g c = tt
-
-pub returns-in_default-copy-clause-coming : goal.returns-in_default-copy-clause-coming
-returns-in_default-copy-clause-coming g c = tt
-
-pub returns-in_default-copy-clause-folder : goal.returns-in_default-copy-clause-folder
-returns-in_default-copy-clause-folder g c = tt
-
-pub returns-in_default-copy-clause-journal : goal.returns-in_default-copy-clause-journal
-returns-in_default-copy-clause-journal g c = tt
-
-pub returns-in_default-copy-clause-opens : goal.returns-in_default-copy-clause-opens
-returns-in_default-copy-clause-opens g c = λ files. tt
-
-pub returns-in_default-copy-clause-stands : goal.returns-in_default-copy-clause-stands
-returns-in_default-copy-clause-stands g c = λ files unused. tt
-
-pub returns-in_default-copy-clause-err : goal.returns-in_default-copy-clause-err
-returns-in_default-copy-clause-err g c = (refl, refl, refl)
-
 pub new-requires-clause-options : goal.new-requires-clause-options
 new-requires-clause-options g c = subst IsInRange (sym c.in-Ok-copy.ensures) c.requires.options
-
-pub new-requires-clause-epoch : goal.new-requires-clause-epoch
-new-requires-clause-epoch g c = c.requires.epoch
 
 pub new-held-requires : goal.new-held-requires
 new-held-requires g c = c.new.ensures.sound
@@ -105,12 +48,3 @@ returns-clause-opens g c = λ files.
 
 pub returns-clause-coming : goal.returns-clause-coming
 returns-clause-coming g c = λ told. c.now.ensures.coming told
-
-pub returns-clause-folder : goal.returns-clause-folder
-returns-clause-folder g c = refl
-
-pub returns-clause-journal : goal.returns-clause-journal
-returns-clause-journal g c = refl
-
-pub returns-clause-err : goal.returns-clause-err
-returns-clause-err g c = tt

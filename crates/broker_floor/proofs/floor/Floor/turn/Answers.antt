@@ -21,18 +21,3 @@ returns-clause-answer g c = scene_answers c.turn_in.ensures.turn
 
 pub returns-clause-short : goal.returns-clause-short
 returns-clause-short g c = c.turn_in.ensures.turn.takes.short
-
-pub turn_in-requires-clause-unflushed : goal.turn_in-requires-clause-unflushed
-turn_in-requires-clause-unflushed g c = c.requires.unflushed
-
-pub turn_in-requires-clause-can : goal.turn_in-requires-clause-can
-turn_in-requires-clause-can g c = c.requires.can
-
-pub turn_in-requires-clause-may : goal.turn_in-requires-clause-may
-turn_in-requires-clause-may g c = c.requires.may
-
-pub returns-clause-unflushed : goal.returns-clause-unflushed
-returns-clause-unflushed g c = c.turn_in.ensures.unflushed
-
-pub returns-clause-turn : goal.returns-clause-turn
-returns-clause-turn g c = c.turn_in.ensures.turn

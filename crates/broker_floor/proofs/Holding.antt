@@ -63,6 +63,14 @@ tied_new options epoch at h notes empty none = record {
   stopped = empty.stopped ∙ sym (ap has_stop none);
 }
 
+-- a hall with the same clients, stopped as it was
+pub tied_kept : (h h' : Hall) (notes : History) → h'.clients.items ≡ h.clients.items → h'.stopped ≡ h.stopped → IsTied h notes → IsTied h' notes
+tied_kept h h' notes clients stopped tied = record {
+  clients = λ n. ap (λ (cs : List Client). is_some (client_in cs n)) clients ∙ tied.clients n;
+  begun = tied.begun;
+  stopped = stopped ∙ tied.stopped;
+}
+
 -- a turn whose clock was read
 module _ (tells_notes tells_files tells_readings : Bool) (number : ℕ) (c : Call) (answer : Turned) (h mid h' : Hall) (n n' : History) (f f' : Files) (k k' : ℕ) (coming coming' : ℕ → ℕ) (reading : ℕ) (passed : mid ≡ record h { moment = max h.moment (min reading (2 ^ 62)) }) (bounded : mid.moment ≤ 2 ^ 62) where
   mid_at : TakesTurn tells_notes tells_files number c answer (sight mid n f k) (sight h' n' f' k') → hall_at h h'.moment ≡ mid

@@ -10,7 +10,6 @@ ghost use Rattle.broker_floor.specs.Ending.{FloorFlushFails, flushed_at};
 use crate::Floor;
 use backlog::Flushed;
 use broker_history::Entry;
-use nsq_base::Steps;
 use nsq_outside::{Clock, Folder, Journal};
 use std::marker::Brand;
 use std::sync::ledger::{Blank, Ledger};
@@ -52,11 +51,10 @@ impl<F: Folder, C: Clock, J: Journal<Entry>> Floor<F, C, J> {
         ensures faults { faults_of self.old ≤ faults_of self.new }
         ensures cause { FloorFlushFails (hall_of self.old).stuck (faults_of self.old) (faults_of self.new) result }
     {
-        let mut steps: Steps<L> = Steps::new(blank);
         let stuck = self.held.get().stuck;
         let flushed = self
             .held
-            .flush(&mut self.folder, &mut self.scratch, &mut steps);
+            .flush::<F, L>(blank, &mut self.folder, &mut self.scratch);
         flushed_at(stuck, flushed)
     }
 }

@@ -72,9 +72,10 @@ impl<F: Folder, C: Clock, J: Journal<Entry>> Floor<F, C, J> {
             folder,
             clock,
             journal,
-            held: _held,
+            held,
             scratch: _scratch,
         } = self;
+        held.end();
         Kit {
             folder,
             clock,

@@ -27,7 +27,7 @@ use nsq_outside::{Folder, Journal};
 use queue_opening::Open;
 use std::alloc::Global;
 use std::marker::Model;
-use std::sync::ledger::Ledger;
+use std::sync::ledger::{Blank, Ledger};
 
 // A hall that is sound until all that it has in memory was written at a stop.
 #[derive(Drop)]
@@ -58,6 +58,9 @@ impl SoundHall {
             flushed: false,
         }
     }
+
+    // Lets go of the hall.
+    pub(crate) fn end(self) {}
 
     // Whether all that it has in memory was written.
     pub(crate) fn is_flushed(&self) -> bool
@@ -93,17 +96,20 @@ impl SoundHall {
         self.hall.unsaved_names = false;
     }
 
-    // Takes a turn of this number at the hall's moment.
+    // Takes a turn of this number at the hall's moment, with steps of heaps counted in a ledger.
     pub(crate) fn turn<F: Folder, J: Journal<Entry>, L: Ledger>(
         &mut self,
+        blank: Blank,
         alloc: Global,
         number: u64,
         call: Call,
         folder: &mut F,
         scratch: &mut [u8],
         journal: &mut J,
-        steps: &mut Steps<L>,
     ) -> Turned
+        requires name { blank.name ≡ L.name }
+        requires parts { blank.parts ≡ L.parts }
+        requires some { 0 < L.parts }
         requires unflushed { self.old.flushed ≡ false }
         requires can { CanCall call }
         requires calm { J.is_aside journal.old ≡ false }
@@ -113,6 +119,7 @@ impl SoundHall {
         ensures calm { J.is_aside journal.new ≡ false }
         ensures files { IsTrue F.tells_files → OnlyQueueFiles (F.files folder.old) (F.files folder.new) }
     {
+        let mut steps: Steps<L> = Steps::new(blank);
         turn_at(
             &mut self.hall,
             alloc,
@@ -121,17 +128,20 @@ impl SoundHall {
             folder,
             scratch,
             journal,
-            steps,
+            &mut steps,
         )
     }
 
-    // Writes all that durable topics and channels have in memory behind what is on disk.
+    // Writes all that durable topics and channels have in memory behind what is on disk, with steps counted in the same way.
     pub(crate) fn flush<F: Folder, L: Ledger>(
         &mut self,
+        blank: Blank,
         folder: &mut F,
         scratch: &mut [u8],
-        steps: &mut Steps<L>,
     ) -> Flushed
+        requires name { blank.name ≡ L.name }
+        requires parts { blank.parts ≡ L.parts }
+        requires some { 0 < L.parts }
         requires unflushed { self.old.flushed ≡ false }
         requires scratch { 16777242 ≤ length scratch.old }
         ensures left { IsTrue F.tells_files → (s : State) → HoldsFor self.old.hall (F.files folder.old) s → LeavesWhere result s (F.files folder.new) }
@@ -142,7 +152,8 @@ impl SoundHall {
         ensures faults { F.folder_faults folder.old ≤ F.folder_faults folder.new }
         ensures cause { FlushFails (F.folder_faults folder.old) (F.folder_faults folder.new) result }
     {
-        let flushed = flush_all(&mut self.hall, folder, scratch, steps);
+        let mut steps: Steps<L> = Steps::new(blank);
+        let flushed = flush_all(&mut self.hall, folder, scratch, &mut steps);
         self.flushed = true;
         flushed
     }

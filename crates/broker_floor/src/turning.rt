@@ -10,7 +10,6 @@ ghost use Rattle.broker_floor.specs.Floors.{faults_of, flushed_of, hall_of, note
 use crate::Floor;
 use broker_history::Entry;
 use desk::{Call, Turned, Turner};
-use nsq_base::Steps;
 use nsq_outside::{Clock, Folder, Journal};
 use std::alloc::Global;
 use std::marker::Brand;
@@ -49,17 +48,16 @@ impl<F: Folder, C: Clock, J: Journal<Entry>> Floor<F, C, J> {
         ensures unflushed { flushed_of self.new ≡ false }
         ensures turn { IsTurn J.tells_notes F.tells_files C.tells_readings number call result (scene_of self.old) (scene_of self.new) }
     {
-        let mut steps: Steps<L> = Steps::new(blank);
         let reading = self.clock.now();
         self.held.pass(reading);
-        self.held.turn(
+        self.held.turn::<F, J, L>(
+            blank,
             alloc,
             number,
             call,
             &mut self.folder,
             &mut self.scratch,
             &mut self.journal,
-            &mut steps,
         )
     }
 }
@@ -82,8 +80,12 @@ impl<F: Folder, C: Clock, J: Journal<Entry>> Turner for Floor<F, C, J> {
 
     fn take_turn(&mut self, alloc: Global, conn: u64, call: Call) -> Turned {
         if self.held.is_flushed() {
+            let_go(call);
             return Turned::Memory;
         }
         self.turn(alloc, conn, call)
     }
 }
+
+// Lets go of a call that isn't made.
+fn let_go(_call: Call) {}

@@ -9,7 +9,7 @@ use std::io::ErrorKind;
 use std::time::Duration;
 
 /// Why `accept` gave no caller.
-#[derive(Clone, Copy, Debug, PartialEq, Eq)]
+#[derive(Clone, Copy)]
 pub enum NoCaller {
     /// Nobody called yet.
     Nobody,

@@ -1,5 +1,7 @@
-ghost use Rattle.std.specs.Prelude.{◌≡◌, ◌≤◌, OnOk, OnErr, None, true, false, IfOk};
+ghost use Rattle.std.specs.Prelude.{◌≡◌, ◌+◌, ◌^◌, ◌≤◌, ◌⊎◌, ℕ, List, OnOk, OnErr, None, true, false, IfOk, length, map, string_bytes};
+ghost use Rattle.nsq_system.specs.KnownNames.{Names, ArePart, AppendsBeginning};
 ghost use Rattle.nsq_outside.specs.Causes.{DidFails, Rose, CountsFault, DidCounts};
+ghost use Rattle.nsq_outside.specs.Files.{IsWithin, Appends, ListingFails, ListingCounts, IsFileLength, LengthFails, LengthCounts, IsAmountAt, IsReadWithin, ReadAtFails, ReadAtCounts};
 
 use crate::answers::{length_of, read_of, unless_absent};
 use crate::open_files::OpenFiles;
@@ -61,42 +63,12 @@ where
     {
         self.files.move_to(path)
     }
-
-    /// Counts an error.
-    fn count(&mut self)
-        ensures rose { Rose self.old.count self.new.count }
-        ensures counted { CountsFault self.old.count self.new.count true }
-        ensures faults { self.old.count ≤ self.new.count }
-    {
-        self.faults.add();
-    }
-
-    /// The answer of a call. An error is counted.
-    fn answer(&mut self, outcome: io::Result<()>) -> Did
-        ensures failed { OnErr outcome (result ≡ Did.Failed) }
-        ensures done { OnOk outcome (result ≡ Did.Done) }
-        ensures faults { self.old.count ≤ self.new.count }
-        ensures cause { DidFails self.old.count self.new.count result }
-        ensures counted { DidCounts self.old.count self.new.count result }
-    {
-        match outcome {
-            Ok(()) => Did::Done,
-            Err(_) => {
-                self.count();
-                Did::Failed
-            }
-        }
-    }
 }
 
 impl<R: Files + AllocGlobal + Clone + Drop> Folder for DirFolder<R>
 where
     R::File: FileExt,
 {
-    ghost use Rattle.std.specs.Prelude.{◌+◌, length};
-    ghost use Rattle.nsq_system.specs.KnownNames.{AppendsBeginning};
-    ghost use Rattle.nsq_outside.specs.Files.{IsWithin, Appends, ListingFails, ListingCounts, IsFileLength, LengthFails, LengthCounts, IsAmountAt, IsReadWithin, ReadAtFails, ReadAtCounts};
-
     ghost tells_files = { false };
 
     ghost files = { λ _ _. None };
@@ -112,17 +84,8 @@ where
         ensures cause { ListingFails self.old.count self.new.count result }
         ensures counted { ListingCounts self.old.count self.new.count result }
     {
-        match self.files.names(alloc, beginning) {
-            Ok(mut added) => match names.append(&mut added) {
-                Ok(()) => Listing::Done,
-                Err(_) => Listing::Memory,
-            },
-            Err(e) if e.kind() == ErrorKind::OutOfMemory => Listing::Memory,
-            Err(_) => {
-                self.count();
-                Listing::Failed
-            }
-        }
+        let listed = self.files.names(alloc, beginning);
+        append(&mut self.faults, names, listed)
     }
 
     fn len(&mut self, name: &str) -> Length
@@ -131,11 +94,8 @@ where
         ensures cause { LengthFails self.old.count self.new.count result }
         ensures counted { LengthCounts self.old.count self.new.count result }
     {
-        let length = length_of(self.files.len(name));
-        if length == Length::Failed {
-            self.count();
-        }
-        length
+        let outcome = self.files.len(name);
+        measured(&mut self.faults, outcome)
     }
 
     fn read_at(&mut self, name: &str, at: u64, into: &mut [u8]) -> ReadAt
@@ -145,11 +105,8 @@ where
         ensures cause { ReadAtFails self.old.count self.new.count result }
         ensures counted { ReadAtCounts self.old.count self.new.count result }
     {
-        let read = read_of(self.files.read_at(name, at, into));
-        if read == ReadAt::Failed {
-            self.count();
-        }
-        read
+        let outcome = self.files.read_at(name, at, into);
+        were_read(&mut self.faults, outcome)
     }
 
     fn write_at(&mut self, name: &str, at: u64, from: &[u8]) -> Did
@@ -159,7 +116,7 @@ where
         ensures counted { DidCounts self.old.count self.new.count result }
     {
         let outcome = self.files.write_at(name, at, from);
-        self.answer(outcome)
+        answer(&mut self.faults, outcome)
     }
 
     fn cut(&mut self, name: &str, to: u64) -> Did
@@ -169,7 +126,7 @@ where
         ensures counted { DidCounts self.old.count self.new.count result }
     {
         let outcome = self.files.cut(name, to);
-        self.answer(outcome)
+        answer(&mut self.faults, outcome)
     }
 
     fn sync(&mut self, name: &str) -> Did
@@ -178,7 +135,7 @@ where
         ensures counted { DidCounts self.old.count self.new.count result }
     {
         let outcome = self.files.sync(name);
-        self.answer(unless_absent(outcome))
+        answer(&mut self.faults, unless_absent(outcome))
     }
 
     fn sync_names(&mut self) -> Did
@@ -187,7 +144,7 @@ where
         ensures counted { DidCounts self.old.count self.new.count result }
     {
         let outcome = self.files.sync_names();
-        self.answer(outcome)
+        answer(&mut self.faults, outcome)
     }
 
     fn rename(&mut self, from: &str, to: &str) -> Did
@@ -196,7 +153,7 @@ where
         ensures counted { DidCounts self.old.count self.new.count result }
     {
         let outcome = self.files.rename(from, to);
-        self.answer(unless_absent(outcome))
+        answer(&mut self.faults, unless_absent(outcome))
     }
 
     fn remove(&mut self, name: &str) -> Did
@@ -205,8 +162,85 @@ where
         ensures counted { DidCounts self.old.count self.new.count result }
     {
         let outcome = self.files.remove(name);
-        self.answer(unless_absent(outcome))
+        answer(&mut self.faults, unless_absent(outcome))
     }
 
     ghost folder_faults_fit = { λ folder. folder.fits };
+}
+
+/// Counts an error.
+fn count(faults: &mut Faults)
+    ensures rose { Rose faults.old.count faults.new.count }
+    ensures counted { CountsFault faults.old.count faults.new.count true }
+    ensures faults { faults.old.count ≤ faults.new.count }
+{
+    faults.add();
+}
+
+/// The answer of a call. An error is counted.
+fn answer(faults: &mut Faults, outcome: io::Result<()>) -> Did
+    ensures failed { OnErr outcome (result ≡ Did.Failed) }
+    ensures done { OnOk outcome (result ≡ Did.Done) }
+    ensures faults { faults.old.count ≤ faults.new.count }
+    ensures cause { DidFails faults.old.count faults.new.count result }
+    ensures counted { DidCounts faults.old.count faults.new.count result }
+    ensures within { (end : ℕ) → OnOk outcome (end ≤ 2 ^ 62) → IsWithin end result }
+{
+    match outcome {
+        Ok(()) => Did::Done,
+        Err(_) => {
+            count(faults);
+            Did::Failed
+        }
+    }
+}
+
+/// Appends the names that were listed. An error that isn't want of memory is counted.
+fn append(faults: &mut Faults, names: &mut Vec<String>, listed: io::Result<Vec<String>>) -> Listing
+    ensures kept { Appends names.old.items names.new.items result }
+    ensures begin { (known : Names) → (beginning : List ℕ) → IfOk listed (λ found. ArePart known beginning (map string_bytes found.items)) → AppendsBeginning beginning names.old.items names.new.items result }
+    ensures faults { faults.old.count ≤ faults.new.count }
+    ensures cause { ListingFails faults.old.count faults.new.count result }
+    ensures counted { ListingCounts faults.old.count faults.new.count result }
+{
+    match listed {
+        Ok(mut added) => match names.append(&mut added) {
+            Ok(()) => Listing::Done,
+            Err(_) => Listing::Memory,
+        },
+        Err(e) if e.kind() == ErrorKind::OutOfMemory => Listing::Memory,
+        Err(_) => {
+            count(faults);
+            Listing::Failed
+        }
+    }
+}
+
+/// The answer to a call for a length. An error is counted.
+fn measured(faults: &mut Faults, outcome: io::Result<u64>) -> Length
+    ensures limit { IfOk outcome (λ n. n ≤ 2 ^ 62) → IsFileLength result }
+    ensures faults { faults.old.count ≤ faults.new.count }
+    ensures cause { LengthFails faults.old.count faults.new.count result }
+    ensures counted { LengthCounts faults.old.count faults.new.count result }
+{
+    let length = length_of(outcome);
+    if length == Length::Failed {
+        count(faults);
+    }
+    length
+}
+
+/// The answer to a call for bytes. An error is counted.
+fn were_read(faults: &mut Faults, outcome: io::Result<usize>) -> ReadAt
+    ensures amount { (most : ℕ) → IfOk outcome (λ n. n ≤ most) → IsAmountAt result most }
+    ensures limit { (at : ℕ) → IfOk outcome (λ n. (n ≡ 0) ⊎ (at + n ≤ 2 ^ 62)) → IsReadWithin at result }
+    ensures faults { faults.old.count ≤ faults.new.count }
+    ensures cause { ReadAtFails faults.old.count faults.new.count result }
+    ensures counted { ReadAtCounts faults.old.count faults.new.count result }
+{
+    let read = read_of(outcome);
+    if read == ReadAt::Failed {
+        count(faults);
+    }
+    read
 }

@@ -68,13 +68,8 @@ impl<N: Net + Clock> Listeners<N> {
         ensures faults { IfOk result (λ listeners. accept_faults_of listeners ≡ 0) }
         ensures http { IfOk result (λ listeners. has_http listeners ≡ is_some http.entry) }
     {
-        let poll = Poll::new(&rt)?;
-        let tcp = listen(&rt, &poll, tcp, TCP)?;
-        let http = match http {
-            Some(address) => Some(listen(&rt, &poll, address, HTTP)?),
-            None => None,
-        };
-        let events = Events::with_capacity(alloc, 2)?;
+        let (poll, events) = new_poll(&rt, alloc)?;
+        let (tcp, http) = listen_at(&rt, &poll, tcp, http)?;
         Ok(Listeners {
             rt,
             alloc,
@@ -141,6 +136,10 @@ impl<N: Net + Clock> Listeners<N> {
             None => Ok(None),
         }
     }
+}
+
+impl<N> Listeners<N> {
+    ghost use Rattle.nsq_system.specs.Listeners.{accept_faults_of, has_http};
 
     /// A caller of either listener, after a wait where nobody called yet.
     fn next_caller(&mut self) -> Tried
@@ -175,6 +174,28 @@ impl<N: Net + Clock> Listeners<N> {
             Tried::Nobody | Tried::Shortage | Tried::Broken => {}
         }
         tried
+    }
+}
+
+/// A poll for two listeners, and the room for what it tells.
+fn new_poll<N: Net>(rt: &N, alloc: Global) -> io::Result<(Poll, Events)> {
+    let poll = Poll::new(rt)?;
+    Ok((poll, Events::with_capacity(alloc, 2)?))
+}
+
+/// The listeners at these addresses, in the poll.
+fn listen_at<N: Net>(
+    rt: &N,
+    poll: &Poll,
+    tcp: &str,
+    http: Option<&str>,
+) -> io::Result<(TcpListener, Option<TcpListener>)>
+    ensures { IfOk result (λ listeners. is_some listeners.1 ≡ is_some http.entry) }
+{
+    let tcp = listen(rt, poll, tcp, TCP)?;
+    match http {
+        Some(address) => Ok((tcp, Some(listen(rt, poll, address, HTTP)?))),
+        None => Ok((tcp, None)),
     }
 }
 

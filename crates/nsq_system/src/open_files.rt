@@ -9,8 +9,8 @@ use crate::answers::{PartRead, after_read};
 use crate::known_names::KnownNames;
 use lru::LruCache;
 use nsq_base::Memory;
-use std::alloc::Global;
-use std::fs::{OpenFile, OpenOptions};
+use std::alloc::{AllocError, Allocator, Global};
+use std::fs::{DirEntry, FileType, OpenFile, OpenOptions};
 use std::io::ErrorKind;
 use std::num::NonZeroUsize;
 use std::os::unix::fs::FileExt;
@@ -43,29 +43,27 @@ pub struct OpenFiles<R: Files> {
     known: KnownNames,
 }
 
-impl<R: Files + AllocGlobal + Clone + Drop> OpenFiles<R>
-where
-    R::File: FileExt,
-{
+impl<R: Files + Drop> OpenFiles<R> {
     /// The files of the folder at a path. It asks nothing of the system.
     pub fn new(rt: R, alloc: Global, path: &str) -> Result<OpenFiles<R>, Memory>
         ensures path { IfOk result (λ files. string_bytes files.folder ≡ path.now ++ 47 ∷ []) }
         ensures closed { IfOk result (λ files. files.opened.entries ≡ []) }
         ensures unknown { IfOk result (λ files. files.known.names ≡ None) }
     {
-        let mut folder = String::from_str(alloc, path)?;
-        folder.push('/')?;
+        let (folder, opened) = begin(alloc, path)?;
         Ok(OpenFiles {
             rt,
             alloc,
             folder,
             path: String::new(alloc),
             new_path: String::new(alloc),
-            opened: LruCache::new(alloc, NonZeroUsize::new(OPEN_FILES).unwrap())?,
+            opened,
             known: KnownNames::new(alloc),
         })
     }
+}
 
+impl<R: Files> OpenFiles<R> {
     /// Opens a file to read and write, which keeps its bytes. The name of one that it makes is known then.
     fn open(&mut self, name: &str, creates: bool) -> io::Result<()>
         ensures folder { self.new.folder ≡ self.old.folder }
@@ -78,15 +76,15 @@ where
             return Ok(());
         }
         set_path(&mut self.path, self.folder.as_str(), name)?;
-        let mut how = OpenOptions::new();
-        how.read(true).write(true).create(creates);
-        let opened = self.rt.open_file(&how, self.path.as_str());
-        if creates {
-            self.known.note_made(name, &opened);
-        }
-        let file = opened?;
-        self.opened.put(String::from_str(self.alloc, name)?, file)?;
-        Ok(())
+        let made = open_file(&self.rt, self.path.as_str(), creates);
+        keep_made(
+            &mut self.opened,
+            &mut self.known,
+            self.alloc,
+            name,
+            creates,
+            made,
+        )
     }
 
     /// Goes to the folder at another path, closes the files of this one and forgets its names. Without memory nothing changes.
@@ -96,39 +94,15 @@ where
         ensures unknown { OnOk result (self.new.known.names ≡ None) }
         ensures err { OnErr result (self.new ≡ self.old) }
     {
-        let mut folder = String::from_str(self.alloc, path)?;
-        folder.push('/')?;
+        let folder = with_slash(self.alloc, path)?;
         self.opened.clear();
         self.known.forget();
         self.folder = folder;
         Ok(())
     }
+}
 
-    /// Closes a file, where it's open.
-    fn forget(&mut self, name: &str)
-        ensures closed { IsClosed self.new.opened.entries name.now }
-        ensures others { (other : List ℕ) → IsClosed self.old.opened.entries other → IsClosed self.new.opened.entries other }
-        ensures folder { self.new.folder ≡ self.old.folder }
-        ensures known { self.new.known ≡ self.old.known }
-    {
-        // Its contract says that no name is there twice.
-        let _ = self.opened.len();
-        let _ = self.opened.pop(name);
-    }
-
-    /// The outcome of a call on a file, which is closed after an error.
-    fn settled<T>(&mut self, name: &str, outcome: io::Result<T>) -> io::Result<T>
-        ensures same { result ≡ outcome }
-        ensures closed { OnErr result (IsClosed self.new.opened.entries name.now) }
-        ensures folder { self.new.folder ≡ self.old.folder }
-        ensures known { self.new.known ≡ self.old.known }
-    {
-        if outcome.is_err() {
-            self.forget(name);
-        }
-        outcome
-    }
-
+impl<R: Files + AllocGlobal + Clone + Drop> OpenFiles<R> {
     /// The names of the regular files that begin so, in order. It reads the folder where the beginning is empty, or the
     /// names aren't known.
     pub fn names(&mut self, alloc: Global, beginning: &str) -> io::Result<Vec<String>>
@@ -137,8 +111,8 @@ where
         ensures known { OnOk result (IsSome self.new.known.names) }
         ensures folder { self.new.folder ≡ self.old.folder }
     {
-        self.learn_names(beginning.is_empty())?;
-        Ok(self.known.beginning_with(alloc, beginning)?)
+        let learnt = self.learn_names(beginning.is_empty());
+        part_if(&self.known, alloc, beginning, learnt)
     }
 
     /// Sees to it that the names are known. Anew it reads the folder also where they are.
@@ -149,27 +123,12 @@ where
         if !anew && self.known.are_known() {
             return Ok(());
         }
-        let names = self.read_names()?;
-        self.known.begin_anew(names)?;
-        Ok(())
+        let names = read_names(&self.rt, self.alloc, self.folder.as_str());
+        begin_anew(&mut self.known, names)
     }
+}
 
-    /// Reads the names of the regular files from the folder.
-    fn read_names(&self) -> io::Result<Vec<String>> {
-        let mut names = Vec::new(self.alloc);
-        for entry in fs::read_dir(&self.rt, self.folder.as_str())? {
-            match entry {
-                Ok(entry) if entry.file_type()?.is_file() => {
-                    names.push(String::from_str(self.alloc, entry.file_name())?)?;
-                }
-                Ok(_) => {}
-                Err(e) if e.kind() == ErrorKind::InvalidFilename => {}
-                Err(e) => return Err(e),
-            }
-        }
-        Ok(names)
-    }
-
+impl<R: Files> OpenFiles<R> {
     /// The number of bytes of a file. It is an error where there are more than 2^62.
     pub fn len(&mut self, name: &str) -> io::Result<u64>
         ensures limit { IfOk result (λ n. n ≤ 2 ^ 62) }
@@ -177,24 +136,15 @@ where
         ensures folder { self.new.folder ≡ self.old.folder }
         ensures known { self.new.known ≡ self.old.known }
     {
-        let length = self.length(name);
-        self.settled(name, length)
+        let ready = self.open(name, false);
+        length_if(&mut self.opened, name, ready)
     }
+}
 
-    /// The number of bytes of a file, after it was opened.
-    fn length(&mut self, name: &str) -> io::Result<u64>
-        ensures limit { IfOk result (λ n. n ≤ 2 ^ 62) }
-        ensures folder { self.new.folder ≡ self.old.folder }
-        ensures known { self.new.known ≡ self.old.known }
-    {
-        self.open(name, false)?;
-        let length = opened_file(&mut self.opened, name)?.metadata()?.len();
-        if length > LIMIT {
-            return Err(ErrorKind::FileTooLarge.into());
-        }
-        Ok(length)
-    }
-
+impl<R: Files> OpenFiles<R>
+where
+    R::File: FileExt,
+{
     /// Reads the bytes from a place on, as many as fit and stand there. It is an error where they end past 2^62.
     pub fn read_at(&mut self, name: &str, at: u64, into: &mut [u8]) -> io::Result<usize>
         ensures amount { IfOk result (λ n. n ≤ length into.old) }
@@ -203,23 +153,8 @@ where
         ensures folder { self.new.folder ≡ self.old.folder }
         ensures known { self.new.known ≡ self.old.known }
     {
-        let count = self.read(name, at, into);
-        self.settled(name, count)
-    }
-
-    /// Reads the bytes from a place on, after the file was opened.
-    fn read(&mut self, name: &str, at: u64, into: &mut [u8]) -> io::Result<usize>
-        ensures amount { IfOk result (λ n. n ≤ length into.old) }
-        ensures limit { IfOk result (λ n. (n ≡ 0) ⊎ (at + n ≤ 2 ^ 62)) }
-        ensures folder { self.new.folder ≡ self.old.folder }
-        ensures known { self.new.known ≡ self.old.known }
-    {
-        self.open(name, false)?;
-        let count = read_whole(opened_file(&mut self.opened, name)?, at, into)?;
-        if count > 0 && at.saturating_add(count as u64) > LIMIT {
-            return Err(ErrorKind::FileTooLarge.into());
-        }
-        Ok(count)
+        let ready = self.open(name, false);
+        read_if(&mut self.opened, name, ready, at, into)
     }
 
     /// Writes bytes at a place, all of them. The file reaches up to the place, also where there are none.
@@ -230,7 +165,7 @@ where
         ensures others { OnlyChanges self.old.known.names self.new.known.names name.now }
     {
         let written = self.write(name, at, from);
-        self.settled(name, written)
+        settled(&mut self.opened, name, written)
     }
 
     /// Writes bytes at a place, after the file was opened.
@@ -245,20 +180,23 @@ where
         if from.is_empty() {
             return self.lengthen(name, at);
         }
-        self.open(name, true)?;
-        opened_file(&mut self.opened, name)?.write_all_at(from, at)
+        let ready = self.open(name, true);
+        opened_file(&mut self.opened, name, ready)?.write_all_at(from, at)
     }
+}
 
+impl<R: Files> OpenFiles<R> {
     /// Gives a file at least a number of bytes, with zeros behind those that it has. It creates an absent file.
     fn lengthen(&mut self, name: &str, to: u64) -> io::Result<()>
         ensures folder { self.new.folder ≡ self.old.folder }
         ensures others { OnlyChanges self.old.known.names self.new.known.names name.now }
     {
-        self.open(name, true)?;
-        if self.length(name)? < to {
-            self.cut(name, to)?;
+        let ready = self.open(name, true);
+        if opened_length(&mut self.opened, name, ready)? < to {
+            self.cut(name, to)
+        } else {
+            Ok(())
         }
-        Ok(())
     }
 
     /// Gives a file a number of bytes. It creates an absent file, which is removed again where it can't have so many.
@@ -269,7 +207,7 @@ where
         ensures others { OnlyChanges self.old.known.names self.new.known.names name.now }
     {
         let cut = self.cut_or_create(name, to);
-        self.settled(name, cut)
+        settled(&mut self.opened, name, cut)
     }
 
     /// Gives a file a number of bytes, or makes an absent one of so many zeros. Where it can't have them it is removed again.
@@ -297,8 +235,8 @@ where
         ensures folder { self.new.folder ≡ self.old.folder }
         ensures others { OnlyChanges self.old.known.names self.new.known.names name.now }
     {
-        self.open(name, creates)?;
-        opened_file(&mut self.opened, name)?.set_len(to)
+        let ready = self.open(name, creates);
+        set_len_if(&mut self.opened, name, ready, to)
     }
 
     /// Makes the bytes of a file durable.
@@ -307,17 +245,8 @@ where
         ensures folder { self.new.folder ≡ self.old.folder }
         ensures known { self.new.known ≡ self.old.known }
     {
-        let synced = self.sync_file(name);
-        self.settled(name, synced)
-    }
-
-    /// Makes the bytes of a file durable, after it was opened.
-    fn sync_file(&mut self, name: &str) -> io::Result<()>
-        ensures folder { self.new.folder ≡ self.old.folder }
-        ensures known { self.new.known ≡ self.old.known }
-    {
-        self.open(name, false)?;
-        opened_file(&mut self.opened, name)?.sync_all()
+        let ready = self.open(name, false);
+        sync_if(&mut self.opened, name, ready)
     }
 
     /// Makes the names durable.
@@ -335,8 +264,8 @@ where
         ensures unknown { IfErr result (AreForgotten self.new.known.names) }
         ensures others { OnlyMoves self.old.known.names self.new.known.names from.now to.now }
     {
-        self.forget(from);
-        self.forget(to);
+        forget(&mut self.opened, from);
+        forget(&mut self.opened, to);
         set_path(&mut self.path, self.folder.as_str(), from)?;
         set_path(&mut self.new_path, self.folder.as_str(), to)?;
         let renamed = self.rt.rename(self.path.as_str(), self.new_path.as_str());
@@ -352,7 +281,7 @@ where
         ensures unknown { IfErr result (AreForgotten self.new.known.names) }
         ensures others { OnlyChanges self.old.known.names self.new.known.names name.now }
     {
-        self.forget(name);
+        forget(&mut self.opened, name);
         set_path(&mut self.path, self.folder.as_str(), name)?;
         let removed = self.rt.remove_file(self.path.as_str());
         self.known.note_removed(name, &removed);
@@ -360,14 +289,259 @@ where
     }
 }
 
-/// A file among those that are open, which it becomes the most recently used of.
-fn opened_file<'a, F>(opened: &'a mut LruCache<String, F>, name: &str) -> io::Result<&'a F>
+/// A folder's path with a slash at its end, and no open files.
+fn begin<F>(alloc: Global, path: &str) -> Result<(String, LruCache<String, F>), Memory>
+    ensures path { IfOk result (λ begun. string_bytes begun.0 ≡ path.now ++ 47 ∷ []) }
+    ensures closed { IfOk result (λ begun. begun.1.entries ≡ []) }
+{
+    let folder = with_slash(alloc, path)?;
+    let most = NonZeroUsize::new(OPEN_FILES).unwrap();
+    Ok((folder, LruCache::new(alloc, most)?))
+}
+
+/// A path with a slash at its end.
+fn with_slash(alloc: Global, path: &str) -> Result<String, AllocError>
+    ensures { IfOk result (λ folder. string_bytes folder ≡ path.now ++ 47 ∷ []) }
+{
+    let mut folder = String::from_str(alloc, path)?;
+    folder.push('/')?;
+    Ok(folder)
+}
+
+/// Opens the file at a path to read and write, and keeps its bytes.
+fn open_file<R: Files>(rt: &R, path: &str, creates: bool) -> io::Result<R::File> {
+    let mut how = OpenOptions::new();
+    how.read(true).write(true).create(creates);
+    rt.open_file(&how, path)
+}
+
+/// Notes the outcome of a call that opens a file, and keeps it among those that are open.
+fn keep_made<F: Drop>(
+    opened: &mut LruCache<String, F>,
+    known: &mut KnownNames,
+    alloc: Global,
+    name: &str,
+    creates: bool,
+    made: io::Result<F>,
+) -> io::Result<()>
+    ensures known { creates ≡ false → known.new ≡ known.old }
+    ensures here { OnOk result (IsTrue creates → IsSome known.new.names → Knows known.new.names name.now) }
+    ensures unknown { IsTrue creates → IfErr result (AreForgotten known.new.names) }
+    ensures others { OnlyChanges known.old.names known.new.names name.now }
+{
+    if creates {
+        known.note_made(name, &made);
+    }
+    keep_open(opened, alloc, name, made?)
+}
+
+/// Keeps a file among those that are open.
+fn keep_open<F: Drop>(
+    opened: &mut LruCache<String, F>,
+    alloc: Global,
+    name: &str,
+    file: F,
+) -> io::Result<()>
+    ensures { IfErr result (λ error. error_kind error ≡ ErrorKind.OutOfMemory) }
+{
+    opened.put(String::from_str(alloc, name)?, file)?;
+    Ok(())
+}
+
+/// Closes a file, where it's open.
+fn forget<F: Drop>(opened: &mut LruCache<String, F>, name: &str)
+    ensures closed { IsClosed opened.new.entries name.now }
+    ensures others { (other : List ℕ) → IsClosed opened.old.entries other → IsClosed opened.new.entries other }
+{
+    // Its contract says that no name is there twice.
+    let _ = opened.len();
+    let _ = opened.pop(name);
+}
+
+/// The outcome of a call on a file, which is closed after an error.
+fn settled<F: Drop, T>(
+    opened: &mut LruCache<String, F>,
+    name: &str,
+    outcome: io::Result<T>,
+) -> io::Result<T>
+    ensures same { result ≡ outcome }
+    ensures closed { OnErr result (IsClosed opened.new.entries name.now) }
+{
+    if outcome.is_err() {
+        forget(opened, name);
+    }
+    outcome
+}
+
+/// Begins anew with the names that were read.
+fn begin_anew(known: &mut KnownNames, names: io::Result<Vec<String>>) -> io::Result<()>
+    ensures { OnOk result (IsSome known.new.names) }
+{
+    known.begin_anew(names?)?;
+    Ok(())
+}
+
+/// The names that begin so, after they were learnt.
+fn part_if(
+    known: &KnownNames,
+    alloc: Global,
+    beginning: &str,
+    learnt: io::Result<()>,
+) -> io::Result<Vec<String>>
+    ensures part { IfOk result (λ names. ArePart known.now.names beginning.now (map string_bytes names.items)) }
+    ensures once { IfOk result (λ names. AllPairs (λ a b. a ≢ b) (map string_bytes names.items)) }
+    ensures known { OnOk learnt (IsSome known.now.names) → OnOk result (IsSome known.now.names) }
+{
+    learnt?;
+    Ok(known.beginning_with(alloc, beginning)?)
+}
+
+/// Reads the names of the regular files from a folder.
+fn read_names<R: Files + AllocGlobal + Clone + Drop>(
+    rt: &R,
+    alloc: Global,
+    folder: &str,
+) -> io::Result<Vec<String>> {
+    let mut names = Vec::new(alloc);
+    for entry in fs::read_dir(rt, folder)? {
+        note_entry(&mut names, alloc, entry)?;
+    }
+    Ok(names)
+}
+
+/// Adds the name of an entry that is a regular file. One whose name isn't UTF-8 is passed over.
+fn note_entry<R: Files + Drop, A: Allocator>(
+    names: &mut Vec<String>,
+    alloc: Global,
+    entry: io::Result<DirEntry<R, A>>,
+) -> io::Result<()> {
+    match entry {
+        Ok(entry) => note_file(names, alloc, entry.file_type(), entry.file_name()),
+        Err(error) => unless_foreign(error),
+    }
+}
+
+/// Adds a name, where it is that of a regular file.
+fn note_file(
+    names: &mut Vec<String>,
+    alloc: Global,
+    kind: io::Result<FileType>,
+    name: &str,
+) -> io::Result<()> {
+    if kind?.is_file() {
+        names.push(String::from_str(alloc, name)?)?;
+    }
+    Ok(())
+}
+
+/// A name that isn't UTF-8 is no error.
+fn unless_foreign(error: io::Error) -> io::Result<()> {
+    match error.kind() {
+        ErrorKind::InvalidFilename => Ok(()),
+        _ => Err(error),
+    }
+}
+
+/// A file that was opened, or why it wasn't. It becomes the most recently used one.
+fn opened_file<'a, F>(
+    opened: &'a mut LruCache<String, F>,
+    name: &str,
+    ready: io::Result<()>,
+) -> io::Result<&'a F>
     ensures { IfOk result (λ file. lookup (λ key. bytes_eq name.now (string_bytes key)) opened.old.entries ≡ Some file.now) }
 {
+    ready?;
     match opened.get(name) {
         Some(file) => Ok(file),
         None => Err(ErrorKind::Other.into()),
     }
+}
+
+/// The number of bytes of a file that was opened. It is an error where there are more than 2^62.
+fn opened_length<F: OpenFile>(
+    opened: &mut LruCache<String, F>,
+    name: &str,
+    ready: io::Result<()>,
+) -> io::Result<u64>
+    ensures { IfOk result (λ n. n ≤ 2 ^ 62) }
+{
+    let length = opened_file(opened, name, ready)?.metadata()?.len();
+    if length > LIMIT {
+        return Err(ErrorKind::FileTooLarge.into());
+    }
+    Ok(length)
+}
+
+/// The number of bytes of a file that was opened. It is closed after an error.
+fn length_if<F: OpenFile + Drop>(
+    opened: &mut LruCache<String, F>,
+    name: &str,
+    ready: io::Result<()>,
+) -> io::Result<u64>
+    ensures limit { IfOk result (λ n. n ≤ 2 ^ 62) }
+    ensures closed { OnErr result (IsClosed opened.new.entries name.now) }
+{
+    let length = opened_length(opened, name, ready);
+    settled(opened, name, length)
+}
+
+/// Reads from a file that was opened. It is closed after an error.
+fn read_if<F: FileExt + Drop>(
+    opened: &mut LruCache<String, F>,
+    name: &str,
+    ready: io::Result<()>,
+    at: u64,
+    into: &mut [u8],
+) -> io::Result<usize>
+    ensures amount { IfOk result (λ n. n ≤ length into.old) }
+    ensures limit { IfOk result (λ n. (n ≡ 0) ⊎ (at + n ≤ 2 ^ 62)) }
+    ensures closed { OnErr result (IsClosed opened.new.entries name.now) }
+{
+    let count = read_opened(opened, name, ready, at, into);
+    settled(opened, name, count)
+}
+
+/// Reads from a file that was opened. It is an error where the bytes end past 2^62.
+fn read_opened<F: FileExt>(
+    opened: &mut LruCache<String, F>,
+    name: &str,
+    ready: io::Result<()>,
+    at: u64,
+    into: &mut [u8],
+) -> io::Result<usize>
+    ensures amount { IfOk result (λ n. n ≤ length into.old) }
+    ensures limit { IfOk result (λ n. (n ≡ 0) ⊎ (at + n ≤ 2 ^ 62)) }
+{
+    let count = read_whole(opened_file(opened, name, ready)?, at, into)?;
+    if count > 0 && at.saturating_add(count as u64) > LIMIT {
+        return Err(ErrorKind::FileTooLarge.into());
+    }
+    Ok(count)
+}
+
+/// Gives a file that was opened a number of bytes.
+fn set_len_if<F: OpenFile>(
+    opened: &mut LruCache<String, F>,
+    name: &str,
+    ready: io::Result<()>,
+    to: u64,
+) -> io::Result<()> {
+    opened_file(opened, name, ready)?.set_len(to)
+}
+
+/// Makes the bytes of a file that was opened durable. It is closed after an error.
+fn sync_if<F: OpenFile + Drop>(
+    opened: &mut LruCache<String, F>,
+    name: &str,
+    ready: io::Result<()>,
+) -> io::Result<()>
+    ensures { OnErr result (IsClosed opened.new.entries name.now) }
+{
+    let synced = match opened_file(opened, name, ready) {
+        Ok(file) => file.sync_all(),
+        Err(error) => Err(error),
+    };
+    settled(opened, name, synced)
 }
 
 /// Writes the path of a file. A name with a slash would leave the folder, and is refused.

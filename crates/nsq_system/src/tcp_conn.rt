@@ -65,17 +65,11 @@ impl TcpConn {
         ensures kind { IfOk result (λ conn. kind_of conn ≡ kind) }
         ensures unused { IfOk result IsNewTcpConn }
     {
-        stream.set_nonblocking(true)?;
-        stream.set_nodelay(true)?;
-        stream.set_write_timeout(Some(Duration::from_secs(SEND_WAIT)))?;
-        let poll = Poll::new(rt)?;
-        let descriptor = stream.as_raw_fd();
-        poll.registry()
-            .register(&mut SourceFd(&descriptor), STREAM, Interest::READABLE)?;
+        let (poll, events) = watch(rt, alloc, &stream)?;
         Ok(TcpConn {
             outbox: Outbox::new(alloc, Socket::new(stream))?,
             poll,
-            events: Events::with_capacity(alloc, 1)?,
+            events,
             kind,
             writes: 0,
             ended: false,
@@ -156,6 +150,18 @@ impl TcpConn {
             None => Read::Failed,
         }
     }
+}
+
+/// Sets a stream up, and opens the poll with which it is waited for.
+fn watch<N: Net>(rt: &N, alloc: Global, stream: &TcpStream) -> io::Result<(Poll, Events)> {
+    stream.set_nonblocking(true)?;
+    stream.set_nodelay(true)?;
+    stream.set_write_timeout(Some(Duration::from_secs(SEND_WAIT)))?;
+    let poll = Poll::new(rt)?;
+    let descriptor = stream.as_raw_fd();
+    poll.registry()
+        .register(&mut SourceFd(&descriptor), STREAM, Interest::READABLE)?;
+    Ok((poll, Events::with_capacity(alloc, 1)?))
 }
 
 impl Source for TcpConn {

@@ -2,10 +2,8 @@
 //! `--http-stop` allows. A clean stop leaves the messages in its folder.
 #![tactic(auto)]
 
-mod host;
-
 use daemon_main::{Ending, close, nsqd_run, status};
-use host::SysHost;
+use nsqd_host::SysHost;
 use std::env;
 use std::process::ExitCode;
 

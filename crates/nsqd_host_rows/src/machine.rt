@@ -1,13 +1,17 @@
-//! The real host: its listeners on the loopback network, its folder on disk, the standard streams; and a run of the daemon over it.
+//! The real machine as a host: its listeners on the loopback network, its folder on disk, the standard streams; and a run of the daemon over it.
 ghost use Rattle.std.specs.Prelude.{IfOk};
 ghost use Rattle.nsq_base.specs.Options.{IsInRange};
 
-use super::*;
 use daemon_main::{Ending, close, line, serve};
-use nsq_base::{Body, Options};
-use nsq_outside::{Clock as _, Folder, Kind, Read, Sink, Source, Write};
+use nsq_base::{Body, Memory, Options};
+use nsq_outside::{Accept, Clock as _, Did, Folder, Host, Kind, Read, Sink, Source, Write};
+use nsq_system::{SysClock, TcpConn};
+use nsqd_host::SysHost;
+use std::alloc::Global;
 use std::io::{Read as _, Write as _};
-use std::net::TcpListener;
+use std::net::{Net, TcpListener, TcpStream};
+use std::rt::Clock;
+use std::sync::Wait;
 use std::test::Fail;
 use std::thread::{self, Threads, join};
 use std::time::Duration;
@@ -120,7 +124,7 @@ fn gives_callers<R: Wait>(rt: &R, own: &HostRuntime) -> Result<bool, Fail> {
             && meets(rt, own, &mut host, http.as_str(), Kind::Http)?
             && meets(rt, own, &mut host, tcp.as_str(), Kind::Tcp)?
             && is_nothing(host.accept(rt))
-            && host.accept_faults.count == 0,
+            && host.accept_faults() == 0,
     )
 }
 
@@ -134,7 +138,7 @@ fn counts_faults<R: Wait>(rt: &R, own: &HostRuntime) -> Result<bool, Fail> {
     let tcp_in_use = host.start(rt, in_use.as_str(), free.as_str(), ".");
     let http_in_use = host.start(rt, free.as_str(), in_use.as_str(), ".");
     let no_port = host.start(rt, free.as_str(), "no port", ".");
-    let start_faults = host.accept_faults.count;
+    let start_faults = host.accept_faults();
     let called = caller(host.accept(rt));
     Ok(
         tcp_in_use == Did::Failed
@@ -142,7 +146,7 @@ fn counts_faults<R: Wait>(rt: &R, own: &HostRuntime) -> Result<bool, Fail> {
             && no_port == Did::Failed
             && start_faults == 3
             && called.is_none()
-            && host.accept_faults.count == 4,
+            && host.accept_faults() == 4,
     )
 }
 
@@ -164,11 +168,11 @@ fn keeps_its_kit<R: Wait>(rt: &R, own: &HostRuntime) -> Result<bool, Fail> {
         started == Did::Done
             && cut == Did::Done
             && length == 3
-            && host.kit.is_some()
+            && host.is_at_home()
             && !host.beside()
             && printed == Did::Done
-            && host.print_faults.count == 0
-            && host.tell_faults.count == 0,
+            && host.print_faults() == 0
+            && host.tell_faults() == 0,
     )
 }
 

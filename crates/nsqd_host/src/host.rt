@@ -34,7 +34,7 @@ where
     N::File: FileExt,
 {
     ghost use Rattle.std.specs.Prelude.{IsTrue, true};
-    ghost use Rattle.nsqd.specs.SysHosts.{state_of, dial_faults_of, hears_http, IsAtHome};
+    ghost use Rattle.nsqd_host.specs.SysHosts.{state_of, dial_faults_of, hears_http, IsAtHome};
 
     /// A host that has its kit at home and doesn't listen yet. Its folder is the one that the process runs in, until `start`
     /// names another.
@@ -91,9 +91,42 @@ where
     }
 }
 
+impl<N: Files + Clock> SysHost<N> {
+    ghost use Rattle.std.specs.Prelude.{is_some};
+    ghost use Rattle.nsqd_host.specs.SysHosts.{state_of};
+
+    /// Whether its kit is at home: it is from the start, but between `lend` and `restore`.
+    pub fn is_at_home(&self) -> bool
+        ensures { result ≡ is_some (state_of self.now).kit }
+    {
+        self.kit.is_some()
+    }
+
+    /// How often `start` or `accept` failed.
+    pub fn accept_faults(&self) -> u64
+        ensures { result ≡ (state_of self.now).accept_faults }
+    {
+        self.accept_faults.count
+    }
+
+    /// How often `print` failed.
+    pub fn print_faults(&self) -> u64
+        ensures { result ≡ (state_of self.now).print_faults }
+    {
+        self.print_faults.count
+    }
+
+    /// How often `tell` failed.
+    pub fn tell_faults(&self) -> u64
+        ensures { result ≡ (state_of self.now).tell_faults }
+    {
+        self.tell_faults.count
+    }
+}
+
 impl<N: Files + Clock + Net<Stream = TcpStream>> Dialer for SysHost<N> {
     ghost use Rattle.std.specs.Prelude.{false};
-    ghost use Rattle.nsqd.specs.SysHosts.{state_of, no_dials, dial_faults_of};
+    ghost use Rattle.nsqd_host.specs.SysHosts.{state_of, no_dials, dial_faults_of};
 
     type Conn = TcpConn;
 
@@ -123,7 +156,7 @@ where
     ghost use Rattle.nsq_outside.specs.Hosts.{Accepts, AcceptFails, OnlyAcceptFaults};
     ghost use Rattle.nsq_system.specs.Listeners.{GoesOn, IsFreshTcpCaller, Speaks};
     ghost use Rattle.nsq_system.specs.TcpConns.{no_bytes};
-    ghost use Rattle.nsqd.specs.SysHosts.{no_content, state_of, no_dials, dial_faults_of};
+    ghost use Rattle.nsqd_host.specs.SysHosts.{no_content, state_of, no_dials, dial_faults_of};
 
     type Folder = DirFolder<N>;
 
@@ -240,6 +273,3 @@ impl fmt::Display for Line<'_> {
         Ok(())
     }
 }
-
-#[cfg(test)]
-mod tests;

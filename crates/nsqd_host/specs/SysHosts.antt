@@ -9,7 +9,7 @@ use Rattle.nsq_system.specs.TcpDialers.{dial_faults_of as dial_faults_in}
 use Rattle.nsq_system.specs.declared.forgetful.Forgetful.{Forgetful}
 use Rattle.nsq_system.specs.declared.sys_clock.SysClock.{SysClock}
 use Rattle.nsq_system.specs.declared.tcp_conn.TcpConn.{TcpConn}
-use Rattle.nsqd.specs.declared.host.SysHost.{SysHost}
+use Rattle.nsqd_host.specs.declared.host.SysHost.{SysHost}
 
 -- it doesn't tell what it was asked, gave, took back and was told
 abbrev pub no_content : {N F D : Type 0} → SysHost N F D → HostContent TcpConn

@@ -25,7 +25,7 @@ struct Row {
     bytes: &'static [u8],
 }
 
-const ROWS: [Row; 10] = [
+static ROWS: [Row; 10] = [
     Row {
         name: "a text",
         status: Status::Ok,

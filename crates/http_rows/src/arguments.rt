@@ -11,7 +11,7 @@ struct Row {
     value: Option<&'static [u8]>,
 }
 
-const ROWS: [Row; 7] = [
+static ROWS: [Row; 7] = [
     Row {
         name: "one pair",
         bytes: b"GET /stats?format=json HTTP/1.1\r\n\r\n",

@@ -2,7 +2,7 @@ use crate::requests::{Part, Row, Wanted, Whole, holds};
 use std::test::Fail;
 
 /// Limits of bodies, and bodies in other forms.
-const ROWS: [Row; 11] = [
+static ROWS: [Row; 11] = [
     Row {
         name: "a limit of 0",
         bytes: &[Part::Text(b"POST /pub HTTP/1.1\r\nContent-Length: 0\r\n\r\n")],

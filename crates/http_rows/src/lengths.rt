@@ -2,7 +2,7 @@ use crate::requests::{Part, Row, Wanted, Whole, holds};
 use std::test::Fail;
 
 /// Lengths of bodies.
-const ROWS: [Row; 16] = [
+static ROWS: [Row; 16] = [
     Row {
         name: "a length of 0",
         bytes: &[Part::Text(b"POST /pub HTTP/1.1\r\nContent-Length: 0\r\n\r\n")],

@@ -2,7 +2,7 @@ use crate::requests::{Part, Row, Wanted, Whole, holds};
 use std::test::Fail;
 
 /// Fields and bytes of a head at their limits.
-const ROWS: [Row; 12] = [
+static ROWS: [Row; 12] = [
     Row {
         name: "64 fields",
         bytes: &[

@@ -2,7 +2,7 @@ use crate::requests::{Part, Row, Wanted, Whole, holds};
 use std::test::Fail;
 
 /// Line ends and fields.
-const ROWS: [Row; 17] = [
+static ROWS: [Row; 17] = [
     Row {
         name: "line feeds alone",
         bytes: &[Part::Text(b"GET /ping HTTP/1.1\nHost: h\n\n")],

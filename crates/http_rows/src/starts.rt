@@ -2,7 +2,7 @@ use crate::requests::{Part, Row, Wanted, Whole, holds};
 use std::test::Fail;
 
 /// Where a head begins and ends.
-const ROWS: [Row; 21] = [
+static ROWS: [Row; 21] = [
     Row {
         name: "a request of curl with a body",
         bytes: &[Part::Text(

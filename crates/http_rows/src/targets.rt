@@ -2,7 +2,7 @@ use crate::requests::{Part, Row, Wanted, Whole, holds};
 use std::test::Fail;
 
 /// Targets and queries.
-const ROWS: [Row; 16] = [
+static ROWS: [Row; 16] = [
     Row {
         name: "a target without a question mark",
         bytes: &[Part::Text(b"GET /a&b=c HTTP/1.1\r\n\r\n")],

@@ -12,7 +12,7 @@ const NOTHING: &[u8] = br#"{"id_epoch":0,"topics":[],"version":"1.0.0"}"#;
 const LONGEST: usize = 1 << 24;
 
 // Bytes that aren't UTF-8.
-const BYTES: [&'static [u8]; 4] = [
+static BYTES: [&'static [u8]; 4] = [
     b"{\"a\":\"\xff\"}",
     b"{\"topics\":[{\"name\":\"\xc3\"}]}",
     b"{}\xff",

@@ -15,7 +15,7 @@ const CHANNEL: &str =
     r#"{"id_epoch":0,"topics":[{"channels":[{"name":"c","paused":false}],"name":"t","paused":false}],"version":"1.0.0"}"#;
 
 // What is written of each text.
-const ROWS: [Row; 47] = [
+static ROWS: [Row; 47] = [
     // Members of the file: absent, null, unknown, given twice, and the ends of the epoch's range.
     Row {
         text: NOTHING,

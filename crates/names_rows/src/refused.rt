@@ -4,7 +4,7 @@ use crate::held::good_text;
 use nsq_base::Memory;
 
 // Each of these is bad.
-const TEXTS: [&str; 80] = [
+static TEXTS: [&str; 80] = [
     // No object in JSON.
     "",
     " ",

@@ -5,7 +5,7 @@ use nsq_base::{Memory, Options};
 use std::alloc::Global;
 
 // Bodies that say what they say, at the ends of the ranges, and bodies that say nothing.
-const SAID: [Row; 21] = [
+static SAID: [Row; 21] = [
     Row {
         body: r#"{}"#,
         gets: Gets::Nothing,
@@ -93,7 +93,7 @@ const SAID: [Row; 21] = [
 ];
 
 // Answers in JSON.
-const ANSWERED: [Row; 4] = [
+static ANSWERED: [Row; 4] = [
     Row {
         body: r#"{"feature_negotiation":true}"#,
         gets: Gets::Json(
@@ -135,7 +135,7 @@ struct Other {
     gets: Gets,
 }
 
-const OTHERS: [Other; 8] = [
+static OTHERS: [Other; 8] = [
     Other {
         longest_beat: 10 * SECOND,
         longest_wait: 900 * SECOND,

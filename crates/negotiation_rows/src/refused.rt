@@ -4,7 +4,7 @@ use crate::held::{Gets, Row, holds};
 use nsq_base::Memory;
 
 // Texts and truth values of another kind.
-const KINDS: [&'static str; 20] = [
+static KINDS: [&'static str; 20] = [
     r#"{"client_id":1}"#,
     r#"{"client_id":true}"#,
     r#"{"client_id":["c"]}"#,
@@ -28,7 +28,7 @@ const KINDS: [&'static str; 20] = [
 ];
 
 // Heartbeat intervals and times for a message.
-const TIMES: [&'static str; 21] = [
+static TIMES: [&'static str; 21] = [
     r#"{"heartbeat_interval":-2}"#,
     r#"{"heartbeat_interval":1}"#,
     r#"{"heartbeat_interval":999}"#,
@@ -53,7 +53,7 @@ const TIMES: [&'static str; 21] = [
 ];
 
 // Rates, buffers and levels.
-const NUMBERS: [&'static str; 18] = [
+static NUMBERS: [&'static str; 18] = [
     r#"{"sample_rate":-1}"#,
     r#"{"sample_rate":100}"#,
     r#"{"sample_rate":18446744073709551615}"#,

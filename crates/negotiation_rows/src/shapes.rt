@@ -4,7 +4,7 @@ use crate::held::{Gets, Row, holds, is_got};
 use nsq_base::{Memory, Options};
 use std::alloc::Global;
 
-const SHAPES: [Row; 21] = [
+static SHAPES: [Row; 21] = [
     Row {
         body: "",
         gets: Gets::Refused,
@@ -92,7 +92,7 @@ const SHAPES: [Row; 21] = [
 ];
 
 // Bytes that aren't UTF-8.
-const BYTES: [&'static [u8]; 3] = [
+static BYTES: [&'static [u8]; 3] = [
     b"{\"client_id\":\"\xff\"}",
     b"{\"client_id\":\"\xc3\"}",
     b"{}\xff",

@@ -16,7 +16,7 @@ struct Talk {
     ended: Ended,
 }
 
-const TALKS: [Talk; 9] = [
+static TALKS: [Talk; 9] = [
     Talk {
         name: "a subscription",
         pieces: &[
@@ -111,7 +111,7 @@ struct Break {
     ended: Ended,
 }
 
-const BREAKS: [Break; 11] = [
+static BREAKS: [Break; 11] = [
     Break {
         name: "too long a silence",
         cause: Cause::Answer(b'l', b"n"),
@@ -177,7 +177,7 @@ struct Going {
     closed: Ended,
 }
 
-const GOINGS: [Going; 3] = [
+static GOINGS: [Going; 3] = [
     Going {
         name: "its Gone is noted",
         answer: b'g',

@@ -17,7 +17,7 @@ struct Row {
 
 const MAGIC: &[u8] = b"  V2";
 
-const ROWS: [Row; 11] = [
+static ROWS: [Row; 11] = [
     Row {
         name: "IDENTIFY",
         first: b"IDENTIFY\n\0\0\0\x02{}",

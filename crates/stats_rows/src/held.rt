@@ -101,7 +101,7 @@ const NO_TEXT: [Told; 1] = [Told {
     }],
 }];
 
-const ROWS: [Row; 8] = [
+static ROWS: [Row; 8] = [
     Row {
         name: "no topic, opened at the beginning",
         began: 0,

@@ -14,7 +14,7 @@ struct Row {
     commands: &'static str,
 }
 
-const ROWS: [Row; 11] = [
+static ROWS: [Row; 11] = [
     Row {
         name: "nothing",
         bytes: b"",

@@ -16,7 +16,7 @@ struct Row {
     text: &'static [u8],
 }
 
-const ROWS: [Row; 28] = [
+static ROWS: [Row; 28] = [
     Row {
         name: "another magic",
         bytes: b"  V1",

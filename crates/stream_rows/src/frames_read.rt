@@ -16,7 +16,7 @@ struct Row {
     bad: Option<u64>,
 }
 
-const ROWS: [Row; 6] = [
+static ROWS: [Row; 6] = [
     Row {
         name: "nothing",
         bytes: b"",

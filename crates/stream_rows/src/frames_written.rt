@@ -11,7 +11,7 @@ struct Row {
     bytes: &'static [u8],
 }
 
-const ROWS: [Row; 4] = [
+static ROWS: [Row; 4] = [
     Row {
         name: "OK",
         kind: FrameKind::Response,

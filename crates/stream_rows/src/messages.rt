@@ -13,7 +13,7 @@ struct Row {
     message: Option<(u64, u16, &'static [u8], &'static [u8])>,
 }
 
-const ROWS: [Row; 5] = [
+static ROWS: [Row; 5] = [
     Row {
         name: "a message of one byte",
         bytes: b"\0\0\0\0\0\0\0\0\0\x010000010000000000a",

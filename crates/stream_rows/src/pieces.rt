@@ -35,7 +35,7 @@ const LONG: Rest = Rest::Faulty(Fault {
     at: 8,
 });
 
-const ROWS: [Row; 4] = [
+static ROWS: [Row; 4] = [
     Row {
         name: "a body of forty pieces of a hundred bytes, and the fault behind it, which stays",
         most: 4000,

@@ -16,7 +16,7 @@ struct Row {
     written: &'static [u8],
 }
 
-const ROWS: [Row; 14] = [
+static ROWS: [Row; 14] = [
     Row {
         name: "IDENTIFY",
         spelled: b"IDENTIFY\n\0\0\0\x02{}",

@@ -1,11 +1,13 @@
 //! Bodies that are accepted, and what they are answered.
 
 use crate::held::{Gets, Row, SECOND, holds, is_got};
+use crate::shapes::SHAPES;
 use nsq_base::{Memory, Options};
 use std::alloc::Global;
+use std::test::Fail;
 
 // Bodies that say what they say, at the ends of the ranges, and bodies that say nothing.
-static SAID: [Row; 21] = [
+const SAID: [Row; 21] = [
     Row {
         body: r#"{}"#,
         gets: Gets::Nothing,
@@ -93,7 +95,7 @@ static SAID: [Row; 21] = [
 ];
 
 // Answers in JSON.
-static ANSWERED: [Row; 4] = [
+const ANSWERED: [Row; 4] = [
     Row {
         body: r#"{"feature_negotiation":true}"#,
         gets: Gets::Json(
@@ -124,9 +126,11 @@ static ANSWERED: [Row; 4] = [
     },
 ];
 
+// The tables with the default options.
+static TABLES: [&'static [Row]; 3] = [&SAID, &ANSWERED, &SHAPES];
+
 // With other options: the longest heartbeat interval and time for a message, and the time for a message where none is said, in
 // nanoseconds.
-#[derive(Clone, Copy)]
 struct Other {
     longest_beat: u64,
     longest_wait: u64,
@@ -206,25 +210,18 @@ fn holds_other(alloc: Global, row: &Other) -> Result<bool, Memory> {
 }
 
 #[test]
-fn said(rt: HostRuntime) -> Result<(), Memory> {
-    for row in &SAID {
-        let holds = holds(rt.alloc(), row)?;
-        assert!(rt; holds, "{}", row.body);
+fn rows(rt: HostRuntime) -> Result<(), Fail> {
+    for table in TABLES {
+        for row in table {
+            let holds = holds(rt.alloc(), row)?;
+            assert!(rt; holds, "{}", row.body);
+        }
     }
     Ok(())
 }
 
 #[test]
-fn answered(rt: HostRuntime) -> Result<(), Memory> {
-    for row in &ANSWERED {
-        let holds = holds(rt.alloc(), row)?;
-        assert!(rt; holds, "{}", row.body);
-    }
-    Ok(())
-}
-
-#[test]
-fn other_options(rt: HostRuntime) -> Result<(), Memory> {
+fn other_options(rt: HostRuntime) -> Result<(), Fail> {
     for row in &OTHERS {
         let holds = holds_other(rt.alloc(), row)?;
         assert!(rt; holds, "{}", row.body);

@@ -1,10 +1,10 @@
 //! Members of a wrong kind or out of their range.
 
 use crate::held::{Gets, Row, holds};
-use nsq_base::Memory;
+use std::test::Fail;
 
 // Texts and truth values of another kind.
-static KINDS: [&'static str; 20] = [
+const KINDS: [&'static str; 20] = [
     r#"{"client_id":1}"#,
     r#"{"client_id":true}"#,
     r#"{"client_id":["c"]}"#,
@@ -28,7 +28,7 @@ static KINDS: [&'static str; 20] = [
 ];
 
 // Heartbeat intervals and times for a message.
-static TIMES: [&'static str; 21] = [
+const TIMES: [&'static str; 21] = [
     r#"{"heartbeat_interval":-2}"#,
     r#"{"heartbeat_interval":1}"#,
     r#"{"heartbeat_interval":999}"#,
@@ -53,7 +53,7 @@ static TIMES: [&'static str; 21] = [
 ];
 
 // Rates, buffers and levels.
-static NUMBERS: [&'static str; 18] = [
+const NUMBERS: [&'static str; 18] = [
     r#"{"sample_rate":-1}"#,
     r#"{"sample_rate":100}"#,
     r#"{"sample_rate":18446744073709551615}"#,
@@ -74,32 +74,17 @@ static NUMBERS: [&'static str; 18] = [
     r#"{"feature_negotiation":true,"sample_rate":100}"#,
 ];
 
-#[test]
-fn kinds(rt: HostRuntime) -> Result<(), Memory> {
-    for body in KINDS {
-        let gets = Gets::Refused;
-        let holds = holds(rt.alloc(), &Row { body, gets })?;
-        assert!(rt; holds, "{}", body);
-    }
-    Ok(())
-}
+// All of them.
+static TABLES: [&'static [&'static str]; 3] = [&KINDS, &TIMES, &NUMBERS];
 
 #[test]
-fn times(rt: HostRuntime) -> Result<(), Memory> {
-    for body in TIMES {
-        let gets = Gets::Refused;
-        let holds = holds(rt.alloc(), &Row { body, gets })?;
-        assert!(rt; holds, "{}", body);
-    }
-    Ok(())
-}
-
-#[test]
-fn numbers(rt: HostRuntime) -> Result<(), Memory> {
-    for body in NUMBERS {
-        let gets = Gets::Refused;
-        let holds = holds(rt.alloc(), &Row { body, gets })?;
-        assert!(rt; holds, "{}", body);
+fn rows(rt: HostRuntime) -> Result<(), Fail> {
+    for table in TABLES {
+        for body in table {
+            let gets = Gets::Refused;
+            let holds = holds(rt.alloc(), &Row { body: *body, gets })?;
+            assert!(rt; holds, "{}", *body);
+        }
     }
     Ok(())
 }

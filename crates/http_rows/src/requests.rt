@@ -71,13 +71,15 @@ fn bytes_of(alloc: Global, parts: &[Part]) -> Result<Vec<u8>, Memory> {
     Ok(bytes)
 }
 
+/// Whether it is this pair.
+fn is_pair(pair: &Pair, name: &[u8], value: &[u8]) -> bool {
+    same(pair.name.bytes(), name) && same(pair.value.bytes(), value)
+}
+
 /// Whether these are the pairs.
 fn are_pairs(pairs: &[Pair], query: &[(&[u8], &[u8])]) -> bool {
     for (place, (name, value)) in query.iter().enumerate() {
-        if place >= pairs.len()
-            || !same(pairs[place].name.bytes(), name)
-            || !same(pairs[place].value.bytes(), value)
-        {
+        if place >= pairs.len() || !is_pair(&pairs[place], name, value) {
             return false;
         }
     }

@@ -81,12 +81,13 @@ fn is_same_topic(one: &KeptTopic, other: &KeptTopic) -> bool {
         && are_same_channels(&one.channels, &other.channels)
 }
 
+fn is_same_channel(one: &KeptChannel, other: &KeptChannel) -> bool {
+    one.channel == other.channel && one.paused == other.paused
+}
+
 fn are_same_channels(some: &[KeptChannel], others: &[KeptChannel]) -> bool {
     for (place, one) in some.iter().enumerate() {
-        if place >= others.len()
-            || one.channel != others[place].channel
-            || one.paused != others[place].paused
-        {
+        if place >= others.len() || !is_same_channel(one, &others[place]) {
             return false;
         }
     }

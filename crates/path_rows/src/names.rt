@@ -166,13 +166,15 @@ pub(crate) fn same(one: &[u8], other: &[u8]) -> bool {
     one == other
 }
 
+/// Whether it is this channel.
+fn is_channel(kept: &KeptChannel, name: &[u8], paused: bool) -> bool {
+    same(kept.name.bytes(), name) && kept.paused == paused
+}
+
 /// Whether these channels are kept.
 fn keeps_channels(kept: &[KeptChannel], channels: &[(&[u8], bool)]) -> bool {
     for (place, (name, paused)) in channels.iter().enumerate() {
-        if place >= kept.len()
-            || kept[place].paused != *paused
-            || !same(kept[place].name.bytes(), name)
-        {
+        if place >= kept.len() || !is_channel(&kept[place], name, *paused) {
             return false;
         }
     }

@@ -34,10 +34,10 @@ pub struct Row {
     pub gets: Gets,
 }
 
-/// Whether a row holds.
-pub fn holds(alloc: Global, row: &Row) -> Result<bool, Memory> {
+/// Whether a body is read so with the default options.
+pub fn holds(alloc: Global, body: &str, gets: Gets) -> Result<bool, Memory> {
     let options = Options::defaults(alloc)?;
-    is_got(alloc, &options, row.body.as_bytes(), row.gets)
+    is_got(alloc, &options, body.as_bytes(), gets)
 }
 
 /// Whether these are the same bytes.
@@ -88,48 +88,36 @@ fn is_read(found: &Option<Identity>, gets: Gets) -> bool {
     }
 }
 
-// What an identity says.
-struct Said {
-    client: &'static [u8],
-    host: &'static [u8],
-    agent: &'static [u8],
+// Texts of which none is said.
+const NO_TEXTS: [&'static [u8]; 3] = [b"", b"", b""];
+
+fn is_said(identity: &Identity, gets: Gets) -> bool {
+    let beat = Some(30 * SECOND);
+    let wait = 60 * SECOND;
+    match gets {
+        Gets::Refused => false,
+        Gets::Nothing => says(identity, NO_TEXTS, beat, wait, false),
+        Gets::Texts(client, host, agent) => {
+            says(identity, [client, host, agent], beat, wait, false)
+        }
+        Gets::Beats(heartbeat) => says(identity, NO_TEXTS, heartbeat, wait, false),
+        Gets::Waits(timeout) => says(identity, NO_TEXTS, beat, timeout, false),
+        Gets::Json(timeout, _) => says(identity, NO_TEXTS, beat, timeout, true),
+    }
+}
+
+// Whether an identity says this: client, host and agent, its heartbeat, its time for a message, and whether it negotiates.
+fn says(
+    identity: &Identity,
+    texts: [&'static [u8]; 3],
     heartbeat: Option<u64>,
     timeout: u64,
     negotiates: bool,
-}
-
-fn is_said(identity: &Identity, gets: Gets) -> bool {
-    let mut said = Said {
-        client: b"",
-        host: b"",
-        agent: b"",
-        heartbeat: Some(30 * SECOND),
-        timeout: 60 * SECOND,
-        negotiates: false,
-    };
-    match gets {
-        Gets::Refused => return false,
-        Gets::Nothing => {}
-        Gets::Texts(client, host, agent) => {
-            said.client = client;
-            said.host = host;
-            said.agent = agent;
-        }
-        Gets::Beats(heartbeat) => said.heartbeat = heartbeat,
-        Gets::Waits(timeout) => said.timeout = timeout,
-        Gets::Json(timeout, _) => {
-            said.timeout = timeout;
-            said.negotiates = true;
-        }
-    }
-    says(identity, &said)
-}
-
-fn says(identity: &Identity, said: &Said) -> bool {
-    same(identity.client_id.bytes(), said.client)
-        && same(identity.hostname.bytes(), said.host)
-        && same(identity.user_agent.bytes(), said.agent)
-        && identity.heartbeat == said.heartbeat
-        && identity.timeout == said.timeout
-        && identity.negotiates == said.negotiates
+) -> bool {
+    same(identity.client_id.bytes(), texts[0])
+        && same(identity.hostname.bytes(), texts[1])
+        && same(identity.user_agent.bytes(), texts[2])
+        && identity.heartbeat == heartbeat
+        && identity.timeout == timeout
+        && identity.negotiates == negotiates
 }

@@ -213,7 +213,7 @@ fn holds_other(alloc: Global, row: &Other) -> Result<bool, Memory> {
 fn rows(rt: HostRuntime) -> Result<(), Fail> {
     for table in TABLES {
         for row in table {
-            let holds = holds(rt.alloc(), row)?;
+            let holds = holds(rt.alloc(), row.body, row.gets)?;
             assert!(rt; holds, "{}", row.body);
         }
     }

@@ -1,6 +1,6 @@
 //! Members of a wrong kind or out of their range.
 
-use crate::held::{Gets, Row, holds};
+use crate::held::{Gets, holds};
 use std::test::Fail;
 
 // Texts and truth values of another kind.
@@ -81,8 +81,7 @@ static TABLES: [&'static [&'static str]; 3] = [&KINDS, &TIMES, &NUMBERS];
 fn rows(rt: HostRuntime) -> Result<(), Fail> {
     for table in TABLES {
         for body in table {
-            let gets = Gets::Refused;
-            let holds = holds(rt.alloc(), &Row { body: *body, gets })?;
+            let holds = holds(rt.alloc(), body, Gets::Refused)?;
             assert!(rt; holds, "{}", *body);
         }
     }

@@ -170,7 +170,7 @@ fn holds(alloc: Global, row: &MadeRow) -> Result<bool, Memory> {
 }
 
 #[test]
-fn made(rt: HostRuntime) -> Result<(), Fail> {
+fn rows(rt: HostRuntime) -> Result<(), Fail> {
     for row in &MADE {
         let holds = holds(rt.alloc(), row)?;
         assert!(rt; holds, "{}", row.name);

@@ -8,7 +8,7 @@ struct Row {
     port: Option<u16>,
 }
 
-const ROWS: [Row; 9] = [
+static ROWS: [Row; 9] = [
     Row {
         name: "an empty host",
         text: b":4150",

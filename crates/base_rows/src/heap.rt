@@ -36,7 +36,7 @@ struct Row {
     calls: &'static [Call],
 }
 
-const ROWS: [Row; 4] = [
+static ROWS: [Row; 4] = [
     Row {
         name: "two steps counted",
         calls: &[Call::Tick, Call::Tick],

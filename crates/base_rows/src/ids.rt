@@ -8,7 +8,7 @@ struct Row {
     id: Option<(u32, u64)>,
 }
 
-const ROWS: [Row; 6] = [
+static ROWS: [Row; 6] = [
     Row {
         name: "the first id of the first epoch",
         bytes: b"0000010000000000",

@@ -10,7 +10,7 @@ struct Row {
     all: &'static [&'static [u8]],
 }
 
-const ROWS: [Row; 3] = [
+static ROWS: [Row; 3] = [
     Row {
         name: "nothing",
         first: &[],

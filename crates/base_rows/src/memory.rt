@@ -9,7 +9,7 @@ struct Row {
     text: &'static str,
 }
 
-const ROWS: [Row; 1] = [Row {
+static ROWS: [Row; 1] = [Row {
     name: "want of memory",
     error: Memory,
     text: "out of memory",

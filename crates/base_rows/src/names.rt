@@ -15,7 +15,7 @@ struct Row {
     kind: Kind,
 }
 
-const ROWS: [Row; 18] = [
+static ROWS: [Row; 18] = [
     Row {
         name: "one letter",
         bytes: b"a",

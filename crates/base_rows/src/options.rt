@@ -31,7 +31,7 @@ struct Row {
     in_range: bool,
 }
 
-const ROWS: [Row; 7] = [
+static ROWS: [Row; 7] = [
     Row {
         name: "none given",
         given: &[],

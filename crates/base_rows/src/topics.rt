@@ -19,7 +19,7 @@ struct Row {
     topics: &'static [Entry],
 }
 
-const ROWS: [Row; 3] = [
+static ROWS: [Row; 3] = [
     Row {
         name: "nothing",
         given: &[],

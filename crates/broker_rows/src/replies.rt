@@ -52,7 +52,7 @@ const BAD_COUNT: Gets = Gets::Error(b"E_INVALID bad count");
 const ALL_IDS: u64 = 1 << 40;
 
 // Bodies that IDENTIFY refuses.
-const BAD_BODIES: [&'static str; 28] = [
+static BAD_BODIES: [&'static str; 28] = [
     r#"[]"#,
     r#"{"#,
     r#"null"#,
@@ -84,7 +84,7 @@ const BAD_BODIES: [&'static str; 28] = [
 ];
 
 // Bodies that are answered OK.
-const GOOD_BODIES: [&'static str; 15] = [
+static GOOD_BODIES: [&'static str; 15] = [
     r#"{}"#,
     r#"{"client_id":"c","hostname":"h","user_agent":"u"}"#,
     r#"{"heartbeat_interval":-1}"#,
@@ -102,7 +102,7 @@ const GOOD_BODIES: [&'static str; 15] = [
     r#"{"sample_rate":100,"sample_rate":5}"#,
 ];
 
-const PUBLISHES: [Row; 21] = [
+static PUBLISHES: [Row; 21] = [
     Row {
         name: "IDENTIFY of a subscribed client",
         phase: Phase::Subscribed,
@@ -279,7 +279,7 @@ const PUBLISHES: [Row; 21] = [
     },
 ];
 
-const READIES: [Row; 13] = [
+static READIES: [Row; 13] = [
     Row {
         name: "RDY of a fresh client",
         phase: Phase::Fresh,
@@ -386,7 +386,7 @@ const READIES: [Row; 13] = [
     },
 ];
 
-const FLIGHTS: [Row; 19] = [
+static FLIGHTS: [Row; 19] = [
     Row {
         name: "FIN of a fresh client, in flight",
         phase: Phase::Fresh,

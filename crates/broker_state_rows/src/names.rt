@@ -85,7 +85,7 @@ const FULL: Given = Given {
     topics: &[PAUSED_TOPIC, EPHEMERAL_TOPIC, BARE_TOPIC],
 };
 
-const ROWS: [Row; 3] = [
+static ROWS: [Row; 3] = [
     Row {
         name: "nothing but the epoch",
         given: EMPTY,

@@ -30,7 +30,7 @@ enum Word {
 }
 
 /// All that may be said.
-const WORDS: [Word; 5] = [
+static WORDS: [Word; 5] = [
     Word::Done,
     Word::NoTopic,
     Word::NoChannel,
@@ -70,7 +70,7 @@ const GIVEN: Given = Given {
     topics: &[TOPIC],
 };
 
-const ROWS: [Row; 21] = [
+static ROWS: [Row; 21] = [
     Row {
         name: "a publish to a topic that isn't there",
         used: 0,

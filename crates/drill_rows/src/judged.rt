@@ -24,7 +24,7 @@ const LIMITS: Limits = Limits {
 };
 
 // The names of all files that a drill may leave.
-const NAMES: [&str; 17] = [
+static NAMES: [&str; 17] = [
     "nsqd.dat",
     "t0.diskqueue.meta.dat",
     "t0.diskqueue.000000.dat",

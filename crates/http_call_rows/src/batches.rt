@@ -1,8 +1,7 @@
-use crate::requests::{Row, Wanted, holds};
-use std::test::Fail;
+use crate::requests::{Row, Wanted};
 
 /// Publishes of lines.
-static LINES: [Row; 12] = [
+pub(crate) const LINES: [Row; 12] = [
     Row {
         name: "two lines, and an empty one between them",
         bytes: b"POST /mpub?topic=t HTTP/1.1\r\nContent-Length: 4\r\n\r\na\n\nb",
@@ -66,7 +65,7 @@ static LINES: [Row; 12] = [
 ];
 
 /// Publishes of batches as MPUB has them.
-static BATCHES: [Row; 13] = [
+pub(crate) const BATCHES: [Row; 13] = [
     Row {
         name: "one message",
         bytes: b"POST /mpub?topic=t&binary=true HTTP/1.1\r\nContent-Length: 9\r\n\r\n\x00\x00\x00\x01\x00\x00\x00\x01a",
@@ -133,16 +132,3 @@ static BATCHES: [Row; 13] = [
         wanted: Wanted::Refused(413, b"{\"message\":\"BAD_BODY\"}"),
     },
 ];
-
-#[test]
-fn rows(rt: HostRuntime) -> Result<(), Fail> {
-    for row in &LINES {
-        let holds = holds(rt.alloc(), false, row)?;
-        assert!(rt; holds, "{}", row.name);
-    }
-    for row in &BATCHES {
-        let holds = holds(rt.alloc(), false, row)?;
-        assert!(rt; holds, "{}", row.name);
-    }
-    Ok(())
-}

@@ -1,8 +1,7 @@
-use crate::requests::{Row, Wanted, holds};
-use std::test::Fail;
+use crate::requests::{Row, Wanted};
 
 /// Publishes of one message.
-static MESSAGES: [Row; 8] = [
+pub(crate) const MESSAGES: [Row; 8] = [
     Row {
         name: "a message",
         bytes: b"POST /pub?topic=test HTTP/1.1\r\nHost: 127.0.0.1:4151\r\nUser-Agent: curl/8.5.0\r\nAccept: */*\r\nContent-Length: 5\r\nContent-Type: application/x-www-form-urlencoded\r\n\r\nhello",
@@ -46,7 +45,7 @@ static MESSAGES: [Row; 8] = [
 ];
 
 /// Their delays.
-static DELAYS: [Row; 12] = [
+pub(crate) const DELAYS: [Row; 12] = [
     Row {
         name: "none",
         bytes: b"POST /pub?topic=t&defer=0 HTTP/1.1\r\nContent-Length: 1\r\n\r\nx",
@@ -108,16 +107,3 @@ static DELAYS: [Row; 12] = [
         wanted: Wanted::Refused(400, b"{\"message\":\"INVALID_DEFER\"}"),
     },
 ];
-
-#[test]
-fn rows(rt: HostRuntime) -> Result<(), Fail> {
-    for row in &MESSAGES {
-        let holds = holds(rt.alloc(), false, row)?;
-        assert!(rt; holds, "{}", row.name);
-    }
-    for row in &DELAYS {
-        let holds = holds(rt.alloc(), false, row)?;
-        assert!(rt; holds, "{}", row.name);
-    }
-    Ok(())
-}

@@ -16,4 +16,6 @@ mod said;
 #[cfg(test)]
 mod statistics;
 #[cfg(test)]
+mod tables;
+#[cfg(test)]
 mod verbs;

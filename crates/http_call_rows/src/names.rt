@@ -1,8 +1,7 @@
-use crate::requests::{Act, Row, Wanted, holds};
-use std::test::Fail;
+use crate::requests::{Act, Row, Wanted};
 
 /// Calls that take a topic.
-static TOPICS: [Row; 11] = [
+pub(crate) const TOPICS: [Row; 11] = [
     Row {
         name: "no query",
         bytes: b"POST /topic/create HTTP/1.1\r\n\r\n",
@@ -65,7 +64,7 @@ static TOPICS: [Row; 11] = [
 ];
 
 /// Calls that take a topic and a channel.
-static CHANNELS: [Row; 8] = [
+pub(crate) const CHANNELS: [Row; 8] = [
     Row {
         name: "no names",
         bytes: b"POST /channel/create HTTP/1.1\r\n\r\n",
@@ -107,16 +106,3 @@ static CHANNELS: [Row; 8] = [
         wanted: Wanted::On(Act::Create, b"t", Some(b"c")),
     },
 ];
-
-#[test]
-fn rows(rt: HostRuntime) -> Result<(), Fail> {
-    for row in &TOPICS {
-        let holds = holds(rt.alloc(), false, row)?;
-        assert!(rt; holds, "{}", row.name);
-    }
-    for row in &CHANNELS {
-        let holds = holds(rt.alloc(), false, row)?;
-        assert!(rt; holds, "{}", row.name);
-    }
-    Ok(())
-}

@@ -1,5 +1,5 @@
 use broker_history::Ask;
-use http_calls::{HttpAnswer, HttpCall, call_of, refusal_of};
+use http_calls::{HttpAnswer, HttpCall, Refusal, call_of, refusal_of};
 use http_wire::{GotRequest, RequestReader};
 use nsq_base::{Bodies, Chan, Memory, Options, Topic};
 use std::alloc::Global;
@@ -29,7 +29,7 @@ pub(crate) enum Wanted {
 }
 
 /// What is asked of a topic or of a channel.
-#[derive(Clone, Copy)]
+#[derive(Clone, Copy, PartialEq)]
 pub(crate) enum Act {
     Create,
     Delete,
@@ -46,31 +46,59 @@ fn options_of(alloc: Global, stops: bool) -> Result<Options, Memory> {
     Ok(options)
 }
 
+/// Whether these are the same bytes.
+pub(crate) fn same(one: &[u8], other: &[u8]) -> bool {
+    one == other
+}
+
 /// Whether the request is what the row wants, to a daemon that began 3.9 seconds after the clock's first moment.
 pub(crate) fn holds(alloc: Global, stops: bool, row: &Row) -> Result<bool, Memory> {
     let options = options_of(alloc, stops)?;
-    let mut reader = RequestReader::new(alloc, options.max_body_size)?;
-    reader.feed(row.bytes)?;
-    let got = reader.next();
-    if let Some(refusal) = refusal_of(&got) {
-        return Ok(is_answer(&refusal.answer(alloc)?, row.wanted));
+    let got = got_of(alloc, options.max_body_size, row.bytes)?;
+    match refusal_of(&got) {
+        Some(refusal) => refuses(alloc, refusal, row.wanted),
+        None => is_got(alloc, &options, got, row.wanted),
     }
-    let GotRequest::Whole(request) = got else {
-        return Ok(false);
-    };
-    if !options.in_range() {
-        return Ok(false);
+}
+
+/// What a reader gives for the bytes.
+fn got_of(alloc: Global, limit: u32, bytes: &[u8]) -> Result<GotRequest, Memory> {
+    let mut reader = RequestReader::new(alloc, limit)?;
+    reader.feed(bytes)?;
+    Ok(reader.next())
+}
+
+/// Whether this refusal is wanted.
+fn refuses(alloc: Global, refusal: Refusal, wanted: Wanted) -> Result<bool, Memory> {
+    let answer = refusal.answer(alloc)?;
+    Ok(is_answer(&answer, wanted))
+}
+
+/// Whether a request was got that is what is wanted.
+fn is_got(
+    alloc: Global,
+    options: &Options,
+    got: GotRequest,
+    wanted: Wanted,
+) -> Result<bool, Memory> {
+    match got {
+        GotRequest::Whole(request) if options.in_range() => {
+            is_wanted(
+                alloc,
+                &call_of(alloc, options, 3_900_000_000, request)?,
+                wanted,
+            )
+        }
+        _ => Ok(false),
     }
-    let call = call_of(alloc, &options, 3_900_000_000, request)?;
-    is_wanted(alloc, call, row.wanted)
 }
 
 /// Whether this is what is wanted.
-fn is_wanted(alloc: Global, call: HttpCall, wanted: Wanted) -> Result<bool, Memory> {
+fn is_wanted(alloc: Global, call: &HttpCall, wanted: Wanted) -> Result<bool, Memory> {
     match call {
-        HttpCall::Refused(refusal) => Ok(is_answer(&refusal.answer(alloc)?, wanted)),
-        HttpCall::Answered(answer) => Ok(is_answer(&answer, wanted)),
-        HttpCall::Asks(ask) => Ok(is_asked(&ask, wanted)),
+        HttpCall::Refused(refusal) => refuses(alloc, *refusal, wanted),
+        HttpCall::Answered(answer) => Ok(is_answer(answer, wanted)),
+        HttpCall::Asks(ask) => Ok(is_asked(ask, wanted)),
         HttpCall::Stops => Ok(matches!(wanted, Wanted::Stops)),
     }
 }
@@ -79,10 +107,10 @@ fn is_wanted(alloc: Global, call: HttpCall, wanted: Wanted) -> Result<bool, Memo
 pub(crate) fn is_answer(answer: &HttpAnswer, wanted: Wanted) -> bool {
     match wanted {
         Wanted::Refused(status, body) => {
-            answer.status == status && answer.json && answer.body.bytes() == body
+            answer.status == status && answer.json && same(answer.body.bytes(), body)
         }
         Wanted::Answered(json, body) => {
-            answer.status == 200 && answer.json == json && answer.body.bytes() == body
+            answer.status == 200 && answer.json == json && same(answer.body.bytes(), body)
         }
         _ => false,
     }
@@ -93,21 +121,11 @@ fn is_asked(ask: &Ask, wanted: Wanted) -> bool {
     match ask {
         Ask::Publish(topic, delay, bodies) => is_publish(topic, *delay, bodies, wanted),
         Ask::Stats(topic, channel) => is_stats(topic, channel, wanted),
-        Ask::Create(topic, channel) => {
-            matches!(wanted, Wanted::On(Act::Create, _, _)) && is_on(topic, channel, wanted)
-        }
-        Ask::Delete(topic, channel) => {
-            matches!(wanted, Wanted::On(Act::Delete, _, _)) && is_on(topic, channel, wanted)
-        }
-        Ask::Empty(topic, channel) => {
-            matches!(wanted, Wanted::On(Act::Empty, _, _)) && is_on(topic, channel, wanted)
-        }
-        Ask::Pause(topic, channel) => {
-            matches!(wanted, Wanted::On(Act::Pause, _, _)) && is_on(topic, channel, wanted)
-        }
-        Ask::Unpause(topic, channel) => {
-            matches!(wanted, Wanted::On(Act::Unpause, _, _)) && is_on(topic, channel, wanted)
-        }
+        Ask::Create(topic, channel) => is_on(Act::Create, topic, channel, wanted),
+        Ask::Delete(topic, channel) => is_on(Act::Delete, topic, channel, wanted),
+        Ask::Empty(topic, channel) => is_on(Act::Empty, topic, channel, wanted),
+        Ask::Pause(topic, channel) => is_on(Act::Pause, topic, channel, wanted),
+        Ask::Unpause(topic, channel) => is_on(Act::Unpause, topic, channel, wanted),
     }
 }
 
@@ -116,20 +134,18 @@ fn is_publish(topic: &Topic, delay: u64, bodies: &Bodies, wanted: Wanted) -> boo
     let Wanted::Publish(name, nanoseconds, messages) = wanted else {
         return false;
     };
-    topic.bytes() == name && delay == nanoseconds && are(bodies, messages)
+    same(topic.bytes(), name) && delay == nanoseconds && are(bodies, messages)
 }
 
 /// Whether these are the messages.
 fn are(bodies: &Bodies, messages: &[&'static [u8]]) -> bool {
-    if bodies.count() != messages.len() {
-        return false;
-    }
-    for (body, message) in bodies.as_slice().iter().zip(messages) {
-        if body.bytes() != *message {
+    let bodies = bodies.as_slice();
+    for (place, message) in messages.iter().enumerate() {
+        if place >= bodies.len() || !same(bodies[place].bytes(), message) {
             return false;
         }
     }
-    true
+    bodies.len() == messages.len()
 }
 
 /// Whether these statistics are wanted.
@@ -140,19 +156,19 @@ fn is_stats(topic: &Option<Topic>, channel: &Option<Chan>, wanted: Wanted) -> bo
     is_topic(topic, of_topic) && is_channel(channel, of_channel)
 }
 
-/// Whether these names are wanted.
-fn is_on(topic: &Topic, channel: &Option<Chan>, wanted: Wanted) -> bool {
-    let Wanted::On(_, name, of_channel) = wanted else {
+/// Whether this is wanted of these names.
+fn is_on(act: Act, topic: &Topic, channel: &Option<Chan>, wanted: Wanted) -> bool {
+    let Wanted::On(asked, name, of_channel) = wanted else {
         return false;
     };
-    topic.bytes() == name && is_channel(channel, of_channel)
+    act == asked && same(topic.bytes(), name) && is_channel(channel, of_channel)
 }
 
 /// Whether this is the topic's name, or there is none.
 fn is_topic(topic: &Option<Topic>, name: Option<&'static [u8]>) -> bool {
     match (topic, name) {
         (None, None) => true,
-        (Some(topic), Some(name)) => topic.bytes() == name,
+        (Some(topic), Some(name)) => same(topic.bytes(), name),
         _ => false,
     }
 }
@@ -161,7 +177,7 @@ fn is_topic(topic: &Option<Topic>, name: Option<&'static [u8]>) -> bool {
 fn is_channel(channel: &Option<Chan>, name: Option<&'static [u8]>) -> bool {
     match (channel, name) {
         (None, None) => true,
-        (Some(channel), Some(name)) => channel.bytes() == name,
+        (Some(channel), Some(name)) => same(channel.bytes(), name),
         _ => false,
     }
 }

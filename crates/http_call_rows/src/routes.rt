@@ -1,8 +1,7 @@
-use crate::requests::{Row, Wanted, holds};
-use std::test::Fail;
+use crate::requests::{Row, Wanted};
 
 /// Paths and methods, where no stop is served.
-static PATHS: [Row; 11] = [
+pub(crate) const PATHS: [Row; 11] = [
     Row {
         name: "a ping",
         bytes: b"GET /ping HTTP/1.1\r\n\r\n",
@@ -61,7 +60,7 @@ static PATHS: [Row; 11] = [
 ];
 
 /// The same, where a stop is served, and bytes that are no request.
-static STOPS: [Row; 9] = [
+pub(crate) const STOPS: [Row; 9] = [
     Row {
         name: "a stop",
         bytes: b"POST /stop HTTP/1.1\r\n\r\n",
@@ -111,16 +110,3 @@ static STOPS: [Row; 9] = [
         wanted: Wanted::Refused(413, b"{\"message\":\"BODY_TOO_BIG\"}"),
     },
 ];
-
-#[test]
-fn rows(rt: HostRuntime) -> Result<(), Fail> {
-    for row in &PATHS {
-        let holds = holds(rt.alloc(), false, row)?;
-        assert!(rt; holds, "{}", row.name);
-    }
-    for row in &STOPS {
-        let holds = holds(rt.alloc(), true, row)?;
-        assert!(rt; holds, "{}", row.name);
-    }
-    Ok(())
-}

@@ -1,6 +1,6 @@
-use crate::requests::{Wanted, is_answer};
+use crate::requests::{Wanted, is_answer, same};
 use broker_history::{Items, Said, Stats};
-use http_calls::{Refusal, answer_to, stop_answer};
+use http_calls::{HttpAnswer, Refusal, answer_to, stop_answer};
 use http_wire::write_answer;
 use nsq_base::Memory;
 use std::alloc::Global;
@@ -23,9 +23,15 @@ enum Told {
     Ids,
     Disk,
     Stats,
+    /// A stop is.
+    Stop,
+    /// Nothing is, as memory is wanting.
+    OutOfMemory,
+    /// Nothing is, as the daemon stops.
+    Stopping,
 }
 
-static ROWS: [Row; 7] = [
+static ROWS: [Row; 10] = [
     Row {
         name: "a publish",
         publish: true,
@@ -71,11 +77,29 @@ static ROWS: [Row; 7] = [
             b"{\"health\":\"OK\",\"start_time\":3,\"topics\":[],\"version\":\"1.0.0\"}",
         ),
     },
+    Row {
+        name: "a stop",
+        publish: false,
+        said: Told::Stop,
+        wanted: Wanted::Answered(false, b"OK"),
+    },
+    Row {
+        name: "want of memory",
+        publish: false,
+        said: Told::OutOfMemory,
+        wanted: Wanted::Refused(503, b"{\"message\":\"OUT_OF_MEMORY\"}"),
+    },
+    Row {
+        name: "a daemon that stops",
+        publish: false,
+        said: Told::Stopping,
+        wanted: Wanted::Refused(503, b"{\"message\":\"STOPPING\"}"),
+    },
 ];
 
-/// What is said.
-fn said_of(alloc: Global, told: Told) -> Said {
-    match told {
+/// What it is answered.
+fn answer_of(alloc: Global, row: &Row) -> Result<HttpAnswer, Memory> {
+    let said = match row.said {
         Told::Done => Said::Done,
         Told::NoTopic => Said::NoTopic,
         Told::NoChannel => Said::NoChannel,
@@ -84,32 +108,17 @@ fn said_of(alloc: Global, told: Told) -> Said {
         Told::Stats => Said::Stats(Stats {
             topics: Items::new(alloc),
         }),
-    }
+        Told::Stop => return stop_answer(alloc),
+        Told::OutOfMemory => return Refusal::OutOfMemory.answer(alloc),
+        Told::Stopping => return Refusal::Stopping.answer(alloc),
+    };
+    answer_to(alloc, row.publish, 3_900_000_000, &said)
 }
 
 /// Whether it is answered as the row wants.
 fn holds(alloc: Global, row: &Row) -> Result<bool, Memory> {
-    let said = said_of(alloc, row.said);
-    let answer = answer_to(alloc, row.publish, 3_900_000_000, &said)?;
+    let answer = answer_of(alloc, row)?;
     Ok(is_answer(&answer, row.wanted))
-}
-
-/// Whether a stop, want of memory and a daemon that stops are answered so.
-fn others_hold(alloc: Global) -> Result<bool, Memory> {
-    let stop = stop_answer(alloc)?;
-    let memory = Refusal::OutOfMemory.answer(alloc)?;
-    let stopping = Refusal::Stopping.answer(alloc)?;
-    Ok(
-        is_answer(&stop, Wanted::Answered(false, b"OK"))
-            && is_answer(
-                &memory,
-                Wanted::Refused(503, b"{\"message\":\"OUT_OF_MEMORY\"}"),
-            )
-            && is_answer(
-                &stopping,
-                Wanted::Refused(503, b"{\"message\":\"STOPPING\"}"),
-            ),
-    )
 }
 
 /// Whether a refusal is written so.
@@ -123,9 +132,9 @@ fn is_written(alloc: Global) -> Result<bool, Memory> {
         answer.body.bytes(),
         &mut out,
     )?;
-    let wanted: &[u8] =
+    let wanted =
         b"HTTP/1.1 400 Bad Request\r\nContent-Type: application/json; charset=utf-8\r\nContent-Length: 31\r\nConnection: close\r\n\r\n{\"message\":\"MISSING_ARG_TOPIC\"}";
-    Ok(&out[..] == wanted)
+    Ok(same(&out, wanted))
 }
 
 #[test]
@@ -134,8 +143,6 @@ fn rows(rt: HostRuntime) -> Result<(), Fail> {
         let holds = holds(rt.alloc(), row)?;
         assert!(rt; holds, "{}", row.name);
     }
-    let others = others_hold(rt.alloc())?;
-    assert!(rt; others, "a stop, want of memory, a daemon that stops");
     let written = is_written(rt.alloc())?;
     assert!(rt; written, "bytes");
     Ok(())

@@ -1,8 +1,7 @@
-use crate::requests::{Row, Wanted, holds};
-use std::test::Fail;
+use crate::requests::{Row, Wanted};
 
 /// Statistics.
-static ROWS: [Row; 11] = [
+pub(crate) const ROWS: [Row; 11] = [
     Row {
         name: "of all",
         bytes: b"GET /stats?format=json HTTP/1.1\r\n\r\n",
@@ -59,12 +58,3 @@ static ROWS: [Row; 11] = [
         wanted: Wanted::Refused(405, b"{\"message\":\"METHOD_NOT_ALLOWED\"}"),
     },
 ];
-
-#[test]
-fn rows(rt: HostRuntime) -> Result<(), Fail> {
-    for row in &ROWS {
-        let holds = holds(rt.alloc(), false, row)?;
-        assert!(rt; holds, "{}", row.name);
-    }
-    Ok(())
-}

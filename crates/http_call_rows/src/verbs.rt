@@ -1,8 +1,7 @@
-use crate::requests::{Act, Row, Wanted, holds};
-use std::test::Fail;
+use crate::requests::{Act, Row, Wanted};
 
 /// What is asked of topics and channels.
-static VERBS: [Row; 10] = [
+pub(crate) const VERBS: [Row; 10] = [
     Row {
         name: "create a topic",
         bytes: b"POST /topic/create?topic=t&channel=c HTTP/1.1\r\n\r\n",
@@ -54,12 +53,3 @@ static VERBS: [Row; 10] = [
         wanted: Wanted::On(Act::Unpause, b"t", Some(b"c")),
     },
 ];
-
-#[test]
-fn rows(rt: HostRuntime) -> Result<(), Fail> {
-    for row in &VERBS {
-        let holds = holds(rt.alloc(), false, row)?;
-        assert!(rt; holds, "{}", row.name);
-    }
-    Ok(())
-}

@@ -1,3 +1,4 @@
+use crate::requests::same;
 use http_wire::write_answer;
 use nsq_base::Memory;
 use std::alloc::Global;
@@ -25,7 +26,7 @@ struct Row {
     bytes: &'static [u8],
 }
 
-const ROWS: [Row; 10] = [
+static ROWS: [Row; 10] = [
     Row {
         name: "a text",
         status: Status::Ok,
@@ -112,14 +113,20 @@ fn write(alloc: Global, row: &Row, out: &mut Vec<u8>) -> Result<(), Memory> {
     }
 }
 
+/// Whether the answer is the row's bytes behind what was there before.
+fn is_behind(alloc: Global, row: &Row, before: &[u8]) -> Result<bool, Memory> {
+    let mut out = Vec::from_slice(alloc, before)?;
+    write(alloc, row, &mut out)?;
+    Ok(match out.strip_prefix(before) {
+        Some(bytes) => same(bytes, row.bytes),
+        None => false,
+    })
+}
+
 /// Whether the answer is the row's bytes, and stands behind what was there before.
 fn holds(alloc: Global, row: &Row) -> Result<bool, Memory> {
-    let mut out = Vec::new(alloc);
-    write(alloc, row, &mut out)?;
-    let alone = &out[..] == row.bytes;
-    let mut more = Vec::from_slice(alloc, b"before")?;
-    write(alloc, row, &mut more)?;
-    let behind = more.strip_prefix(b"before").unwrap_or(b"") == row.bytes;
+    let alone = is_behind(alloc, row, b"")?;
+    let behind = is_behind(alloc, row, b"before")?;
     Ok(alone && behind)
 }
 

@@ -1,3 +1,4 @@
+use crate::requests::same;
 use http_wire::{GotRequest, RequestReader};
 use nsq_base::Memory;
 use std::alloc::Global;
@@ -11,7 +12,7 @@ struct Row {
     value: Option<&'static [u8]>,
 }
 
-const ROWS: [Row; 7] = [
+static ROWS: [Row; 7] = [
     Row {
         name: "one pair",
         bytes: b"GET /stats?format=json HTTP/1.1\r\n\r\n",
@@ -56,12 +57,21 @@ const ROWS: [Row; 7] = [
     },
 ];
 
+/// Whether this is the value, or there is none.
+fn is_value(found: Option<&[u8]>, value: Option<&'static [u8]>) -> bool {
+    match (found, value) {
+        (Some(found), Some(value)) => same(found, value),
+        (None, None) => true,
+        _ => false,
+    }
+}
+
 /// Whether the request has the row's value for the row's name.
 fn holds(alloc: Global, row: &Row) -> Result<bool, Memory> {
     let mut reader = RequestReader::new(alloc, 100)?;
     reader.feed(row.bytes)?;
     match reader.next() {
-        GotRequest::Whole(request) => Ok(request.argument(row.argument) == row.value),
+        GotRequest::Whole(request) => Ok(is_value(request.argument(row.argument), row.value)),
         _ => Ok(false),
     }
 }

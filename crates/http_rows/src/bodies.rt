@@ -1,8 +1,7 @@
-use crate::requests::{Part, Row, Wanted, Whole, holds};
-use std::test::Fail;
+use crate::requests::{Part, Row, Wanted, Whole};
 
 /// Limits of bodies, and bodies in other forms.
-const ROWS: [Row; 11] = [
+pub(crate) const ROWS: [Row; 11] = [
     Row {
         name: "a limit of 0",
         bytes: &[Part::Text(b"POST /pub HTTP/1.1\r\nContent-Length: 0\r\n\r\n")],
@@ -90,12 +89,3 @@ const ROWS: [Row; 11] = [
         }),
     },
 ];
-
-#[test]
-fn rows(rt: HostRuntime) -> Result<(), Fail> {
-    for row in &ROWS {
-        let holds = holds(rt.alloc(), row)?;
-        assert!(rt; holds, "{}", row.name);
-    }
-    Ok(())
-}

@@ -1,8 +1,7 @@
-use crate::requests::{Part, Row, Wanted, Whole, holds};
-use std::test::Fail;
+use crate::requests::{Part, Row, Wanted, Whole};
 
 /// Lengths of bodies.
-const ROWS: [Row; 16] = [
+pub(crate) const ROWS: [Row; 16] = [
     Row {
         name: "a length of 0",
         bytes: &[Part::Text(b"POST /pub HTTP/1.1\r\nContent-Length: 0\r\n\r\n")],
@@ -141,12 +140,3 @@ const ROWS: [Row; 16] = [
         wanted: Wanted::TooBig,
     },
 ];
-
-#[test]
-fn rows(rt: HostRuntime) -> Result<(), Fail> {
-    for row in &ROWS {
-        let holds = holds(rt.alloc(), row)?;
-        assert!(rt; holds, "{}", row.name);
-    }
-    Ok(())
-}

@@ -20,4 +20,6 @@ mod requests;
 #[cfg(test)]
 mod starts;
 #[cfg(test)]
+mod tables;
+#[cfg(test)]
 mod targets;

@@ -1,8 +1,7 @@
-use crate::requests::{Part, Row, Wanted, Whole, holds};
-use std::test::Fail;
+use crate::requests::{Part, Row, Wanted, Whole};
 
 /// Fields and bytes of a head at their limits.
-const ROWS: [Row; 12] = [
+pub(crate) const ROWS: [Row; 12] = [
     Row {
         name: "64 fields",
         bytes: &[
@@ -135,12 +134,3 @@ const ROWS: [Row; 12] = [
         wanted: Wanted::BadHead,
     },
 ];
-
-#[test]
-fn rows(rt: HostRuntime) -> Result<(), Fail> {
-    for row in &ROWS {
-        let holds = holds(rt.alloc(), row)?;
-        assert!(rt; holds, "{}", row.name);
-    }
-    Ok(())
-}

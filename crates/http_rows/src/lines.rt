@@ -1,8 +1,7 @@
-use crate::requests::{Part, Row, Wanted, Whole, holds};
-use std::test::Fail;
+use crate::requests::{Part, Row, Wanted, Whole};
 
 /// Line ends and fields.
-const ROWS: [Row; 17] = [
+pub(crate) const ROWS: [Row; 17] = [
     Row {
         name: "line feeds alone",
         bytes: &[Part::Text(b"GET /ping HTTP/1.1\nHost: h\n\n")],
@@ -136,12 +135,3 @@ const ROWS: [Row; 17] = [
         }),
     },
 ];
-
-#[test]
-fn rows(rt: HostRuntime) -> Result<(), Fail> {
-    for row in &ROWS {
-        let holds = holds(rt.alloc(), row)?;
-        assert!(rt; holds, "{}", row.name);
-    }
-    Ok(())
-}

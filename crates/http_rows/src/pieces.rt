@@ -26,35 +26,54 @@ fn is_cut(length: usize, place: usize) -> bool {
     length <= SHORT || place % STEP == 0 || place.saturating_add(6) >= length
 }
 
-/// Whether a reader gives what the plain program does for the first piece, and what is wanted for both, twice, and also behind
-/// further bytes where it isn't unfinished.
-fn holds_cut(
+/// Whether the reader gives this now.
+fn gives(reader: &mut RequestReader, wanted: &Plain) -> Result<bool, Memory> {
+    let given = next(reader)?;
+    Ok(given == *wanted)
+}
+
+/// Whether the reader gives now what the plain program does for these bytes.
+fn gives_plain(
     alloc: Global,
     limit: u32,
+    reader: &mut RequestReader,
+    bytes: &[u8],
+) -> Result<bool, Memory> {
+    let plain = request_of(alloc, limit, bytes)?;
+    gives(reader, &plain)
+}
+
+/// Whether a new reader gives what the plain program does for the first piece, and what is wanted for both, twice, and also
+/// behind further bytes where it isn't unfinished.
+fn reads_two(
+    alloc: Global,
+    limit: u32,
+    reader: &mut RequestReader,
     pieces: (&[u8], &[u8]),
     wanted: &Plain,
 ) -> Result<bool, Memory> {
-    let mut reader = RequestReader::new(alloc, limit)?;
     reader.feed(pieces.0)?;
-    let first = next(&mut reader)? == request_of(alloc, limit, pieces.0)?;
+    if !gives_plain(alloc, limit, reader, pieces.0)? {
+        return Ok(false);
+    }
     reader.feed(pieces.1)?;
-    let second = next(&mut reader)? == *wanted && next(&mut reader)? == *wanted;
+    if !gives(reader, wanted)? || !gives(reader, wanted)? {
+        return Ok(false);
+    }
     reader.feed(b"\r\n\r\nmore")?;
-    let behind = matches!(wanted, Plain::Unfinished) || next(&mut reader)? == *wanted;
-    Ok(first && second && behind)
+    match wanted {
+        Plain::Unfinished => Ok(true),
+        _ => gives(reader, wanted),
+    }
 }
 
 /// Whether the row holds at each place where it is cut.
-pub(crate) fn in_two_pieces(
-    alloc: Global,
-    limit: u32,
-    bytes: &[u8],
-    wanted: &Plain,
-) -> Result<bool, Memory> {
+fn in_two_pieces(alloc: Global, limit: u32, bytes: &[u8], wanted: &Plain) -> Result<bool, Memory> {
     for place in 0..=bytes.len() {
         if is_cut(bytes.len(), place) {
             let pieces = bytes.split_at(place.min(bytes.len()));
-            if !holds_cut(alloc, limit, pieces, wanted)? {
+            let mut reader = RequestReader::new(alloc, limit)?;
+            if !reads_two(alloc, limit, &mut reader, pieces, wanted)? {
                 return Ok(false);
             }
         }
@@ -62,25 +81,38 @@ pub(crate) fn in_two_pieces(
     Ok(true)
 }
 
-/// Whether a reader that is fed one byte a piece, and asked behind each, gives what is wanted in the end, and before that what
-/// the plain program does.
-pub(crate) fn at_each_byte(
+/// Whether a new reader that is fed one byte a piece, and asked behind each, gives what is wanted in the end, and before that
+/// what the plain program does.
+fn reads_bytes(
+    alloc: Global,
+    limit: u32,
+    reader: &mut RequestReader,
+    bytes: &[u8],
+    wanted: &Plain,
+) -> Result<bool, Memory> {
+    next(reader)?;
+    for (place, byte) in bytes.iter().enumerate() {
+        reader.feed(&[*byte])?;
+        let (front, _) = bytes.split_at(place.saturating_add(1).min(bytes.len()));
+        if !is_cut(bytes.len(), place) {
+            next(reader)?;
+        } else if !gives_plain(alloc, limit, reader, front)? {
+            return Ok(false);
+        }
+    }
+    gives(reader, wanted)
+}
+
+/// Whether the reader gives what is wanted: at each cut into two pieces, and byte by byte.
+pub(crate) fn is_read(
     alloc: Global,
     limit: u32,
     bytes: &[u8],
     wanted: &Plain,
 ) -> Result<bool, Memory> {
     let mut reader = RequestReader::new(alloc, limit)?;
-    let mut last = next(&mut reader)?;
-    for (place, byte) in bytes.iter().enumerate() {
-        reader.feed(&[*byte])?;
-        last = next(&mut reader)?;
-        if is_cut(bytes.len(), place) {
-            let (front, _) = bytes.split_at(place.saturating_add(1).min(bytes.len()));
-            if last != request_of(alloc, limit, front)? {
-                return Ok(false);
-            }
-        }
+    if !reads_bytes(alloc, limit, &mut reader, bytes, wanted)? {
+        return Ok(false);
     }
-    Ok(last == *wanted)
+    in_two_pieces(alloc, limit, bytes, wanted)
 }

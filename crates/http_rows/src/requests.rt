@@ -1,7 +1,7 @@
-use crate::pieces::{at_each_byte, in_two_pieces};
+use crate::pieces::is_read;
 use http_plain::{Plain, request_of};
 use http_wire::Request;
-use nsq_base::{Body, Memory, Pair, Pairs};
+use nsq_base::{Memory, Pair};
 use std::alloc::Global;
 
 /// The bytes of a connection, a limit for bodies, and what the bytes are.
@@ -45,47 +45,69 @@ pub(crate) enum Part {
     Times(usize, &'static [u8]),
 }
 
+/// Whether these are the same bytes.
+pub(crate) fn same(one: &[u8], other: &[u8]) -> bool {
+    one == other
+}
+
+/// Appends the bytes of the parts.
+fn append(bytes: &mut Vec<u8>, parts: &[Part]) -> Result<(), Memory> {
+    for part in parts {
+        let (count, text) = match *part {
+            Part::Text(text) => (1, text),
+            Part::Times(count, text) => (count, text),
+        };
+        for _ in 0..count {
+            bytes.extend_from_slice(text)?;
+        }
+    }
+    Ok(())
+}
+
 /// The bytes of the parts.
 fn bytes_of(alloc: Global, parts: &[Part]) -> Result<Vec<u8>, Memory> {
     let mut bytes = Vec::new(alloc);
-    for part in parts {
-        match *part {
-            Part::Text(text) => bytes.extend_from_slice(text)?,
-            Part::Times(count, text) => {
-                for _ in 0..count {
-                    bytes.extend_from_slice(text)?;
-                }
-            }
-        }
-    }
+    append(&mut bytes, parts)?;
     Ok(bytes)
 }
 
-/// The pairs, as a request has them.
-fn pairs_of(alloc: Global, query: &[(&'static [u8], &'static [u8])]) -> Result<Pairs, Memory> {
-    let mut pairs = Pairs::new(alloc);
-    for (name, value) in query {
-        pairs.push(Pair {
-            name: Body::copy(alloc, name)?,
-            value: Body::copy(alloc, value)?,
-        })?;
-    }
-    Ok(pairs)
+/// Whether it is this pair.
+fn is_pair(pair: &Pair, name: &[u8], value: &[u8]) -> bool {
+    same(pair.name.bytes(), name) && same(pair.value.bytes(), value)
 }
 
-/// What the row wants, with its bytes.
-fn wanted_of(alloc: Global, wanted: Wanted) -> Result<Plain, Memory> {
+/// Whether these are the pairs.
+fn are_pairs(pairs: &[Pair], query: &[(&[u8], &[u8])]) -> bool {
+    for (place, (name, value)) in query.iter().enumerate() {
+        if place >= pairs.len() || !is_pair(&pairs[place], name, value) {
+            return false;
+        }
+    }
+    pairs.len() == query.len()
+}
+
+/// Whether this is the request.
+fn is_request(alloc: Global, request: &Request, whole: &Whole) -> Result<bool, Memory> {
+    let body = bytes_of(alloc, whole.body)?;
+    Ok(
+        same(request.method.bytes(), whole.method)
+            && same(request.path.bytes(), whole.path)
+            && are_pairs(request.query.as_slice(), whole.query)
+            && same(request.body.bytes(), &body),
+    )
+}
+
+/// Whether this is what the row wants.
+fn is_wanted(alloc: Global, plain: &Plain, wanted: &Wanted) -> Result<bool, Memory> {
     match wanted {
-        Wanted::Whole(whole) => Ok(Plain::Whole(Request {
-            method: Body::copy(alloc, whole.method)?,
-            path: Body::copy(alloc, whole.path)?,
-            query: pairs_of(alloc, whole.query)?,
-            body: Body::of(bytes_of(alloc, whole.body)?),
-        })),
-        Wanted::Unfinished => Ok(Plain::Unfinished),
-        Wanted::BadHead => Ok(Plain::BadHead),
-        Wanted::NoLength => Ok(Plain::NoLength),
-        Wanted::TooBig => Ok(Plain::TooBig),
+        Wanted::Whole(whole) => match plain {
+            Plain::Whole(request) => is_request(alloc, request, whole),
+            _ => Ok(false),
+        },
+        Wanted::Unfinished => Ok(matches!(plain, Plain::Unfinished)),
+        Wanted::BadHead => Ok(matches!(plain, Plain::BadHead)),
+        Wanted::NoLength => Ok(matches!(plain, Plain::NoLength)),
+        Wanted::TooBig => Ok(matches!(plain, Plain::TooBig)),
     }
 }
 
@@ -93,9 +115,8 @@ fn wanted_of(alloc: Global, wanted: Wanted) -> Result<Plain, Memory> {
 /// byte by byte, where it gives what the plain program does for the bytes so far. Long rows are cut at some places alone.
 pub(crate) fn holds(alloc: Global, row: &Row) -> Result<bool, Memory> {
     let bytes = bytes_of(alloc, row.bytes)?;
-    let wanted = wanted_of(alloc, row.wanted)?;
     let plain = request_of(alloc, row.limit, &bytes)?;
-    let cut = in_two_pieces(alloc, row.limit, &bytes, &wanted)?;
-    let each = at_each_byte(alloc, row.limit, &bytes, &wanted)?;
-    Ok(plain == wanted && cut && each)
+    let wanted = is_wanted(alloc, &plain, &row.wanted)?;
+    let read = is_read(alloc, row.limit, &bytes, &plain)?;
+    Ok(wanted && read)
 }

@@ -1,8 +1,7 @@
-use crate::requests::{Part, Row, Wanted, Whole, holds};
-use std::test::Fail;
+use crate::requests::{Part, Row, Wanted, Whole};
 
 /// Where a head begins and ends.
-const ROWS: [Row; 21] = [
+pub(crate) const ROWS: [Row; 21] = [
     Row {
         name: "a request of curl with a body",
         bytes: &[Part::Text(
@@ -163,12 +162,3 @@ const ROWS: [Row; 21] = [
         }),
     },
 ];
-
-#[test]
-fn rows(rt: HostRuntime) -> Result<(), Fail> {
-    for row in &ROWS {
-        let holds = holds(rt.alloc(), row)?;
-        assert!(rt; holds, "{}", row.name);
-    }
-    Ok(())
-}

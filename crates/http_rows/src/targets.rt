@@ -1,8 +1,7 @@
-use crate::requests::{Part, Row, Wanted, Whole, holds};
-use std::test::Fail;
+use crate::requests::{Part, Row, Wanted, Whole};
 
 /// Targets and queries.
-const ROWS: [Row; 16] = [
+pub(crate) const ROWS: [Row; 16] = [
     Row {
         name: "a target without a question mark",
         bytes: &[Part::Text(b"GET /a&b=c HTTP/1.1\r\n\r\n")],
@@ -175,12 +174,3 @@ const ROWS: [Row; 16] = [
         }),
     },
 ];
-
-#[test]
-fn rows(rt: HostRuntime) -> Result<(), Fail> {
-    for row in &ROWS {
-        let holds = holds(rt.alloc(), row)?;
-        assert!(rt; holds, "{}", row.name);
-    }
-    Ok(())
-}

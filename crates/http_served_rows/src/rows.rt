@@ -18,7 +18,7 @@ use std::sync::atomic::AtomicU64;
 const WHOLE: usize = 1 << 24;
 
 /// How bytes come: so many at a time.
-const SIZES: [usize; 2] = [WHOLE, 1];
+static SIZES: [usize; 2] = [WHOLE, 1];
 
 // Adds the pieces in which bytes come, so many at a time.
 fn add_pieces(

@@ -6,32 +6,11 @@ use nsq_base::Memory;
 use std::alloc::Global;
 
 /// A text that keeps something, and the text that is written of that.
-#[derive(Clone, Copy)]
 pub struct Row {
     /// The text.
     pub text: &'static str,
     /// What is written.
     pub written: &'static str,
-}
-
-/// The first text of a table whose row doesn't hold.
-pub fn wrong_row(alloc: Global, rows: &[Row]) -> Result<Option<&'static str>, Memory> {
-    for row in rows {
-        if !is_read(alloc, row.text.as_bytes(), row.written.as_bytes())? {
-            return Ok(Some(row.text));
-        }
-    }
-    Ok(None)
-}
-
-/// The first text of a table that isn't bad.
-pub fn good_text(alloc: Global, texts: &[&'static str]) -> Result<Option<&'static str>, Memory> {
-    for text in texts {
-        if !is_bad(alloc, text.as_bytes())? {
-            return Ok(Some(*text));
-        }
-    }
-    Ok(None)
 }
 
 /// Whether a text is bad.
@@ -41,13 +20,31 @@ pub fn is_bad(alloc: Global, text: &[u8]) -> Result<bool, Memory> {
 
 /// Whether what a text keeps is written as this, and this keeps the same and is written as it stands.
 pub fn is_read(alloc: Global, text: &[u8], written: &[u8]) -> Result<bool, Memory> {
-    let (Some(first), Some(second)) = (read(alloc, text)?, read(alloc, written)?) else {
-        return Ok(false);
-    };
-    if !is_same(&first, &second) {
+    match read(alloc, text)? {
+        Some(names) => is_kept(alloc, &names, written),
+        None => Ok(false),
+    }
+}
+
+// Whether these names are written as this, and this keeps the same and is written as it stands.
+fn is_kept(alloc: Global, names: &ListedNames, written: &[u8]) -> Result<bool, Memory> {
+    match read(alloc, written)? {
+        Some(again) if is_same(names, &again) => are_written(alloc, names, &again, written),
+        _ => Ok(false),
+    }
+}
+
+// Whether both names are written as this.
+fn are_written(
+    alloc: Global,
+    names: &ListedNames,
+    again: &ListedNames,
+    written: &[u8],
+) -> Result<bool, Memory> {
+    if !is_written(alloc, names, written)? {
         return Ok(false);
     }
-    Ok(is_written(alloc, &first, written)? && is_written(alloc, &second, written)?)
+    is_written(alloc, again, written)
 }
 
 // What a text keeps; None where it is bad.
@@ -70,20 +67,27 @@ fn is_same(one: &ListedNames, other: &ListedNames) -> bool {
 }
 
 fn are_same_topics(some: &[KeptTopic], others: &[KeptTopic]) -> bool {
-    for (one, other) in some.iter().zip(others) {
-        if one.topic != other.topic || one.paused != other.paused {
-            return false;
-        }
-        if !are_same_channels(&one.channels, &other.channels) {
+    for (place, one) in some.iter().enumerate() {
+        if place >= others.len() || !is_same_topic(one, &others[place]) {
             return false;
         }
     }
     some.len() == others.len()
 }
 
+fn is_same_topic(one: &KeptTopic, other: &KeptTopic) -> bool {
+    one.topic == other.topic
+        && one.paused == other.paused
+        && are_same_channels(&one.channels, &other.channels)
+}
+
+fn is_same_channel(one: &KeptChannel, other: &KeptChannel) -> bool {
+    one.channel == other.channel && one.paused == other.paused
+}
+
 fn are_same_channels(some: &[KeptChannel], others: &[KeptChannel]) -> bool {
-    for (one, other) in some.iter().zip(others) {
-        if one.channel != other.channel || one.paused != other.paused {
+    for (place, one) in some.iter().enumerate() {
+        if place >= others.len() || !is_same_channel(one, &others[place]) {
             return false;
         }
     }

@@ -4,6 +4,7 @@ use crate::held::{is_bad, is_read};
 use itoa::Buffer;
 use nsq_base::Memory;
 use std::alloc::Global;
+use std::test::Fail;
 
 // What is written of nothing.
 const NOTHING: &[u8] = br#"{"id_epoch":0,"topics":[],"version":"1.0.0"}"#;
@@ -11,23 +12,90 @@ const NOTHING: &[u8] = br#"{"id_epoch":0,"topics":[],"version":"1.0.0"}"#;
 // The most bytes of a text: 16 MiB.
 const LONGEST: usize = 1 << 24;
 
-// Bytes that aren't UTF-8.
-const BYTES: [&'static [u8]; 4] = [
-    b"{\"a\":\"\xff\"}",
-    b"{\"topics\":[{\"name\":\"\xc3\"}]}",
-    b"{}\xff",
-    b"\x80",
+// A text that is made.
+#[derive(Clone, Copy)]
+enum Made {
+    // These bytes.
+    Bytes(&'static [u8]),
+    // So many lists, one inside the other.
+    Nested(usize),
+    // Nothing, in so many bytes.
+    Spaced(usize),
+    // So many topics, as they are written or in the other order.
+    Named(u32, bool),
+}
+
+// A text, and what is written of it; None where it is bad.
+struct Row {
+    name: &'static str,
+    text: Made,
+    written: Option<Made>,
+}
+
+static ROWS: [Row; 11] = [
+    Row {
+        name: "a byte that begins nothing",
+        text: Made::Bytes(b"{\"a\":\"\xff\"}"),
+        written: None,
+    },
+    Row {
+        name: "a letter without its end",
+        text: Made::Bytes(b"{\"topics\":[{\"name\":\"\xc3\"}]}"),
+        written: None,
+    },
+    Row {
+        name: "a byte behind the object",
+        text: Made::Bytes(b"{}\xff"),
+        written: None,
+    },
+    Row {
+        name: "a byte alone",
+        text: Made::Bytes(b"\x80"),
+        written: None,
+    },
+    Row {
+        name: "125 lists",
+        text: Made::Nested(125),
+        written: Some(Made::Bytes(NOTHING)),
+    },
+    Row {
+        name: "126 lists",
+        text: Made::Nested(126),
+        written: Some(Made::Bytes(NOTHING)),
+    },
+    Row {
+        name: "127 lists",
+        text: Made::Nested(127),
+        written: None,
+    },
+    Row {
+        name: "128 lists",
+        text: Made::Nested(128),
+        written: None,
+    },
+    Row {
+        name: "the longest text",
+        text: Made::Spaced(LONGEST),
+        written: Some(Made::Bytes(NOTHING)),
+    },
+    Row {
+        name: "a byte more",
+        text: Made::Spaced(LONGEST + 1),
+        written: None,
+    },
+    Row {
+        name: "ten thousand topics",
+        text: Made::Named(10_000, true),
+        written: Some(Made::Named(10_000, false)),
+    },
 ];
 
 // An unknown member with so many lists, one inside the other: with the object itself it nests one deeper.
 fn nested(alloc: Global, lists: usize) -> Result<Vec<u8>, Memory> {
     let mut text = Vec::from_slice(alloc, br#"{"unknown":"#)?;
-    for _ in 0..lists {
-        text.push(b'[')?;
-    }
-    for _ in 0..lists {
-        text.push(b']')?;
-    }
+    let open = text.len().saturating_add(lists);
+    text.resize(open, b'[')?;
+    text.resize(open.saturating_add(lists), b']')?;
     text.push(b'}')?;
     Ok(text)
 }
@@ -42,15 +110,20 @@ fn spaced(alloc: Global, length: usize) -> Result<Vec<u8>, Memory> {
 // The text of so many topics, whose names are numbers of six digits from 100000 on: as it is written, or in the other order.
 fn many(alloc: Global, count: u32, falling: bool) -> Result<Vec<u8>, Memory> {
     let mut text = Vec::from_slice(alloc, br#"{"id_epoch":0,"topics":["#)?;
+    append_topics(&mut text, count, falling)?;
+    text.extend_from_slice(br#"],"version":"1.0.0"}"#)?;
+    Ok(text)
+}
+
+fn append_topics(text: &mut Vec<u8>, count: u32, falling: bool) -> Result<(), Memory> {
     for place in 0..count {
         let number = if falling { count - 1 - place } else { place };
         if place > 0 {
             text.push(b',')?;
         }
-        append_topic(&mut text, 100_000u32.wrapping_add(number))?;
+        append_topic(text, 100_000u32.wrapping_add(number))?;
     }
-    text.extend_from_slice(br#"],"version":"1.0.0"}"#)?;
-    Ok(text)
+    Ok(())
 }
 
 fn append_topic(text: &mut Vec<u8>, number: u32) -> Result<(), Memory> {
@@ -61,59 +134,28 @@ fn append_topic(text: &mut Vec<u8>, number: u32) -> Result<(), Memory> {
     Ok(())
 }
 
-fn nests(alloc: Global, lists: usize) -> Result<bool, Memory> {
-    let text = nested(alloc, lists)?;
-    is_read(alloc, &text, NOTHING)
-}
-
-fn nests_too_deep(alloc: Global, lists: usize) -> Result<bool, Memory> {
-    let text = nested(alloc, lists)?;
-    is_bad(alloc, &text)
-}
-
-fn fits(alloc: Global) -> Result<bool, Memory> {
-    let text = spaced(alloc, LONGEST)?;
-    is_read(alloc, &text, NOTHING)
-}
-
-fn is_too_long(alloc: Global) -> Result<bool, Memory> {
-    let text = spaced(alloc, LONGEST + 1)?;
-    is_bad(alloc, &text)
-}
-
-fn are_sorted(alloc: Global, count: u32) -> Result<bool, Memory> {
-    let falling = many(alloc, count, true)?;
-    let written = many(alloc, count, false)?;
-    is_read(alloc, &falling, &written)
-}
-
-#[test]
-fn bytes(rt: HostRuntime) -> Result<(), Memory> {
-    for text in BYTES {
-        let is_bad = is_bad(rt.alloc(), text)?;
-        assert!(rt; is_bad);
+fn text_of(alloc: Global, made: Made) -> Result<Vec<u8>, Memory> {
+    match made {
+        Made::Bytes(bytes) => Ok(Vec::from_slice(alloc, bytes)?),
+        Made::Nested(lists) => nested(alloc, lists),
+        Made::Spaced(length) => spaced(alloc, length),
+        Made::Named(count, falling) => many(alloc, count, falling),
     }
-    Ok(())
+}
+
+fn holds(alloc: Global, row: &Row) -> Result<bool, Memory> {
+    let text = text_of(alloc, row.text)?;
+    match row.written {
+        Some(written) => is_read(alloc, &text, &text_of(alloc, written)?),
+        None => is_bad(alloc, &text),
+    }
 }
 
 #[test]
-fn nesting(rt: HostRuntime) -> Result<(), Memory> {
-    assert!(rt; nests(rt.alloc(), 125)?);
-    assert!(rt; nests(rt.alloc(), 126)?);
-    assert!(rt; nests_too_deep(rt.alloc(), 127)?);
-    assert!(rt; nests_too_deep(rt.alloc(), 128)?);
-    Ok(())
-}
-
-#[test]
-fn lengths(rt: HostRuntime) -> Result<(), Memory> {
-    assert!(rt; fits(rt.alloc())?);
-    assert!(rt; is_too_long(rt.alloc())?);
-    Ok(())
-}
-
-#[test]
-fn ten_thousand(rt: HostRuntime) -> Result<(), Memory> {
-    assert!(rt; are_sorted(rt.alloc(), 10_000)?);
+fn rows(rt: HostRuntime) -> Result<(), Fail> {
+    for row in &ROWS {
+        let holds = holds(rt.alloc(), row)?;
+        assert!(rt; holds, "{}", row.name);
+    }
     Ok(())
 }

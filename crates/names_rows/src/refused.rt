@@ -1,10 +1,10 @@
 //! Texts that are bad.
 
-use crate::held::good_text;
-use nsq_base::Memory;
+use crate::held::is_bad;
+use std::test::Fail;
 
 // Each of these is bad.
-const TEXTS: [&str; 80] = [
+static TEXTS: [&str; 80] = [
     // No object in JSON.
     "",
     " ",
@@ -92,8 +92,10 @@ const TEXTS: [&str; 80] = [
 ];
 
 #[test]
-fn texts(rt: HostRuntime) -> Result<(), Memory> {
-    let good = good_text(rt.alloc(), &TEXTS)?;
-    assert!(rt; good.is_none(), "{}", good.unwrap_or(""));
+fn texts(rt: HostRuntime) -> Result<(), Fail> {
+    for text in &TEXTS {
+        let is_bad = is_bad(rt.alloc(), text.as_bytes())?;
+        assert!(rt; is_bad, "{}", text);
+    }
     Ok(())
 }

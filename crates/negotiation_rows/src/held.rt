@@ -27,7 +27,6 @@ pub enum Gets {
 }
 
 /// A body, and what it is read as, with the default options.
-#[derive(Clone, Copy)]
 pub struct Row {
     /// The body.
     pub body: &'static str,
@@ -35,96 +34,90 @@ pub struct Row {
     pub gets: Gets,
 }
 
-/// Whether a row holds.
-pub fn holds(alloc: Global, row: &Row) -> Result<bool, Memory> {
+/// Whether a body is read so with the default options.
+pub fn holds(alloc: Global, body: &str, gets: Gets) -> Result<bool, Memory> {
     let options = Options::defaults(alloc)?;
-    is_got(alloc, &options, row.body.as_bytes(), row.gets)
+    is_got(alloc, &options, body.as_bytes(), gets)
+}
+
+/// Whether these are the same bytes.
+fn same(one: &[u8], other: &[u8]) -> bool {
+    one == other
 }
 
 /// Whether a body is read so with these options, and is answered so, by the plain program too.
 pub fn is_got(alloc: Global, options: &Options, body: &[u8], gets: Gets) -> Result<bool, Memory> {
     let found = read_identity(alloc, options, body)?;
-    let frame = identify_reply(alloc, options, found.as_ref())?;
-    let plain = plain_reply(alloc, options, body)?;
-    Ok(is_read(&found, gets) && is_answer(&frame, gets) && is_same(&plain, &frame))
-}
-
-// What the plain program answers.
-fn plain_reply(alloc: Global, options: &Options, body: &[u8]) -> Result<Option<Frame>, Memory> {
-    let command = Command::Identify(Body::copy(alloc, body)?);
-    reply(alloc, options, 0, Phase::Fresh, false, &command)
-}
-
-fn is_same(plain: &Option<Frame>, frame: &Frame) -> bool {
-    match plain {
-        None => false,
-        Some(plain) => plain.kind == frame.kind && plain.body.bytes() == frame.body.bytes(),
+    if !is_read(&found, gets) {
+        return Ok(false);
     }
+    let frame = identify_reply(alloc, options, found.as_ref())?;
+    if !is_answer(&frame, gets) {
+        return Ok(false);
+    }
+    is_plain(alloc, options, body, &frame)
+}
+
+// Whether the plain program answers so.
+fn is_plain(alloc: Global, options: &Options, body: &[u8], frame: &Frame) -> Result<bool, Memory> {
+    let command = Command::Identify(Body::copy(alloc, body)?);
+    Ok(
+        match reply(alloc, options, 0, Phase::Fresh, false, &command)? {
+            Some(plain) => is_frame(&plain, frame.kind, frame.body.bytes()),
+            None => false,
+        },
+    )
 }
 
 fn is_answer(frame: &Frame, gets: Gets) -> bool {
     match gets {
         Gets::Refused => is_frame(frame, FrameKind::Error, b"E_BAD_BODY bad JSON"),
         Gets::Json(_, text) => is_frame(frame, FrameKind::Response, text),
-        Gets::Nothing => is_frame(frame, FrameKind::Response, b"OK"),
-        Gets::Texts(_, _, _) => is_frame(frame, FrameKind::Response, b"OK"),
-        Gets::Beats(_) => is_frame(frame, FrameKind::Response, b"OK"),
-        Gets::Waits(_) => is_frame(frame, FrameKind::Response, b"OK"),
+        _ => is_frame(frame, FrameKind::Response, b"OK"),
     }
 }
 
 fn is_frame(frame: &Frame, kind: FrameKind, text: &[u8]) -> bool {
-    frame.kind == kind && frame.body.bytes() == text
+    frame.kind == kind && same(frame.body.bytes(), text)
 }
 
 fn is_read(found: &Option<Identity>, gets: Gets) -> bool {
     match found {
-        None => is_refused(gets),
+        None => matches!(gets, Gets::Refused),
         Some(identity) => is_said(identity, gets),
     }
 }
 
-fn is_refused(gets: Gets) -> bool {
-    matches!(gets, Gets::Refused)
-}
+// Texts of which none is said.
+const NO_TEXTS: [&'static [u8]; 3] = [b"", b"", b""];
 
 fn is_said(identity: &Identity, gets: Gets) -> bool {
+    let beat = Some(30 * SECOND);
+    let wait = 60 * SECOND;
     match gets {
         Gets::Refused => false,
-        Gets::Nothing => {
-            has_texts(identity, b"", b"", b"")
-                && has_times(identity, Some(30 * SECOND), 60 * SECOND)
-                && !identity.negotiates
-        }
+        Gets::Nothing => says(identity, NO_TEXTS, beat, wait, false),
         Gets::Texts(client, host, agent) => {
-            has_texts(identity, client, host, agent)
-                && has_times(identity, Some(30 * SECOND), 60 * SECOND)
-                && !identity.negotiates
+            says(identity, [client, host, agent], beat, wait, false)
         }
-        Gets::Beats(heartbeat) => {
-            has_texts(identity, b"", b"", b"")
-                && has_times(identity, heartbeat, 60 * SECOND)
-                && !identity.negotiates
-        }
-        Gets::Waits(timeout) => {
-            has_texts(identity, b"", b"", b"")
-                && has_times(identity, Some(30 * SECOND), timeout)
-                && !identity.negotiates
-        }
-        Gets::Json(timeout, _) => {
-            has_texts(identity, b"", b"", b"")
-                && has_times(identity, Some(30 * SECOND), timeout)
-                && identity.negotiates
-        }
+        Gets::Beats(heartbeat) => says(identity, NO_TEXTS, heartbeat, wait, false),
+        Gets::Waits(timeout) => says(identity, NO_TEXTS, beat, timeout, false),
+        Gets::Json(timeout, _) => says(identity, NO_TEXTS, beat, timeout, true),
     }
 }
 
-fn has_texts(identity: &Identity, client: &[u8], host: &[u8], agent: &[u8]) -> bool {
-    identity.client_id.bytes() == client
-        && identity.hostname.bytes() == host
-        && identity.user_agent.bytes() == agent
-}
-
-fn has_times(identity: &Identity, heartbeat: Option<u64>, timeout: u64) -> bool {
-    identity.heartbeat == heartbeat && identity.timeout == timeout
+// Whether an identity says this: client, host and agent, its heartbeat, its time for a message, and whether it negotiates.
+fn says(
+    identity: &Identity,
+    texts: [&'static [u8]; 3],
+    heartbeat: Option<u64>,
+    timeout: u64,
+    negotiates: bool,
+) -> bool {
+    same(identity.client_id.bytes(), texts[0])
+        && same(identity.hostname.bytes(), texts[1])
+        && same(identity.user_agent.bytes(), texts[2])
+        && identity.heartbeat == heartbeat
+        && identity.timeout == timeout
+        && identity.negotiates == negotiates
 }

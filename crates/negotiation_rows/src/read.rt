@@ -1,8 +1,10 @@
 //! Bodies that are accepted, and what they are answered.
 
 use crate::held::{Gets, Row, SECOND, holds, is_got};
+use crate::shapes::SHAPES;
 use nsq_base::{Memory, Options};
 use std::alloc::Global;
+use std::test::Fail;
 
 // Bodies that say what they say, at the ends of the ranges, and bodies that say nothing.
 const SAID: [Row; 21] = [
@@ -124,9 +126,11 @@ const ANSWERED: [Row; 4] = [
     },
 ];
 
+// The tables with the default options.
+static TABLES: [&'static [Row]; 3] = [&SAID, &ANSWERED, &SHAPES];
+
 // With other options: the longest heartbeat interval and time for a message, and the time for a message where none is said, in
 // nanoseconds.
-#[derive(Clone, Copy)]
 struct Other {
     longest_beat: u64,
     longest_wait: u64,
@@ -135,7 +139,7 @@ struct Other {
     gets: Gets,
 }
 
-const OTHERS: [Other; 8] = [
+static OTHERS: [Other; 8] = [
     Other {
         longest_beat: 10 * SECOND,
         longest_wait: 900 * SECOND,
@@ -206,25 +210,18 @@ fn holds_other(alloc: Global, row: &Other) -> Result<bool, Memory> {
 }
 
 #[test]
-fn said(rt: HostRuntime) -> Result<(), Memory> {
-    for row in &SAID {
-        let holds = holds(rt.alloc(), row)?;
-        assert!(rt; holds, "{}", row.body);
+fn rows(rt: HostRuntime) -> Result<(), Fail> {
+    for table in TABLES {
+        for row in table {
+            let holds = holds(rt.alloc(), row.body, row.gets)?;
+            assert!(rt; holds, "{}", row.body);
+        }
     }
     Ok(())
 }
 
 #[test]
-fn answered(rt: HostRuntime) -> Result<(), Memory> {
-    for row in &ANSWERED {
-        let holds = holds(rt.alloc(), row)?;
-        assert!(rt; holds, "{}", row.body);
-    }
-    Ok(())
-}
-
-#[test]
-fn other_options(rt: HostRuntime) -> Result<(), Memory> {
+fn other_options(rt: HostRuntime) -> Result<(), Fail> {
     for row in &OTHERS {
         let holds = holds_other(rt.alloc(), row)?;
         assert!(rt; holds, "{}", row.body);

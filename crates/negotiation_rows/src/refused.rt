@@ -1,7 +1,7 @@
 //! Members of a wrong kind or out of their range.
 
-use crate::held::{Gets, Row, holds};
-use nsq_base::Memory;
+use crate::held::{Gets, holds};
+use std::test::Fail;
 
 // Texts and truth values of another kind.
 const KINDS: [&'static str; 20] = [
@@ -74,32 +74,16 @@ const NUMBERS: [&'static str; 18] = [
     r#"{"feature_negotiation":true,"sample_rate":100}"#,
 ];
 
-#[test]
-fn kinds(rt: HostRuntime) -> Result<(), Memory> {
-    for body in KINDS {
-        let gets = Gets::Refused;
-        let holds = holds(rt.alloc(), &Row { body, gets })?;
-        assert!(rt; holds, "{}", body);
-    }
-    Ok(())
-}
+// All of them.
+static TABLES: [&'static [&'static str]; 3] = [&KINDS, &TIMES, &NUMBERS];
 
 #[test]
-fn times(rt: HostRuntime) -> Result<(), Memory> {
-    for body in TIMES {
-        let gets = Gets::Refused;
-        let holds = holds(rt.alloc(), &Row { body, gets })?;
-        assert!(rt; holds, "{}", body);
-    }
-    Ok(())
-}
-
-#[test]
-fn numbers(rt: HostRuntime) -> Result<(), Memory> {
-    for body in NUMBERS {
-        let gets = Gets::Refused;
-        let holds = holds(rt.alloc(), &Row { body, gets })?;
-        assert!(rt; holds, "{}", body);
+fn rows(rt: HostRuntime) -> Result<(), Fail> {
+    for table in TABLES {
+        for body in table {
+            let holds = holds(rt.alloc(), body, Gets::Refused)?;
+            assert!(rt; holds, "{}", *body);
+        }
     }
     Ok(())
 }

@@ -1,10 +1,12 @@
 //! Bodies that aren't an object in JSON, members that are unknown, and nesting.
 
-use crate::held::{Gets, Row, holds, is_got};
+use crate::held::{Gets, Row, is_got};
 use nsq_base::{Memory, Options};
 use std::alloc::Global;
+use std::test::Fail;
 
-const SHAPES: [Row; 21] = [
+/// Bodies of any shape.
+pub(crate) const SHAPES: [Row; 21] = [
     Row {
         body: "",
         gets: Gets::Refused,
@@ -91,56 +93,87 @@ const SHAPES: [Row; 21] = [
     },
 ];
 
-// Bytes that aren't UTF-8.
-const BYTES: [&'static [u8]; 3] = [
-    b"{\"client_id\":\"\xff\"}",
-    b"{\"client_id\":\"\xc3\"}",
-    b"{}\xff",
+// A body that is made.
+#[derive(Clone, Copy)]
+enum Made {
+    // These bytes.
+    Bytes(&'static [u8]),
+    // An unknown member with so many lists, one inside the other: with the object itself it nests one deeper.
+    Nested(usize),
+}
+
+// A body that is made, and what it is read as, with the default options.
+struct MadeRow {
+    name: &'static str,
+    made: Made,
+    gets: Gets,
+}
+
+static MADE: [MadeRow; 7] = [
+    MadeRow {
+        name: "a byte that begins nothing",
+        made: Made::Bytes(b"{\"client_id\":\"\xff\"}"),
+        gets: Gets::Refused,
+    },
+    MadeRow {
+        name: "a letter without its end",
+        made: Made::Bytes(b"{\"client_id\":\"\xc3\"}"),
+        gets: Gets::Refused,
+    },
+    MadeRow {
+        name: "a byte behind the object",
+        made: Made::Bytes(b"{}\xff"),
+        gets: Gets::Refused,
+    },
+    MadeRow {
+        name: "125 lists",
+        made: Made::Nested(125),
+        gets: Gets::Nothing,
+    },
+    MadeRow {
+        name: "126 lists",
+        made: Made::Nested(126),
+        gets: Gets::Nothing,
+    },
+    MadeRow {
+        name: "127 lists",
+        made: Made::Nested(127),
+        gets: Gets::Refused,
+    },
+    MadeRow {
+        name: "128 lists",
+        made: Made::Nested(128),
+        gets: Gets::Refused,
+    },
 ];
 
-// An unknown member with so many lists, one inside the other: with the object itself it nests one deeper.
 fn nested(alloc: Global, lists: usize) -> Result<Vec<u8>, Memory> {
     let mut body = Vec::from_slice(alloc, br#"{"unknown":"#)?;
-    for _ in 0..lists {
-        body.push(b'[')?;
-    }
-    for _ in 0..lists {
-        body.push(b']')?;
-    }
+    let open = body.len().saturating_add(lists);
+    body.resize(open, b'[')?;
+    body.resize(open.saturating_add(lists), b']')?;
     body.push(b'}')?;
     Ok(body)
 }
 
-fn nests(alloc: Global, lists: usize, gets: Gets) -> Result<bool, Memory> {
+fn body_of(alloc: Global, made: Made) -> Result<Vec<u8>, Memory> {
+    match made {
+        Made::Bytes(bytes) => Ok(Vec::from_slice(alloc, bytes)?),
+        Made::Nested(lists) => nested(alloc, lists),
+    }
+}
+
+fn holds(alloc: Global, row: &MadeRow) -> Result<bool, Memory> {
     let options = Options::defaults(alloc)?;
-    let body = nested(alloc, lists)?;
-    is_got(alloc, &options, &body, gets)
+    let body = body_of(alloc, row.made)?;
+    is_got(alloc, &options, &body, row.gets)
 }
 
 #[test]
-fn shapes(rt: HostRuntime) -> Result<(), Memory> {
-    for row in &SHAPES {
+fn rows(rt: HostRuntime) -> Result<(), Fail> {
+    for row in &MADE {
         let holds = holds(rt.alloc(), row)?;
-        assert!(rt; holds, "{}", row.body);
+        assert!(rt; holds, "{}", row.name);
     }
-    Ok(())
-}
-
-#[test]
-fn bytes(rt: HostRuntime) -> Result<(), Memory> {
-    let options = Options::defaults(rt.alloc())?;
-    for body in BYTES {
-        let holds = is_got(rt.alloc(), &options, body, Gets::Refused)?;
-        assert!(rt; holds);
-    }
-    Ok(())
-}
-
-#[test]
-fn nesting(rt: HostRuntime) -> Result<(), Memory> {
-    assert!(rt; nests(rt.alloc(), 125, Gets::Nothing)?);
-    assert!(rt; nests(rt.alloc(), 126, Gets::Nothing)?);
-    assert!(rt; nests(rt.alloc(), 127, Gets::Refused)?);
-    assert!(rt; nests(rt.alloc(), 128, Gets::Refused)?);
     Ok(())
 }

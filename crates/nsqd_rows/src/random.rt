@@ -24,7 +24,7 @@ const SEEDS: u64 = 20;
 const CALLERS: usize = 5;
 
 // How a conversation may end where there is memory.
-const ENDINGS: [Ended; 4] = [
+static ENDINGS: [Ended; 4] = [
     Ended::EndOfInput,
     Ended::Closed,
     Ended::ReadFault,

@@ -1,6 +1,6 @@
 //! Words that are made: none at all, and long texts.
 
-use crate::told::told;
+use crate::told::{same, told};
 use nsq_base::Memory;
 use nsqd_words::{Request, read_words};
 use std::alloc::Global;
@@ -8,33 +8,40 @@ use std::alloc::Global;
 // What no words at all ask for, not even the program's name.
 fn nothing(alloc: Global) -> Result<bool, Memory> {
     let text = told(alloc, read_words(alloc, &[])?)?;
-    Ok(text.as_slice() == b"serve".as_slice())
+    Ok(same(&text, b"serve"))
 }
 
-// What a broadcast address of so many bytes asks for.
-fn addressed(alloc: Global, length: usize) -> Result<Request, Memory> {
+// The words of a broadcast address of so many bytes.
+fn push_words(alloc: Global, length: usize, words: &mut Vec<String>) -> Result<(), Memory> {
+    words.push(String::from_str(alloc, "nsqd")?)?;
     let mut word = String::from_str(alloc, "--broadcast-address=")?;
+    push_letters(&mut word, length)?;
+    Ok(words.push(word)?)
+}
+
+fn push_letters(word: &mut String, length: usize) -> Result<(), Memory> {
     for _ in 0..length {
         word.push('a')?;
     }
-    let mut words = Vec::new(alloc);
-    words.push(String::from_str(alloc, "nsqd")?)?;
-    words.push(word)?;
-    read_words(alloc, words.as_slice())
+    Ok(())
 }
 
-fn is_served(request: Request) -> bool {
-    match request {
-        Request::Serve(_options) => true,
-        _ => false,
+// Whether a broadcast address of so many bytes is served.
+fn is_served(alloc: Global, length: usize) -> Result<bool, Memory> {
+    let mut words = Vec::new(alloc);
+    push_words(alloc, length, &mut words)?;
+    match read_words(alloc, words.as_slice())? {
+        Request::Serve(_options) => Ok(true),
+        _ => Ok(false),
     }
 }
 
 // What is made.
 fn is_right(alloc: Global) -> Result<bool, Memory> {
-    let fits = is_served(addressed(alloc, 65_536)?);
-    let is_too_long = !is_served(addressed(alloc, 65_537)?);
-    Ok(nothing(alloc)? && fits && is_too_long)
+    let nothing = nothing(alloc)?;
+    let fits = is_served(alloc, 65_536)?;
+    let is_too_long = !is_served(alloc, 65_537)?;
+    Ok(nothing && fits && is_too_long)
 }
 
 #[test]

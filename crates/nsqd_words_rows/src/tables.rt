@@ -1,9 +1,8 @@
 //! All tables together.
 
-use crate::held::wrong_row;
+use crate::held::holds;
 use crate::{drills, durations, numbers, others, texts};
-use nsq_base::Memory;
-use std::alloc::Global;
+use std::test::Fail;
 
 // The tables.
 static TABLES: [&'static str; 15] = [
@@ -24,20 +23,13 @@ static TABLES: [&'static str; 15] = [
     others::WRONG,
 ];
 
-// The first row of a table that doesn't hold.
-fn wrong(alloc: Global) -> Result<Option<&'static str>, Memory> {
-    for table in TABLES {
-        let wrong = wrong_row(alloc, table)?;
-        if wrong.is_some() {
-            return Ok(wrong);
+#[test]
+fn rows(rt: HostRuntime) -> Result<(), Fail> {
+    for table in &TABLES {
+        for row in table.lines() {
+            let holds = holds(rt.alloc(), row)?;
+            assert!(rt; holds, "{}", row);
         }
     }
-    Ok(None)
-}
-
-#[test]
-fn rows(rt: HostRuntime) -> Result<(), Memory> {
-    let wrong = wrong(rt.alloc())?;
-    assert!(rt; wrong.is_none(), "{}", wrong.unwrap_or(""));
     Ok(())
 }

@@ -28,46 +28,38 @@ fn drill(alloc: Global, seed: u64, count: u64) -> Result<Vec<u8>, Memory> {
     Ok(text)
 }
 
-// Help has to speak of each option, and of the flag.
+// What help has to speak of: each option, and the flag.
+static NAMED: [&'static str; 17] = [
+    "Usage: nsqd",
+    "--mem-queue-size",
+    "--max-bytes-per-file",
+    "--sync-every",
+    "--max-msg-size",
+    "--max-body-size",
+    "--max-rdy-count",
+    "--sync-timeout",
+    "--msg-timeout",
+    "--max-msg-timeout",
+    "--max-req-timeout",
+    "--max-heartbeat-interval",
+    "--tcp-address",
+    "--http-address",
+    "--broadcast-address",
+    "--data-path",
+    "--http-stop",
+];
+
 fn help(alloc: Global, text: &str) -> Result<Vec<u8>, Memory> {
-    if text.contains("Usage: nsqd")
-        && names_sizes(text)
-        && names_times(text)
-        && names_texts(text)
-        && text.contains("--http-stop")
-    {
-        word(alloc, "help")
-    } else {
-        word(alloc, "another help")
+    for name in &NAMED {
+        if !text.contains(*name) {
+            return word(alloc, "another help");
+        }
     }
-}
-
-fn names_texts(text: &str) -> bool {
-    text.contains("--tcp-address")
-        && text.contains("--http-address")
-        && text.contains("--broadcast-address")
-        && text.contains("--data-path")
-}
-
-fn names_sizes(text: &str) -> bool {
-    text.contains("--mem-queue-size")
-        && text.contains("--max-bytes-per-file")
-        && text.contains("--sync-every")
-        && text.contains("--max-msg-size")
-        && text.contains("--max-body-size")
-        && text.contains("--max-rdy-count")
-}
-
-fn names_times(text: &str) -> bool {
-    text.contains("--sync-timeout")
-        && text.contains("--msg-timeout")
-        && text.contains("--max-msg-timeout")
-        && text.contains("--max-req-timeout")
-        && text.contains("--max-heartbeat-interval")
+    word(alloc, "help")
 }
 
 fn version(alloc: Global, text: &str) -> Result<Vec<u8>, Memory> {
-    if text == "nsqd 1.0.0\n" {
+    if same(text.as_bytes(), b"nsqd 1.0.0\n") {
         word(alloc, "version")
     } else {
         word(alloc, "another version")
@@ -83,108 +75,49 @@ fn serve(alloc: Global, options: &Options) -> Result<Vec<u8>, Memory> {
 
 fn append_options(text: &mut Vec<u8>, options: &Options, defaults: &Options) -> Result<(), Memory> {
     append_texts(text, options, defaults)?;
-    append_sizes(text, options, defaults)?;
-    append_times(text, options, defaults)?;
+    append_numbers(text, options, defaults)?;
     append_rest(text, options, defaults)
 }
 
 fn append_texts(text: &mut Vec<u8>, options: &Options, defaults: &Options) -> Result<(), Memory> {
-    append_text(
-        text,
-        " tcp-address=",
-        options.tcp_address.bytes(),
-        defaults.tcp_address.bytes(),
-    )?;
-    append_text(
-        text,
-        " http-address=",
-        options.http_address.bytes(),
-        defaults.http_address.bytes(),
-    )?;
-    append_text(
-        text,
-        " broadcast-address=",
-        options.broadcast_address.bytes(),
-        defaults.broadcast_address.bytes(),
-    )?;
-    append_text(
-        text,
-        " data-path=",
-        options.data_path.bytes(),
-        defaults.data_path.bytes(),
-    )
+    let defaults = texts_of(defaults);
+    for (place, (name, value)) in texts_of(options).iter().enumerate() {
+        append_text(text, name, value, defaults[place].1)?;
+    }
+    Ok(())
 }
 
-fn append_sizes(text: &mut Vec<u8>, options: &Options, defaults: &Options) -> Result<(), Memory> {
-    append_other(
-        text,
-        " mem-queue-size=",
-        options.mem_queue_size,
-        defaults.mem_queue_size,
-    )?;
-    append_other(
-        text,
-        " max-bytes-per-file=",
-        options.max_bytes_per_file,
-        defaults.max_bytes_per_file,
-    )?;
-    append_other(
-        text,
-        " sync-every=",
-        options.sync_every,
-        defaults.sync_every,
-    )?;
-    append_other(
-        text,
-        " max-msg-size=",
-        u64::from(options.max_msg_size),
-        u64::from(defaults.max_msg_size),
-    )?;
-    append_other(
-        text,
-        " max-body-size=",
-        u64::from(options.max_body_size),
-        u64::from(defaults.max_body_size),
-    )?;
-    append_other(
-        text,
-        " max-rdy-count=",
-        u64::from(options.max_rdy_count),
-        u64::from(defaults.max_rdy_count),
-    )
+fn texts_of(options: &Options) -> [(&'static str, &[u8]); 4] {
+    [
+        (" tcp-address=", options.tcp_address.bytes()),
+        (" http-address=", options.http_address.bytes()),
+        (" broadcast-address=", options.broadcast_address.bytes()),
+        (" data-path=", options.data_path.bytes()),
+    ]
 }
 
-fn append_times(text: &mut Vec<u8>, options: &Options, defaults: &Options) -> Result<(), Memory> {
-    append_other(
-        text,
-        " sync-timeout=",
-        options.sync_timeout,
-        defaults.sync_timeout,
-    )?;
-    append_other(
-        text,
-        " msg-timeout=",
-        options.msg_timeout,
-        defaults.msg_timeout,
-    )?;
-    append_other(
-        text,
-        " max-msg-timeout=",
-        options.max_msg_timeout,
-        defaults.max_msg_timeout,
-    )?;
-    append_other(
-        text,
-        " max-req-timeout=",
-        options.max_req_timeout,
-        defaults.max_req_timeout,
-    )?;
-    append_other(
-        text,
-        " max-heartbeat-interval=",
-        options.max_heartbeat_interval,
-        defaults.max_heartbeat_interval,
-    )
+fn append_numbers(text: &mut Vec<u8>, options: &Options, defaults: &Options) -> Result<(), Memory> {
+    let defaults = numbers_of(defaults);
+    for (place, (name, value)) in numbers_of(options).iter().enumerate() {
+        append_other(text, name, *value, defaults[place].1)?;
+    }
+    Ok(())
+}
+
+fn numbers_of(options: &Options) -> [(&'static str, u64); 11] {
+    [
+        (" mem-queue-size=", options.mem_queue_size),
+        (" max-bytes-per-file=", options.max_bytes_per_file),
+        (" sync-every=", options.sync_every),
+        (" max-msg-size=", u64::from(options.max_msg_size)),
+        (" max-body-size=", u64::from(options.max_body_size)),
+        (" max-rdy-count=", u64::from(options.max_rdy_count)),
+        (" sync-timeout=", options.sync_timeout),
+        (" msg-timeout=", options.msg_timeout),
+        (" max-msg-timeout=", options.max_msg_timeout),
+        (" max-req-timeout=", options.max_req_timeout),
+        (" max-heartbeat-interval=", options.max_heartbeat_interval),
+    ]
 }
 
 // The flag, and what no word says yet.
@@ -199,11 +132,21 @@ fn append_rest(text: &mut Vec<u8>, options: &Options, defaults: &Options) -> Res
 }
 
 fn append_text(text: &mut Vec<u8>, name: &str, value: &[u8], default: &[u8]) -> Result<(), Memory> {
-    if value != default {
-        text.extend_from_slice(name.as_bytes())?;
-        text.extend_from_slice(value)?;
+    if same(value, default) {
+        return Ok(());
     }
+    append_both(text, name, value)
+}
+
+fn append_both(text: &mut Vec<u8>, name: &str, value: &[u8]) -> Result<(), Memory> {
+    text.extend_from_slice(name.as_bytes())?;
+    text.extend_from_slice(value)?;
     Ok(())
+}
+
+/// Whether these are the same bytes.
+pub fn same(one: &[u8], other: &[u8]) -> bool {
+    one == other
 }
 
 fn append_other(text: &mut Vec<u8>, name: &str, value: u64, default: u64) -> Result<(), Memory> {
@@ -215,7 +158,5 @@ fn append_other(text: &mut Vec<u8>, name: &str, value: u64, default: u64) -> Res
 
 fn append_number(text: &mut Vec<u8>, name: &str, value: u64) -> Result<(), Memory> {
     let mut digits = Buffer::new();
-    text.extend_from_slice(name.as_bytes())?;
-    text.extend_from_slice(digits.format(value).as_bytes())?;
-    Ok(())
+    append_both(text, name, digits.format(value).as_bytes())
 }

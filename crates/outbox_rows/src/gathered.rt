@@ -107,7 +107,7 @@ struct Row {
     trace: Runs,
 }
 
-const ROWS: [Row; 8] = [
+static ROWS: [Row; 8] = [
     Row {
         name: "the pushes of a full round leave together",
         pieces: &[&[(b"  V2NOP\n", 1)]],

@@ -1,5 +1,6 @@
 //! Folders, and what an opening finds in each.
 
+use crate::names::same;
 use nsq_base::{Body, Memory};
 use path_plain::{Finding, FoundChannel, FoundNames, FoundTopic, found};
 use queue_plain::NamedFile;
@@ -69,7 +70,7 @@ const NAMES: &[u8] =
 /// The topic `t` with the channel `c`.
 const CHANNEL: &[u8] = br#"{"topics":[{"name":"t","channels":[{"name":"c"}]}]}"#;
 
-const ROWS: &[Row] = &[
+static ROWS: [Row; 12] = [
     Row {
         name: "no file",
         files: &[],
@@ -188,43 +189,55 @@ const ROWS: &[Row] = &[
     },
 ];
 
-/// The files of a folder.
-fn files_of(alloc: Global, files: &[(&[u8], &[u8])]) -> Result<Vec<NamedFile>, Memory> {
-    let mut named = Vec::new(alloc);
+/// A file of a folder.
+fn file_of(alloc: Global, name: &[u8], bytes: &[u8]) -> Result<NamedFile, Memory> {
+    let name = Body::copy(alloc, name)?;
+    let bytes = Body::copy(alloc, bytes)?;
+    Ok(NamedFile { name, bytes })
+}
+
+/// Appends the files of a folder.
+fn push_files(
+    alloc: Global,
+    files: &[(&[u8], &[u8])],
+    named: &mut Vec<NamedFile>,
+) -> Result<(), Memory> {
     for (name, bytes) in files {
-        let name = Body::copy(alloc, name)?;
-        let bytes = Body::copy(alloc, bytes)?;
-        named.push(NamedFile { name, bytes })?;
+        named.push(file_of(alloc, name, bytes)?)?;
     }
-    Ok(named)
+    Ok(())
 }
 
 /// Whether it is this message.
 fn is_sent(message: &Message, sent: &Sent) -> bool {
     message.stamp == sent.stamp
         && message.attempts == sent.attempts
-        && message.id.bytes() == sent.id
-        && message.body.bytes() == sent.body
+        && same(message.id.bytes(), sent.id)
+        && same(message.body.bytes(), sent.body)
         && message.delay == 0
 }
 
 /// Whether these messages are found.
 fn are_sent(messages: &[Message], sent: &[Sent]) -> bool {
-    for (message, sent) in messages.iter().zip(sent) {
-        if !is_sent(message, sent) {
+    for (place, sent) in sent.iter().enumerate() {
+        if place >= messages.len() || !is_sent(&messages[place], sent) {
             return false;
         }
     }
     messages.len() == sent.len()
 }
 
+/// Whether it is this channel.
+fn is_channel(found: &FoundChannel, channel: &Channel) -> bool {
+    same(found.name.bytes(), channel.name)
+        && found.paused == channel.paused
+        && are_sent(&found.messages, channel.messages)
+}
+
 /// Whether these channels are found.
 fn shows_channels(found: &[FoundChannel], channels: &[Channel]) -> bool {
-    for (found, channel) in found.iter().zip(channels) {
-        if found.name.bytes() != channel.name || found.paused != channel.paused {
-            return false;
-        }
-        if !are_sent(&found.messages, channel.messages) {
+    for (place, channel) in channels.iter().enumerate() {
+        if place >= found.len() || !is_channel(&found[place], channel) {
             return false;
         }
     }
@@ -233,7 +246,7 @@ fn shows_channels(found: &[FoundChannel], channels: &[Channel]) -> bool {
 
 /// Whether it is this topic.
 fn is_listed(found: &FoundTopic, listed: &Listed) -> bool {
-    found.name.bytes() == listed.name
+    same(found.name.bytes(), listed.name)
         && found.paused == listed.paused
         && are_sent(&found.messages, listed.messages)
         && shows_channels(&found.channels, listed.channels)
@@ -241,27 +254,36 @@ fn is_listed(found: &FoundTopic, listed: &Listed) -> bool {
 
 /// Whether this epoch and these topics are found.
 fn shows(names: &FoundNames, epoch: u32, topics: &[Listed]) -> bool {
-    for (found, listed) in names.topics.iter().zip(topics) {
-        if !is_listed(found, listed) {
+    for (place, listed) in topics.iter().enumerate() {
+        if place >= names.topics.len() || !is_listed(&names.topics[place], listed) {
             return false;
         }
     }
     names.epoch == epoch && names.topics.len() == topics.len()
 }
 
+/// Whether this is found.
+fn is_found(finding: &Finding, shown: &Shown) -> bool {
+    match shown {
+        Shown::BadData => matches!(finding, Finding::BadData),
+        Shown::EpochSpent => matches!(finding, Finding::EpochSpent),
+        Shown::Names(epoch, topics) => match finding {
+            Finding::Names(names) => shows(names, *epoch, topics),
+            _ => false,
+        },
+    }
+}
+
 fn holds(alloc: Global, row: &Row) -> Result<bool, Memory> {
-    let files = files_of(alloc, row.files)?;
-    Ok(match (found(alloc, &files)?, &row.found) {
-        (Finding::BadData, Shown::BadData) => true,
-        (Finding::EpochSpent, Shown::EpochSpent) => true,
-        (Finding::Names(names), Shown::Names(epoch, topics)) => shows(&names, *epoch, topics),
-        _ => false,
-    })
+    let mut files = Vec::new(alloc);
+    push_files(alloc, row.files, &mut files)?;
+    let finding = found(alloc, &files)?;
+    Ok(is_found(&finding, &row.found))
 }
 
 #[test]
 fn rows(rt: HostRuntime) -> Result<(), Fail> {
-    for row in ROWS {
+    for row in &ROWS {
         let holds = holds(rt.alloc(), row)?;
         assert!(rt; holds, "{}", row.name);
     }

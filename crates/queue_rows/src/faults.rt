@@ -37,7 +37,7 @@ enum Move {
     Count,
 }
 
-const TRIALS: [Trial; 4] = [
+static TRIALS: [Trial; 4] = [
     Trial {
         name: "writing",
         moves: &[

@@ -26,7 +26,7 @@ struct Finding {
     bad: &'static [u64],
 }
 
-const FINDINGS: [Finding; 7] = [
+static FINDINGS: [Finding; 7] = [
     Finding {
         name: "three records in two files",
         files: &[
@@ -202,7 +202,7 @@ struct Splitting {
     damage: Option<(usize, u32)>,
 }
 
-const SPLITTINGS: [Splitting; 2] = [
+static SPLITTINGS: [Splitting; 2] = [
     Splitting {
         name: "a size below the least",
         bytes: b"\0\0\0\x28aaaaaaaaaaaaaaaaaaaaaaaaaaaaaaaaaaaaaaaa\0\0\0\x19bbbbbbbbbbbbbbbbbbbbbbbbb",
@@ -236,7 +236,7 @@ struct Meta {
     end: Option<u64>,
 }
 
-const METAS: [Meta; 13] = [
+static METAS: [Meta; 13] = [
     Meta {
         name: "metadata",
         text: b"3\n0,0\n0,93\n",
@@ -334,7 +334,7 @@ struct Naming {
     of: Named,
 }
 
-const NAMINGS: [Naming; 6] = [
+static NAMINGS: [Naming; 6] = [
     Naming {
         is: "t.diskqueue.000000.dat",
         of: Named::Data("t", 0),
@@ -379,7 +379,7 @@ struct Numbering {
     number: Option<u64>,
 }
 
-const NUMBERINGS: [Numbering; 5] = [
+static NUMBERINGS: [Numbering; 5] = [
     Numbering {
         file: "t.diskqueue.000012.dat",
         number: Some(12),

@@ -52,7 +52,7 @@ const DAMAGED: [File; 8] = [
     },
 ];
 
-const ROWS: [Script; 8] = [
+static ROWS: [Script; 8] = [
     Script {
         name: "the depth is not trusted",
         queue: "q",
@@ -250,7 +250,7 @@ struct Meta {
     answer: Option<Open>,
 }
 
-const METAS: [Meta; 14] = [
+static METAS: [Meta; 14] = [
     Meta {
         name: "nothing",
         text: b"",
@@ -337,7 +337,7 @@ fn answers(alloc: Global, row: &Meta) -> Result<bool, Memory> {
 }
 
 // The records of the good ones between the positions.
-const LEFT: [&[u8]; 2] = [b"a", b"bc"];
+static LEFT: [&[u8]; 2] = [b"a", b"bc"];
 
 // Whether the plain program finds these before and after an opening of the damaged files in which one call fails, and after one behind
 // it that opens them.

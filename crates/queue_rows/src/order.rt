@@ -70,7 +70,7 @@ struct Row {
     calls: &'static [Call],
 }
 
-const ROWS: [Row; 17] = [
+static ROWS: [Row; 17] = [
     Row {
         script: Script {
             name: "the first record: its file is cut where writing begins",

@@ -6,7 +6,7 @@ use queue_plain::{Found, NamedFile, found_queue};
 use std::alloc::Global;
 
 // The files of the queue that the plain program is given: the metadata, and the data files with the numbers 0 to 4.
-const FILES: [&str; 6] = [
+static FILES: [&str; 6] = [
     "q.diskqueue.meta.dat",
     "q.diskqueue.000000.dat",
     "q.diskqueue.000001.dat",

@@ -5,7 +5,7 @@ use disk_queue::{Emptied, Peek, Put, Sync, Take};
 use nsq_fakes::{Failing, FolderCall};
 use std::test::Fail;
 
-const ROWS: [Script; 6] = [
+static ROWS: [Script; 6] = [
     Script {
         name: "three are taken",
         queue: "q",

@@ -66,7 +66,7 @@ enum Fate {
     Other,
 }
 
-const ROWS: [Script; 9] = [
+static ROWS: [Script; 9] = [
     Script {
         name: "the ring comes before the disk",
         backlog: "q",

@@ -14,7 +14,7 @@ const WIDE: QueueOptions = QueueOptions {
     limit: 6000,
 };
 
-const ROWS: [Script; 13] = [
+static ROWS: [Script; 13] = [
     Script {
         name: "three records in two files",
         queue: "q",

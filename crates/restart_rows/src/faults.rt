@@ -37,7 +37,7 @@ const UNLISTED: &str = "a.diskqueue.000000.dat";
 
 // The turns that fill a topic, whose name stands at the @: one message waits in it; of the channel a two copies are in flight, one is queued and one
 // deferred, and of b three are queued and one is deferred. Behind a 1 stands what the topic's client does.
-const TURNS: [&str; 12] = [
+static TURNS: [&str; 12] = [
     "0 create @",
     "0 create @ a",
     "0 create @ b",

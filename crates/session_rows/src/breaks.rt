@@ -1,5 +1,5 @@
 //! Conversations that are broken off at each place: by each answer that ends one, by a stop, by reads and writes that fail.
-use crate::served::{Setting, Wanted, first, frame, frames, goes, plain};
+use crate::served::{Setting, Wanted, append_frame, first, frames, goes, length_of, plain};
 use nsq_base::Memory;
 use session_scripts::{Runs, spread, spread_all};
 use std::alloc::Global;
@@ -16,7 +16,7 @@ struct Talk {
     ended: Ended,
 }
 
-const TALKS: [Talk; 9] = [
+static TALKS: [Talk; 9] = [
     Talk {
         name: "a subscription",
         pieces: &[
@@ -111,7 +111,7 @@ struct Break {
     ended: Ended,
 }
 
-const BREAKS: [Break; 11] = [
+static BREAKS: [Break; 11] = [
     Break {
         name: "too long a silence",
         cause: Cause::Answer(b'l', b"n"),
@@ -177,7 +177,7 @@ struct Going {
     closed: Ended,
 }
 
-const GOINGS: [Going; 3] = [
+static GOINGS: [Going; 3] = [
     Going {
         name: "its Gone is noted",
         answer: b'g',
@@ -226,14 +226,31 @@ struct Broken {
 /// Lays a conversation out where each write takes at most so many bytes.
 fn lay_out(alloc: Global, talk: &Talk, takes: usize) -> Result<Laid, Memory> {
     let script = spread(alloc, talk.script)?;
+    let written = frames(alloc, &script)?;
+    let trace = spread(alloc, talk.trace)?;
     let mut events = Vec::new(alloc);
+    push_events(&mut events, &script, &trace, takes)?;
+    Ok(Laid {
+        script,
+        written,
+        events,
+    })
+}
+
+/// The events of these turns, reads and writes.
+fn push_events(
+    events: &mut Vec<Event>,
+    script: &[u8],
+    trace: &[u8],
+    takes: usize,
+) -> Result<(), Memory> {
     let mut turns = 0usize;
     let mut written = 0usize;
-    for letter in &spread(alloc, talk.trace)? {
+    for letter in trace {
         if *letter == b'w' {
-            let frame = frame(alloc, last(first(&script, turns)), 0)?;
-            push_writes(&mut events, turns, written, &frame, takes)?;
-            written = written.saturating_add(frame.len());
+            let length = length_of(last(first(script, turns)));
+            push_writes(events, turns, written, length, takes)?;
+            written = written.saturating_add(length);
         } else {
             turns = turns.saturating_add(usize::from(*letter != b'r'));
             events.push(Event {
@@ -243,29 +260,26 @@ fn lay_out(alloc: Global, talk: &Talk, takes: usize) -> Result<Laid, Memory> {
             })?;
         }
     }
-    Ok(Laid {
-        written: frames(alloc, &script)?,
-        script,
-        events,
-    })
+    Ok(())
 }
 
-/// The writes of a frame.
+/// The writes of a frame of so many bytes.
 fn push_writes(
     events: &mut Vec<Event>,
     turns: usize,
     written: usize,
-    frame: &[u8],
+    length: usize,
     takes: usize,
 ) -> Result<(), Memory> {
-    let mut written = written;
-    for part in frame.chunks(takes.max(1)) {
-        events.push(Event {
-            letter: b'w',
-            turns,
-            written,
-        })?;
-        written = written.saturating_add(part.len());
+    let takes = takes.max(1);
+    for place in 0..length {
+        if place % takes == 0 {
+            events.push(Event {
+                letter: b'w',
+                turns,
+                written: written.saturating_add(place),
+            })?;
+        }
     }
     Ok(())
 }
@@ -289,10 +303,15 @@ fn count_of(events: &[Event], at: usize, letter: u8) -> usize {
 fn letters_to(alloc: Global, events: &[Event], at: usize) -> Result<Vec<u8>, Memory> {
     let (before, _) = events.split_at(at.saturating_add(1).min(events.len()));
     let mut letters = Vec::new(alloc);
-    for event in before {
+    push_letters(&mut letters, before)?;
+    Ok(letters)
+}
+
+fn push_letters(letters: &mut Vec<u8>, events: &[Event]) -> Result<(), Memory> {
+    for event in events {
         letters.push(event.letter)?;
     }
-    Ok(letters)
+    Ok(())
 }
 
 /// A conversation up to this event, which is its last.
@@ -303,30 +322,38 @@ fn broken_at(
     at: usize,
     event: Event,
 ) -> Result<Broken, Memory> {
+    let pieces = spread_all(alloc, talk.pieces)?;
+    let script = first(&laid.script, event.turns).to_vec(alloc)?;
+    let written = first(&laid.written, event.written).to_vec(alloc)?;
+    let trace = letters_to(alloc, &laid.events, at)?;
     Ok(Broken {
-        setting: plain(
-            alloc,
-            spread_all(alloc, talk.pieces)?,
-            first(&laid.script, event.turns).to_vec(alloc)?,
-        ),
+        setting: plain(alloc, pieces, script),
         wanted: Wanted {
             ended: talk.ended,
             wanted: 0,
-            written: first(&laid.written, event.written).to_vec(alloc)?,
-            trace: letters_to(alloc, &laid.events, at)?,
+            written,
+            trace,
         },
     })
 }
 
 /// The last turn gets this answer, and its frame is written.
-fn answer(alloc: Global, broken: &mut Broken, letter: u8) -> Result<(), Memory> {
+fn answer(broken: &mut Broken, letter: u8) -> Result<(), Memory> {
     let _ = broken.setting.script.pop();
     broken.setting.script.push(letter)?;
-    let frame = frame(alloc, letter, 0)?;
-    if !frame.is_empty() {
+    if length_of(letter) > 0 {
         broken.wanted.trace.push(b'w')?;
     }
-    broken.wanted.written.extend_from_slice(&frame)?;
+    append_frame(&mut broken.wanted.written, letter, 0)
+}
+
+/// The write of this number fails, where each takes so many bytes.
+fn fail_write(broken: &mut Broken, takes: usize, number: u64) -> Result<(), Memory> {
+    broken.setting.takes = takes;
+    broken.setting.writes.push(number)?;
+    if last(&broken.setting.script) == b'-' {
+        broken.wanted.ended = Ended::Memory;
+    }
     Ok(())
 }
 
@@ -352,6 +379,18 @@ fn seen_from(events: &[Event], at: usize) -> Option<(usize, Event)> {
     None
 }
 
+/// Breaks a conversation off at its last event, the one of this number that has its letter, and says whether it can be.
+fn breaks(broken: &mut Broken, event: Event, number: usize, cause: Cause) -> Result<bool, Memory> {
+    match cause {
+        Cause::Answer(letter, turns) if turns.contains(&event.letter) => answer(broken, letter)?,
+        Cause::Read if event.letter == b'r' => broken.setting.reads.push(number as u64)?,
+        Cause::End if event.letter == b'r' => broken.setting.pieces.truncate(number),
+        Cause::Write(takes) if event.letter == b'w' => fail_write(broken, takes, number as u64)?,
+        _ => return Ok(false),
+    }
+    Ok(true)
+}
+
 /// Breaks a conversation off at an event, if that is one at which it can be.
 fn break_at(
     alloc: Global,
@@ -366,22 +405,11 @@ fn break_at(
     let mut broken = broken_at(alloc, talk, laid, at, event)?;
     broken.wanted.ended = one.ended;
     let number = count_of(&laid.events, at, event.letter);
-    match one.cause {
-        Cause::Answer(letter, turns) if turns.contains(&event.letter) => {
-            answer(alloc, &mut broken, letter)?;
-        }
-        Cause::Read if event.letter == b'r' => broken.setting.reads.push(number as u64)?,
-        Cause::End if event.letter == b'r' => broken.setting.pieces.truncate(number),
-        Cause::Write(takes) if event.letter == b'w' => {
-            broken.setting.takes = takes;
-            broken.setting.writes.push(number as u64)?;
-            if last(&broken.setting.script) == b'-' {
-                broken.wanted.ended = Ended::Memory;
-            }
-        }
-        _ => return Ok(None),
+    if breaks(&mut broken, event, number, one.cause)? {
+        Ok(Some(broken))
+    } else {
+        Ok(None)
     }
-    Ok(Some(broken))
 }
 
 /// Breaks a conversation off by a stop before this event, if it is a turn.
@@ -436,7 +464,7 @@ fn holds<R: Wait>(
     let Some(mut broken) = broken else {
         return Ok(true);
     };
-    if broken.setting.script.first() == Some(&b'b') {
+    if matches!(broken.setting.script.first(), Some(b'b')) {
         go(&mut broken, going)?;
     }
     goes(rt, alloc, broken.setting, &broken.wanted)
@@ -454,9 +482,20 @@ fn wrong<R: Wait>(
         _ => usize::MAX,
     };
     let laid = lay_out(alloc, talk, takes)?;
+    wrong_at(rt, alloc, talk, &laid, one)
+}
+
+/// The same, of a conversation that is laid out.
+fn wrong_at<R: Wait>(
+    rt: &R,
+    alloc: Global,
+    talk: &Talk,
+    laid: &Laid,
+    one: &Break,
+) -> Result<Option<(usize, &'static str)>, Memory> {
     for at in 0..laid.events.len() {
         for going in &GOINGS {
-            if !holds(rt, alloc, talk, &laid, at, one, going)? {
+            if !holds(rt, alloc, talk, laid, at, one, going)? {
                 return Ok(Some((at, going.name)));
             }
         }
@@ -469,7 +508,15 @@ fn rows(rt: HostRuntime) -> Result<(), Fail> {
     for talk in &TALKS {
         for one in &BREAKS {
             let wrong = wrong(&rt, rt.alloc(), talk, one)?;
-            assert!(rt; wrong.is_none(), "{}, {}: {:?}", talk.name, one.name, wrong);
+            let (at, going) = wrong.unwrap_or((0, ""));
+            assert!(rt;
+                wrong.is_none(),
+                "{}, {}: {}, {}",
+                talk.name,
+                one.name,
+                at,
+                going
+            );
         }
     }
     Ok(())

@@ -1,5 +1,5 @@
 //! Every command, cut into pieces at every place, with pushes between the pieces.
-use crate::served::{Wanted, frame, goes, plain, serve};
+use crate::served::{Wanted, append_frame, goes, length_of, plain, same, serve};
 use nsq_base::Memory;
 use std::alloc::Global;
 use std::sync::Wait;
@@ -17,7 +17,7 @@ struct Row {
 
 const MAGIC: &[u8] = b"  V2";
 
-const ROWS: [Row; 11] = [
+static ROWS: [Row; 11] = [
     Row {
         name: "IDENTIFY",
         first: b"IDENTIFY\n\0\0\0\x02{}",
@@ -124,22 +124,44 @@ impl Made {
         self.pieces.push(piece.to_vec(alloc)?)?;
         self.script.extend_from_slice(b"mi")?;
         self.trace.extend_from_slice(b"nwnr")?;
-        let message = frame(alloc, b'm', self.number)?;
+        append_frame(&mut self.written, b'm', self.number)?;
         self.number = self.number.wrapping_add(1);
-        self.written.extend_from_slice(&message)?;
         Ok(())
     }
 
     /// A command is answered so.
-    fn answer(&mut self, alloc: Global, letter: u8) -> Result<(), Memory> {
-        let reply = frame(alloc, letter, 0)?;
+    fn answer(&mut self, letter: u8) -> Result<(), Memory> {
         self.script.push(letter)?;
         self.trace.push(b'c')?;
-        if !reply.is_empty() {
+        if length_of(letter) > 0 {
             self.trace.push(b'w')?;
         }
-        self.written.extend_from_slice(&reply)?;
-        Ok(())
+        append_frame(&mut self.written, letter, 0)
+    }
+
+    /// A row's commands are sent and answered, cut at these places, their end among them.
+    fn make(
+        &mut self,
+        alloc: Global,
+        row: &Row,
+        stream: &[u8],
+        cuts: &[usize],
+    ) -> Result<(), Memory> {
+        let first_end = MAGIC.len().saturating_add(row.first.len());
+        let mut before = 0;
+        for cut in cuts {
+            let (front, _) = stream.split_at((*cut).min(stream.len()));
+            let (_, piece) = front.split_at(before.min(front.len()));
+            self.push_and_read(alloc, piece)?;
+            if before < first_end && first_end <= *cut {
+                self.answer(row.answers[0])?;
+            }
+            if *cut == stream.len() {
+                self.answer(row.answers[1])?;
+            }
+            before = *cut;
+        }
+        self.end()
     }
 
     /// The client sends no more.
@@ -158,37 +180,41 @@ fn stream_of(alloc: Global, row: &Row) -> Result<Vec<u8>, Memory> {
     Ok(stream)
 }
 
+/// How many bytes they have.
+fn end_of(row: &Row) -> usize {
+    let first_end = MAGIC.len().saturating_add(row.first.len());
+    first_end.saturating_add(row.second.len())
+}
+
+/// A row's commands and their answers, where the stream is cut at these places, its end among them.
+fn made_of(alloc: Global, row: &Row, cuts: &[usize]) -> Result<Made, Memory> {
+    let stream = stream_of(alloc, row)?;
+    let mut made = Made::new(alloc)?;
+    made.make(alloc, row, &stream, cuts)?;
+    Ok(made)
+}
+
 /// Whether the commands go so where the stream is cut at these places, its end among them.
 fn holds<R: Wait>(rt: &R, alloc: Global, row: &Row, cuts: &[usize]) -> Result<bool, Memory> {
-    let stream = stream_of(alloc, row)?;
-    let first_end = MAGIC.len().saturating_add(row.first.len());
-    let mut made = Made::new(alloc)?;
-    let mut before = 0;
-    for cut in cuts {
-        let (front, _) = stream.split_at((*cut).min(stream.len()));
-        let (_, piece) = front.split_at(before.min(front.len()));
-        made.push_and_read(alloc, piece)?;
-        if before < first_end && first_end <= *cut {
-            made.answer(alloc, row.answers[0])?;
-        }
-        if *cut == stream.len() {
-            made.answer(alloc, row.answers[1])?;
-        }
-        before = *cut;
-    }
-    made.end()?;
+    let Made {
+        pieces,
+        script,
+        written,
+        trace,
+        number: _,
+    } = made_of(alloc, row, cuts)?;
     let wanted = Wanted {
         ended: Ended::EndOfInput,
         wanted: 0,
-        written: made.written,
-        trace: made.trace,
+        written,
+        trace,
     };
-    goes(rt, alloc, plain(alloc, made.pieces, made.script), &wanted)
+    goes(rt, alloc, plain(alloc, pieces, script), &wanted)
 }
 
 /// The first place at which a cut into two pieces goes otherwise.
 fn wrong_cut<R: Wait>(rt: &R, alloc: Global, row: &Row) -> Result<Option<usize>, Memory> {
-    let end = stream_of(alloc, row)?.len();
+    let end = end_of(row);
     for cut in 1..end {
         if !holds(rt, alloc, row, &[cut, end])? {
             return Ok(Some(cut));
@@ -197,19 +223,19 @@ fn wrong_cut<R: Wait>(rt: &R, alloc: Global, row: &Row) -> Result<Option<usize>,
     Ok(None)
 }
 
-/// Whether the commands go so where each byte is a piece.
-fn holds_by_bytes<R: Wait>(rt: &R, alloc: Global, row: &Row) -> Result<bool, Memory> {
-    let end = stream_of(alloc, row)?.len();
-    let mut cuts = Vec::new(alloc);
+/// The places behind each of so many bytes.
+fn push_cuts(cuts: &mut Vec<usize>, end: usize) -> Result<(), Memory> {
     for cut in 0..end {
         cuts.push(cut.saturating_add(1))?;
     }
-    holds(rt, alloc, row, &cuts)
+    Ok(())
 }
 
-/// Whether a text is this other.
-fn is_text(text: &[u8], other: &[u8]) -> bool {
-    text == other
+/// Whether the commands go so where each byte is a piece.
+fn holds_by_bytes<R: Wait>(rt: &R, alloc: Global, row: &Row) -> Result<bool, Memory> {
+    let mut cuts = Vec::new(alloc);
+    push_cuts(&mut cuts, end_of(row))?;
+    holds(rt, alloc, row, &cuts)
 }
 
 /// Whether the first command comes to the floor as the row says.
@@ -219,20 +245,35 @@ fn comes<R: Wait>(rt: &R, alloc: Global, row: &Row) -> Result<bool, Memory> {
     let script = b"bioo".to_vec(alloc)?;
     let served = serve(rt, alloc, plain(alloc, pieces, script), 16)?;
     match &served.command {
-        Some(text) => Ok(is_text(text.as_bytes(), row.command.as_bytes())),
+        Some(text) => Ok(same(text.as_bytes(), row.command.as_bytes())),
         None => Ok(false),
     }
+}
+
+/// What goes otherwise of a row, and for a cut its place.
+fn wrong<R: Wait>(
+    rt: &R,
+    alloc: Global,
+    row: &Row,
+) -> Result<Option<(&'static str, usize)>, Memory> {
+    if !comes(rt, alloc, row)? {
+        return Ok(Some(("as it comes to the floor", 0)));
+    }
+    if !holds_by_bytes(rt, alloc, row)? {
+        return Ok(Some(("in single bytes", 0)));
+    }
+    Ok(match wrong_cut(rt, alloc, row)? {
+        Some(cut) => Some(("cut at", cut)),
+        None => None,
+    })
 }
 
 #[test]
 fn rows(rt: HostRuntime) -> Result<(), Fail> {
     for row in &ROWS {
-        let comes = comes(&rt, rt.alloc(), row)?;
-        assert!(rt; comes, "{} comes to the floor", row.name);
-        let wrong = wrong_cut(&rt, rt.alloc(), row)?;
-        assert!(rt; wrong.is_none(), "{} cut at {:?}", row.name, wrong);
-        let holds = holds_by_bytes(&rt, rt.alloc(), row)?;
-        assert!(rt; holds, "{} in single bytes", row.name);
+        let wrong = wrong(&rt, rt.alloc(), row)?;
+        let (how, cut) = wrong.unwrap_or(("", 0));
+        assert!(rt; wrong.is_none(), "{} {} {}", row.name, how, cut);
     }
     Ok(())
 }

@@ -7,7 +7,6 @@ use std::sync::Wait;
 use std::test::Fail;
 use v2_session::Ended;
 
-#[derive(Drop)]
 struct Row {
     name: &'static str,
     /// What the client sends, in pieces; an empty one is a read that gives nothing.
@@ -52,7 +51,7 @@ const COMMAND: Row = Row {
 };
 
 /// How a connection ends.
-static ENDINGS: [Row; 11] = [
+const ENDINGS: [Row; 11] = [
     QUIET,
     COMMAND,
     Row {
@@ -125,7 +124,7 @@ static ENDINGS: [Row; 11] = [
 ];
 
 /// What comes between commands, faults and goings.
-static CLOSINGS: [Row; 13] = [
+const CLOSINGS: [Row; 13] = [
     Row {
         name: "a channel that is deleted before a command",
         script: &[(b"bidg", 1)],
@@ -233,7 +232,7 @@ static CLOSINGS: [Row; 13] = [
 ];
 
 /// Where memory is wanting.
-static WANTS: [Row; 10] = [
+const WANTS: [Row; 10] = [
     Row {
         name: "no memory as the connection begins",
         script: &[],
@@ -320,7 +319,7 @@ static WANTS: [Row; 10] = [
 ];
 
 /// Rounds of pushes and pieces.
-static ROUNDS: [Row; 10] = [
+const ROUNDS: [Row; 10] = [
     Row {
         name: "64 messages are a round",
         pieces: &[&[(b"  V2NOP\n", 1)]],
@@ -430,7 +429,7 @@ static ROUNDS: [Row; 10] = [
 ];
 
 /// Pieces that complete many commands.
-static PIECES: [Row; 8] = [
+const PIECES: [Row; 8] = [
     Row {
         name: "one piece completes 24 commands",
         pieces: &[&[(b"  V2", 1), (b"NOP\n", 24)]],
@@ -507,76 +506,98 @@ static PIECES: [Row; 8] = [
     },
 ];
 
-/// Whether a connection goes so.
-fn holds<R: Wait>(rt: &R, alloc: Global, row: &Row) -> Result<bool, Memory> {
-    let setting = Setting {
-        pieces: spread_all(alloc, row.pieces)?,
-        script: spread(alloc, row.script)?,
-        reads: row.reads.to_vec(alloc)?,
-        writes: row.writes.to_vec(alloc)?,
+/// How a row's connection is served.
+fn setting_of(alloc: Global, row: &Row) -> Result<Setting, Memory> {
+    let pieces = spread_all(alloc, row.pieces)?;
+    let script = spread(alloc, row.script)?;
+    let reads = row.reads.to_vec(alloc)?;
+    let writes = row.writes.to_vec(alloc)?;
+    Ok(Setting {
+        pieces,
+        script,
+        reads,
+        writes,
         takes: usize::MAX,
         stops: usize::MAX,
-    };
-    let wanted = Wanted {
+    })
+}
+
+/// What must be seen of it.
+fn wanted_of(alloc: Global, row: &Row) -> Result<Wanted, Memory> {
+    let written = frames(alloc, &spread(alloc, row.written)?)?;
+    let trace = spread(alloc, row.trace)?;
+    Ok(Wanted {
         ended: row.ended,
         wanted: row.wanted,
-        written: frames(alloc, &spread(alloc, row.written)?)?,
-        trace: spread(alloc, row.trace)?,
-    };
+        written,
+        trace,
+    })
+}
+
+/// Whether a connection goes so.
+fn holds<R: Wait>(rt: &R, alloc: Global, row: &Row) -> Result<bool, Memory> {
+    let wanted = wanted_of(alloc, row)?;
+    let setting = setting_of(alloc, row)?;
     goes(rt, alloc, setting, &wanted)
+}
+
+/// Appends the letters of a full round of messages, with a heartbeat in this place.
+fn append_round(letters: &mut Vec<u8>, place: usize) -> Result<(), Memory> {
+    for at in 0..64 {
+        letters.push(if at == place { b'h' } else { b'm' })?;
+    }
+    Ok(())
+}
+
+/// How a full round with a heartbeat in this place is served.
+fn round_of(alloc: Global, place: usize) -> Result<Setting, Memory> {
+    let pieces = spread_all(alloc, &[&[(b"  V2NOP\n", 1)]])?;
+    let mut script = b"b".to_vec(alloc)?;
+    append_round(&mut script, place)?;
+    script.extend_from_slice(b"qig")?;
+    Ok(plain(alloc, pieces, script))
+}
+
+/// What must be seen of it.
+fn wanted_round(alloc: Global, place: usize) -> Result<Wanted, Memory> {
+    let mut sent = Vec::new(alloc);
+    append_round(&mut sent, place)?;
+    let written = frames(alloc, &sent)?;
+    let trace = spread(alloc, &[(b"b", 1), (b"nw", 64), (b"rcnrg", 1)])?;
+    Ok(Wanted {
+        ended: Ended::EndOfInput,
+        wanted: 0,
+        written,
+        trace,
+    })
 }
 
 /// Whether a heartbeat in this place of a full round goes out there, as one of its 64.
 fn beats<R: Wait>(rt: &R, alloc: Global, place: usize) -> Result<bool, Memory> {
-    let mut sent = Vec::new(alloc);
-    for at in 0..64 {
-        sent.push(if at == place { b'h' } else { b'm' })?;
-    }
-    let mut script = b"b".to_vec(alloc)?;
-    script.extend_from_slice(&sent)?;
-    script.extend_from_slice(b"qig")?;
-    let pieces = spread_all(alloc, &[&[(b"  V2NOP\n", 1)]])?;
-    let wanted = Wanted {
-        ended: Ended::EndOfInput,
-        wanted: 0,
-        written: frames(alloc, &sent)?,
-        trace: spread(alloc, &[(b"b", 1), (b"nw", 64), (b"rcnrg", 1)])?,
-    };
-    goes(rt, alloc, plain(alloc, pieces, script), &wanted)
+    let wanted = wanted_round(alloc, place)?;
+    let setting = round_of(alloc, place)?;
+    goes(rt, alloc, setting, &wanted)
 }
 
-/// The name of the first row that doesn't go so.
-fn wrong<R: Wait>(rt: &R, alloc: Global, table: &[Row]) -> Result<Option<&'static str>, Memory> {
-    for row in table {
-        if !holds(rt, alloc, row)? {
-            return Ok(Some(row.name));
-        }
-    }
-    Ok(None)
-}
-
-/// The first place of a full round in which a heartbeat doesn't go out so.
-fn wrong_beat<R: Wait>(rt: &R, alloc: Global) -> Result<Option<usize>, Memory> {
-    for place in 0..64 {
-        if !beats(rt, alloc, place)? {
-            return Ok(Some(place));
-        }
-    }
-    Ok(None)
-}
+/// The tables.
+static TABLES: [&'static [Row]; 5] = [&ENDINGS, &CLOSINGS, &WANTS, &ROUNDS, &PIECES];
 
 #[test]
 fn rows(rt: HostRuntime) -> Result<(), Fail> {
-    let tables: [&'static [Row]; 5] = [&ENDINGS, &CLOSINGS, &WANTS, &ROUNDS, &PIECES];
-    for table in tables {
-        let wrong = wrong(&rt, rt.alloc(), table)?;
-        assert!(rt; wrong.is_none(), "{:?}", wrong);
+    for table in TABLES {
+        for row in table {
+            let holds = holds(&rt, rt.alloc(), row)?;
+            assert!(rt; holds, "{}", row.name);
+        }
     }
-    let place = wrong_beat(&rt, rt.alloc())?;
-    assert!(rt;
-        place.is_none(),
-        "a heartbeat in place {:?} of a round",
-        place
-    );
+    Ok(())
+}
+
+#[test]
+fn heartbeats(rt: HostRuntime) -> Result<(), Fail> {
+    for place in 0..64 {
+        let beats = beats(&rt, rt.alloc(), place)?;
+        assert!(rt; beats, "a heartbeat in place {} of a round", place);
+    }
     Ok(())
 }

@@ -70,10 +70,10 @@ pub(crate) fn first(bytes: &[u8], count: usize) -> &[u8] {
     bytes.split_at(count.min(bytes.len())).0
 }
 
-/// What a client gets of the answer with this letter: the frame of a reply, of a message of this number or of a heartbeat, or with
-/// `-` that for want of memory; nothing of other letters.
-pub(crate) fn frame(alloc: Global, letter: u8, number: u8) -> Result<Vec<u8>, Memory> {
-    let mut bytes = match letter {
+/// The frame of the answer with this letter: a reply, a message but for its body or a heartbeat, or with `-` that for want of
+/// memory; nothing of other letters.
+fn text_of(letter: u8) -> &'static [u8] {
+    match letter {
         b'o' => OK,
         b'k' => CLOSE_WAIT,
         b'e' => NO,
@@ -83,24 +83,40 @@ pub(crate) fn frame(alloc: Global, letter: u8, number: u8) -> Result<Vec<u8>, Me
         b'-' => NO_MEMORY,
         _ => b"",
     }
-    .to_vec(alloc)?;
+}
+
+/// How many bytes a client gets of the answer with this letter.
+pub(crate) fn length_of(letter: u8) -> usize {
+    text_of(letter)
+        .len()
+        .saturating_add(usize::from(letter == b'm'))
+}
+
+/// Appends what a client gets of the answer with this letter: a message is of this number.
+pub(crate) fn append_frame(bytes: &mut Vec<u8>, letter: u8, number: u8) -> Result<(), Memory> {
+    bytes.extend_from_slice(text_of(letter))?;
     if letter == b'm' {
         bytes.push(number)?;
     }
-    Ok(bytes)
+    Ok(())
 }
 
 /// The frames of these letters in order, their messages numbered from 0 on.
 pub(crate) fn frames(alloc: Global, letters: &[u8]) -> Result<Vec<u8>, Memory> {
-    let mut all = Vec::new(alloc);
+    let mut bytes = Vec::new(alloc);
+    append_frames(&mut bytes, letters)?;
+    Ok(bytes)
+}
+
+fn append_frames(bytes: &mut Vec<u8>, letters: &[u8]) -> Result<(), Memory> {
     let mut number = 0u8;
     for letter in letters {
-        all.extend_from_slice(&frame(alloc, *letter, number)?)?;
+        append_frame(bytes, *letter, number)?;
         if *letter == b'm' {
             number = number.wrapping_add(1);
         }
     }
-    Ok(all)
+    Ok(())
 }
 
 /// Serves a connection, and keeps at most so many letters of its calls.
@@ -110,24 +126,39 @@ pub(crate) fn serve<R: Wait>(
     setting: Setting,
     room: usize,
 ) -> Result<Served, Memory> {
+    let Setting {
+        pieces,
+        script,
+        reads,
+        writes,
+        takes,
+        stops,
+    } = setting;
+    let inner = MemConn::new(alloc, pieces_of(alloc, &pieces)?, reads, writes)?;
     let trace = Trace::new(alloc, room)?;
-    let pieces = pieces_of(alloc, &setting.pieces)?;
     let mut conn = NotedConn {
-        inner: MemConn::new(alloc, pieces, setting.reads, setting.writes)?,
-        takes: setting.takes,
+        inner,
+        takes,
         failed_reads: Faults::none(),
         failed_writes: Faults::none(),
         trace: &trace,
     };
-    let mut floor = floor_of(setting.script, setting.stops, &trace);
+    let mut floor = floor_of(script, stops, &trace);
     let (ended, wanted) = serve_by(rt, alloc, &mut conn, &mut floor);
+    let written = conn.inner.bytes_written().to_vec(alloc)?;
+    let letters = trace.letters(alloc)?;
     Ok(Served {
         ended,
         wanted,
-        written: conn.inner.bytes_written().to_vec(alloc)?,
-        trace: trace.letters(alloc)?,
+        written,
+        trace: letters,
         command: floor.command,
     })
+}
+
+/// Whether these are the same bytes.
+pub(crate) fn same(one: &[u8], other: &[u8]) -> bool {
+    one == other
 }
 
 /// What must be seen of a connection.
@@ -151,7 +182,7 @@ pub(crate) fn goes<R: Wait>(
     Ok(
         served.ended == wanted.ended
             && served.wanted == wanted.wanted
-            && served.written == wanted.written
-            && served.trace == wanted.trace,
+            && same(&served.written, &wanted.written)
+            && same(&served.trace, &wanted.trace),
     )
 }

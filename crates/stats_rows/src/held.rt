@@ -1,16 +1,17 @@
 //! Rows, and whether one holds.
 
 use crate::told::{Channel, Client, Told, stats_of};
+use broker_history::Stats;
 use http_stats::stats_text;
 use nsq_base::Memory;
 use serde_json::Value;
 use std::alloc::Global;
+use std::test::Fail;
 
 // What stands before the text.
 const BEFORE: &[u8] = b"before";
 
 // What is told of a daemon that was opened at this moment, in nanoseconds, and its text.
-#[derive(Clone, Copy)]
 struct Row {
     name: &'static str,
     began: u64,
@@ -101,7 +102,7 @@ const NO_TEXT: [Told; 1] = [Told {
     }],
 }];
 
-const ROWS: [Row; 8] = [
+static ROWS: [Row; 8] = [
     Row {
         name: "no topic, opened at the beginning",
         began: 0,
@@ -182,39 +183,38 @@ const ROWS: [Row; 8] = [
 
 // Whether a row holds: the text stands behind what stood there, and a reader of JSON reads it.
 fn holds(alloc: Global, row: &Row) -> Result<bool, Memory> {
-    let Some(stats) = stats_of(alloc, row.topics)? else {
-        return Ok(false);
-    };
+    match stats_of(alloc, row.topics)? {
+        Some(stats) => is_told(alloc, row, &stats),
+        None => Ok(false),
+    }
+}
+
+fn is_told(alloc: Global, row: &Row, stats: &Stats) -> Result<bool, Memory> {
     let mut out = Vec::from_slice(alloc, BEFORE)?;
-    stats_text(alloc, &stats, row.began, &mut out)?;
-    let Some(text) = out.as_slice().strip_prefix(BEFORE) else {
-        return Ok(false);
-    };
-    Ok(text == row.text && is_read(alloc, text)?)
+    stats_text(alloc, stats, row.began, &mut out)?;
+    match out.strip_prefix(BEFORE) {
+        Some(text) if text == row.text => is_read(alloc, text),
+        _ => Ok(false),
+    }
 }
 
 // Whether a reader of JSON reads the text as an object of four members.
 fn is_read(alloc: Global, text: &[u8]) -> Result<bool, Memory> {
     match Value::from_slice(alloc, text) {
-        Ok(value) => Ok(value.as_object().is_some_and(|members| members.len() == 4)),
+        Ok(value) => Ok(match value.as_object() {
+            Some(members) => members.len() == 4,
+            None => false,
+        }),
         Err(error) if error.is_memory() => Err(Memory),
         Err(_) => Ok(false),
     }
 }
 
-// The first row that doesn't hold.
-fn wrong_row(alloc: Global, rows: &[Row]) -> Result<Option<&'static str>, Memory> {
-    for row in rows {
-        if !holds(alloc, row)? {
-            return Ok(Some(row.name));
-        }
-    }
-    Ok(None)
-}
-
 #[test]
-fn rows(rt: HostRuntime) -> Result<(), Memory> {
-    let wrong = wrong_row(rt.alloc(), &ROWS)?;
-    assert_eq!(rt; wrong, None);
+fn rows(rt: HostRuntime) -> Result<(), Fail> {
+    for row in &ROWS {
+        let holds = holds(rt.alloc(), row)?;
+        assert!(rt; holds, "{}", row.name);
+    }
     Ok(())
 }

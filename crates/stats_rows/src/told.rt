@@ -5,7 +5,6 @@ use nsq_base::{Body, Chan, Memory, Topic};
 use std::alloc::Global;
 
 /// A client: its texts, and its counts in the order of their names.
-#[derive(Clone, Copy)]
 pub struct Client {
     /// Client id, host, agent.
     pub said: [&'static [u8]; 3],
@@ -14,7 +13,6 @@ pub struct Client {
 }
 
 /// A channel: its name, its two depths, its counts in the order of their names, whether it is paused, and its clients.
-#[derive(Clone, Copy)]
 pub struct Channel {
     /// The name.
     pub name: &'static [u8],
@@ -29,7 +27,6 @@ pub struct Channel {
 }
 
 /// A topic: its name, its two depths, how many messages joined it, whether it is paused, and its channels.
-#[derive(Clone, Copy)]
 pub struct Told {
     /// The name.
     pub name: &'static [u8],
@@ -46,13 +43,25 @@ pub struct Told {
 /// The statistics of these topics; None where a name isn't one.
 pub fn stats_of(alloc: Global, topics: &[Told]) -> Result<Option<Stats>, Memory> {
     let mut items = Items::new(alloc);
+    if push_topics(alloc, topics, &mut items)? {
+        Ok(Some(Stats { topics: items }))
+    } else {
+        Ok(None)
+    }
+}
+
+fn push_topics(
+    alloc: Global,
+    topics: &[Told],
+    items: &mut Items<TopicStats>,
+) -> Result<bool, Memory> {
     for told in topics {
         match topic_of(alloc, told)? {
             Some(topic) => items.push(topic)?,
-            None => return Ok(None),
+            None => return Ok(false),
         }
     }
-    Ok(Some(Stats { topics: items }))
+    Ok(true)
 }
 
 fn topic_of(alloc: Global, told: &Told) -> Result<Option<TopicStats>, Memory> {
@@ -74,13 +83,25 @@ fn topic_of(alloc: Global, told: &Told) -> Result<Option<TopicStats>, Memory> {
 
 fn channels_of(alloc: Global, channels: &[Channel]) -> Result<Option<Items<ChannelStats>>, Memory> {
     let mut items = Items::new(alloc);
+    if push_channels(alloc, channels, &mut items)? {
+        Ok(Some(items))
+    } else {
+        Ok(None)
+    }
+}
+
+fn push_channels(
+    alloc: Global,
+    channels: &[Channel],
+    items: &mut Items<ChannelStats>,
+) -> Result<bool, Memory> {
     for channel in channels {
         match channel_of(alloc, channel)? {
             Some(channel) => items.push(channel)?,
-            None => return Ok(None),
+            None => return Ok(false),
         }
     }
-    Ok(Some(items))
+    Ok(true)
 }
 
 fn channel_of(alloc: Global, channel: &Channel) -> Result<Option<ChannelStats>, Memory> {
@@ -105,22 +126,38 @@ fn channel_of(alloc: Global, channel: &Channel) -> Result<Option<ChannelStats>, 
 
 fn clients_of(alloc: Global, clients: &[Client]) -> Result<Items<ClientStats>, Memory> {
     let mut items = Items::new(alloc);
-    for client in clients {
-        items.push(client_of(alloc, client)?)?;
-    }
+    push_clients(alloc, clients, &mut items)?;
     Ok(items)
 }
 
+fn push_clients(
+    alloc: Global,
+    clients: &[Client],
+    items: &mut Items<ClientStats>,
+) -> Result<(), Memory> {
+    for client in clients {
+        items.push(client_of(alloc, client)?)?;
+    }
+    Ok(())
+}
+
 fn client_of(alloc: Global, client: &Client) -> Result<ClientStats, Memory> {
-    let [finished, flying, messages, ready, requeued] = client.counts;
-    Ok(ClientStats {
-        client_id: Body::copy(alloc, client.said[0])?,
+    let client_id = Body::copy(alloc, client.said[0])?;
+    let hostname = Body::copy(alloc, client.said[1])?;
+    let user_agent = Body::copy(alloc, client.said[2])?;
+    Ok(counted(client.counts, client_id, hostname, user_agent))
+}
+
+fn counted(counts: [u64; 5], client_id: Body, hostname: Body, user_agent: Body) -> ClientStats {
+    let [finished, flying, messages, ready, requeued] = counts;
+    ClientStats {
+        client_id,
         finish_count: finished,
-        hostname: Body::copy(alloc, client.said[1])?,
+        hostname,
         in_flight_count: flying,
         message_count: messages,
         ready_count: ready,
         requeue_count: requeued,
-        user_agent: Body::copy(alloc, client.said[2])?,
-    })
+        user_agent,
+    }
 }

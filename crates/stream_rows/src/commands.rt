@@ -14,7 +14,7 @@ struct Row {
     commands: &'static str,
 }
 
-const ROWS: [Row; 11] = [
+static ROWS: [Row; 11] = [
     Row {
         name: "nothing",
         bytes: b"",
@@ -72,22 +72,34 @@ const ROWS: [Row; 11] = [
     },
 ];
 
+// Appends copies of the commands.
+fn copy_each(alloc: Global, commands: &[Command], copies: &mut Vec<Command>) -> Result<(), Memory> {
+    for command in commands {
+        copies.push(Command::copy(command, alloc)?)?;
+    }
+    Ok(())
+}
+
 // Whether copies of the commands print as the commands do.
 fn copies(alloc: Global, row: &Row) -> Result<bool, Memory> {
     let (commands, _) = script_of(alloc, LIMITS, row.bytes)?;
     let mut copies = Vec::new(alloc);
-    for command in &commands {
-        copies.push(Command::copy(command, alloc)?)?;
-    }
+    copy_each(alloc, &commands, &mut copies)?;
     prints(alloc, &copies, row.commands)
+}
+
+// Whether the commands are read, and copied.
+fn holds(alloc: Global, row: &Row) -> Result<bool, Memory> {
+    if !reads(alloc, LIMITS, row.bytes, row.commands, Rest::Unfinished)? {
+        return Ok(false);
+    }
+    copies(alloc, row)
 }
 
 #[test]
 fn rows(rt: HostRuntime) -> Result<(), Fail> {
     for row in &ROWS {
-        let alloc = rt.alloc();
-        let holds = reads(alloc, LIMITS, row.bytes, row.commands, Rest::Unfinished)?
-            && copies(alloc, row)?;
+        let holds = holds(rt.alloc(), row)?;
         assert!(rt; holds, "{}", row.name);
     }
     Ok(())

@@ -1,4 +1,4 @@
-use crate::reads::reads;
+use crate::reads::{reads, same};
 use nsq_base::Memory;
 use std::alloc::Global;
 use std::test::Fail;
@@ -16,7 +16,7 @@ struct Row {
     text: &'static [u8],
 }
 
-const ROWS: [Row; 28] = [
+static ROWS: [Row; 28] = [
     Row {
         name: "another magic",
         bytes: b"  V1",
@@ -249,7 +249,7 @@ fn holds(alloc: Global, row: &Row) -> Result<bool, Memory> {
         at: row.at,
     };
     let reads = reads(alloc, LIMITS, row.bytes, row.commands, Rest::Faulty(fault))?;
-    Ok(reads && row.kind.text() == row.text)
+    Ok(reads && same(row.kind.text(), row.text))
 }
 
 #[test]

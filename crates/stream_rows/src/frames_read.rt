@@ -1,9 +1,8 @@
-ghost use Rattle.std.specs.Prelude.{◌<◌};
-
+use crate::reads::same;
 use nsq_base::Memory;
 use std::alloc::Global;
 use std::test::Fail;
-use v2_frame::{FrameKind, FrameReader, GotFrame};
+use v2_frame::{Frame, FrameKind, FrameReader, GotFrame};
 
 /// The greatest size of a frame that the reader takes.
 const LIMIT: u32 = 100;
@@ -16,7 +15,7 @@ struct Row {
     bad: Option<u64>,
 }
 
-const ROWS: [Row; 6] = [
+static ROWS: [Row; 6] = [
     Row {
         name: "nothing",
         bytes: b"",
@@ -63,15 +62,26 @@ struct Given {
     bad: Option<u64>,
 }
 
-// Asks the reader a few times.
-fn take(reader: &mut FrameReader, row: &Row, given: &mut Given) -> Result<(), Memory> {
+// Whether this is the row's frame of this number.
+fn is_frame(row: &Row, number: usize, frame: &Frame) -> bool {
+    match row.frames.get(number) {
+        Some((kind, text)) => frame.kind == *kind && same(frame.body.bytes(), text),
+        None => false,
+    }
+}
+
+// Feeds the reader a piece, and asks it a few times.
+fn take(
+    reader: &mut FrameReader,
+    row: &Row,
+    given: &mut Given,
+    piece: &[u8],
+) -> Result<(), Memory> {
+    reader.feed(piece)?;
     for _ in 0..3 {
         match reader.next() {
             GotFrame::Whole(frame) => {
-                given.right = given.right
-                    && given.count < row.frames.len()
-                    && frame.kind == row.frames[given.count].0
-                    && frame.body.bytes() == row.frames[given.count].1;
+                given.right = given.right && is_frame(row, given.count, &frame);
                 given.count = given.count.saturating_add(1);
             }
             GotFrame::More => return Ok(()),
@@ -82,23 +92,30 @@ fn take(reader: &mut FrameReader, row: &Row, given: &mut Given) -> Result<(), Me
     Ok(())
 }
 
-// Whether a reader gives the row's frames and bad field where the first piece is fed and then the others, in pieces of so many
-// bytes.
-fn gives(alloc: Global, row: &Row, first: &[u8], then: &[u8], size: usize) -> Result<bool, Memory>
-    requires { 0 < size }
-{
+// Feeds the reader pieces of one byte, and asks it behind each.
+fn take_bytes(
+    reader: &mut FrameReader,
+    row: &Row,
+    given: &mut Given,
+    bytes: &[u8],
+) -> Result<(), Memory> {
+    for byte in bytes {
+        take(reader, row, given, &[*byte])?;
+    }
+    Ok(())
+}
+
+// Whether a reader gives the row's frames and bad field where these two pieces are fed, and then the others byte by byte.
+fn gives(alloc: Global, row: &Row, pieces: [&[u8]; 2], bytes: &[u8]) -> Result<bool, Memory> {
     let mut reader = FrameReader::new(alloc, LIMIT)?;
     let mut given = Given {
         count: 0,
         right: true,
         bad: None,
     };
-    reader.feed(first)?;
-    take(&mut reader, row, &mut given)?;
-    for piece in then.chunks(size) {
-        reader.feed(piece)?;
-        take(&mut reader, row, &mut given)?;
-    }
+    take(&mut reader, row, &mut given, pieces[0])?;
+    take(&mut reader, row, &mut given, pieces[1])?;
+    take_bytes(&mut reader, row, &mut given, bytes)?;
     Ok(given.right && given.count == row.frames.len() && given.bad == row.bad)
 }
 
@@ -106,11 +123,11 @@ fn gives(alloc: Global, row: &Row, first: &[u8], then: &[u8], size: usize) -> Re
 fn holds(alloc: Global, row: &Row) -> Result<bool, Memory> {
     for cut in 0..=row.bytes.len() {
         let (before, after) = row.bytes.split_at(cut.min(row.bytes.len()));
-        if !gives(alloc, row, before, after, 100)? {
+        if !gives(alloc, row, [before, after], b"")? {
             return Ok(false);
         }
     }
-    gives(alloc, row, b"", row.bytes, 1)
+    gives(alloc, row, [b"", b""], row.bytes)
 }
 
 #[test]

@@ -1,3 +1,4 @@
+use crate::reads::same;
 use nsq_base::{Body, Memory};
 use std::alloc::Global;
 use std::test::Fail;
@@ -11,7 +12,7 @@ struct Row {
     bytes: &'static [u8],
 }
 
-const ROWS: [Row; 4] = [
+static ROWS: [Row; 4] = [
     Row {
         name: "OK",
         kind: FrameKind::Response,
@@ -38,22 +39,44 @@ const ROWS: [Row; 4] = [
     },
 ];
 
-// Whether a frame, a copy of it and its text alone are all written as the row says.
-fn holds(alloc: Global, row: &Row) -> Result<bool, Memory> {
+// Whether the text alone is written as the row says.
+fn writes_text(alloc: Global, row: &Row) -> Result<bool, Memory> {
     if row.text.len() >= 1 << 31 {
         return Ok(false);
     }
-    let mut alone = Vec::new(alloc);
-    write_frame_of(row.kind, row.text, &mut alone)?;
+    let mut out = Vec::new(alloc);
+    write_frame_of(row.kind, row.text, &mut out)?;
+    Ok(same(&out, row.bytes))
+}
+
+// Whether the frame is written as the row says.
+fn writes_frame(alloc: Global, row: &Row, frame: &Frame) -> Result<bool, Memory> {
+    if frame.body.bytes().len() >= 1 << 31 {
+        return Ok(false);
+    }
+    let mut out = Vec::new(alloc);
+    write_frame(alloc, frame, &mut out)?;
+    Ok(same(&out, row.bytes))
+}
+
+// Whether a copy of the frame is the row's.
+fn copies(alloc: Global, row: &Row, frame: &Frame) -> Result<bool, Memory> {
+    let copy = frame.copy(alloc)?;
+    Ok(copy.kind == row.kind && same(copy.body.bytes(), row.text))
+}
+
+// Whether a frame, a copy of it and its text alone are all written as the row says.
+fn holds(alloc: Global, row: &Row) -> Result<bool, Memory> {
+    if !writes_text(alloc, row)? {
+        return Ok(false);
+    }
     let frame = Frame {
         kind: row.kind,
         body: Body::copy(alloc, row.text)?,
     };
-    let mut out = Vec::new(alloc);
-    write_frame(alloc, &frame, &mut out)?;
-    let copy = frame.copy(alloc)?;
-    let copied = copy.kind == row.kind && copy.body.bytes() == row.text;
-    Ok(copied && alone.as_slice() == row.bytes && out.as_slice() == row.bytes)
+    let written = writes_frame(alloc, row, &frame)?;
+    let copied = copies(alloc, row, &frame)?;
+    Ok(written && copied)
 }
 
 #[test]

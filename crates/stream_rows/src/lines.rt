@@ -31,7 +31,7 @@ const LONG_BEHIND_NOP: Rest = Rest::Faulty(Fault {
     at: 8,
 });
 
-const ROWS: [Row; 9] = [
+static ROWS: [Row; 9] = [
     Row {
         name: "a line of 16,384 bytes",
         before: b"  V2",

@@ -1,3 +1,4 @@
+use crate::reads::same;
 use nsq_base::{Body, Memory, MsgId};
 use std::alloc::Global;
 use std::test::Fail;
@@ -10,10 +11,13 @@ const ROOM: usize = 64;
 struct Row {
     name: &'static str,
     bytes: &'static [u8],
-    message: Option<(u64, u16, &'static [u8], &'static [u8])>,
+    message: Option<Parts>,
 }
 
-const ROWS: [Row; 5] = [
+// Stamp, attempts, id and body.
+type Parts = (u64, u16, &'static [u8], &'static [u8]);
+
+static ROWS: [Row; 5] = [
     Row {
         name: "a message of one byte",
         bytes: b"\0\0\0\0\0\0\0\0\0\x010000010000000000a",
@@ -41,6 +45,16 @@ const ROWS: [Row; 5] = [
     },
 ];
 
+// Whether each of the bytes is 9.
+fn are_nines(bytes: &[u8]) -> bool {
+    for byte in bytes {
+        if *byte != 9 {
+            return false;
+        }
+    }
+    true
+}
+
 // Whether the message is put as these bytes, and what stands behind them stays.
 fn puts(message: &Message, bytes: &[u8]) -> bool {
     let mut into = [9; ROOM];
@@ -49,21 +63,23 @@ fn puts(message: &Message, bytes: &[u8]) -> bool {
         return false;
     }
     let size = message.put(&mut into);
-    &into[..size] == bytes && into[size..].iter().all(|byte| *byte == 9)
+    let (put, behind) = into.split_at(size.min(ROOM));
+    same(put, bytes) && are_nines(behind)
 }
 
-// Whether the message, and a copy of it, are the row's, with no delay, and are put as its bytes, whatever the delay is.
-fn is_message(alloc: Global, row: &Row, taken: Message) -> Result<bool, Memory> {
-    let Some((stamp, attempts, id, body)) = row.message else {
-        return Ok(false);
-    };
-    let Some(id) = MsgId::read(id) else {
-        return Ok(false);
-    };
-    let copy = taken.copy(alloc)?;
-    let same = (copy.stamp, copy.attempts, copy.delay) == (stamp, attempts, 0)
-        && copy.id == id
-        && copy.body.bytes() == body;
+// Whether the message is of these parts, with no delay.
+fn is_of(message: &Message, parts: Parts, id: MsgId) -> bool {
+    let (stamp, attempts, _, body) = parts;
+    message.stamp == stamp
+        && message.attempts == attempts
+        && message.id == id
+        && same(message.body.bytes(), body)
+        && message.delay == 0
+}
+
+// Whether a message of these parts, whatever its delay is, is put as these bytes.
+fn puts_made(alloc: Global, parts: Parts, id: MsgId, bytes: &[u8]) -> Result<bool, Memory> {
+    let (stamp, attempts, _, body) = parts;
     let made = Message {
         stamp,
         attempts,
@@ -71,12 +87,27 @@ fn is_message(alloc: Global, row: &Row, taken: Message) -> Result<bool, Memory> 
         body: Body::copy(alloc, body)?,
         delay: 5,
     };
-    Ok(same && puts(&taken, row.bytes) && puts(&made, row.bytes))
+    Ok(puts(&made, bytes))
+}
+
+// Whether the message, and a copy of it, are the row's, with no delay, and are put as its bytes, whatever the delay is.
+fn is_message(alloc: Global, row: &Row, taken: &Message) -> Result<bool, Memory> {
+    let Some(parts) = row.message else {
+        return Ok(false);
+    };
+    let Some(id) = MsgId::read(parts.2) else {
+        return Ok(false);
+    };
+    let copy = taken.copy(alloc)?;
+    if !is_of(&copy, parts, id) || !puts(taken, row.bytes) {
+        return Ok(false);
+    }
+    puts_made(alloc, parts, id, row.bytes)
 }
 
 fn holds(alloc: Global, row: &Row) -> Result<bool, Memory> {
     match Message::take(alloc, row.bytes) {
-        Taken::Whole(taken) => is_message(alloc, row, taken),
+        Taken::Whole(taken) => is_message(alloc, row, &taken),
         Taken::Short => Ok(row.message.is_none()),
         Taken::Memory => Err(Memory),
     }

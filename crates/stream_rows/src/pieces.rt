@@ -35,7 +35,7 @@ const LONG: Rest = Rest::Faulty(Fault {
     at: 8,
 });
 
-const ROWS: [Row; 4] = [
+static ROWS: [Row; 4] = [
     Row {
         name: "a body of forty pieces of a hundred bytes, and the fault behind it, which stays",
         most: 4000,
@@ -82,6 +82,13 @@ const ROWS: [Row; 4] = [
     },
 ];
 
+// Feeds a piece, and keeps it.
+fn feed(reading: &mut Reading, bytes: &mut Vec<u8>, piece: &[u8]) -> Result<(), Memory> {
+    reading.feed(piece)?;
+    bytes.extend_from_slice(piece)?;
+    Ok(())
+}
+
 // So many pieces, each of so many bytes: before each the reader gives nothing.
 fn feeds(
     reading: &mut Reading,
@@ -94,8 +101,7 @@ fn feeds(
         if reading.take()? != Rest::Unfinished || reading.count() != before {
             return Ok(false);
         }
-        reading.feed(piece)?;
-        bytes.extend_from_slice(piece)?;
+        feed(reading, bytes, piece)?;
     }
     Ok(true)
 }
@@ -109,14 +115,12 @@ fn answers(
 ) -> Result<bool, Memory> {
     match step {
         Step::Feed(piece) => {
-            reading.feed(piece)?;
-            bytes.extend_from_slice(piece)?;
+            feed(reading, bytes, piece)?;
             Ok(true)
         }
         Step::FeedMany(byte, size) => {
             let piece = vec![in alloc; byte; size]?;
-            reading.feed(&piece)?;
-            bytes.extend_from_slice(&piece)?;
+            feed(reading, bytes, &piece)?;
             Ok(true)
         }
         Step::FeedPieces(pieces, byte, size) => {
@@ -127,6 +131,33 @@ fn answers(
     }
 }
 
+// Whether each step is answered as it must be.
+fn goes(
+    alloc: Global,
+    row: &Row,
+    reading: &mut Reading,
+    bytes: &mut Vec<u8>,
+) -> Result<bool, Memory> {
+    for step in row.steps {
+        if !answers(alloc, reading, bytes, *step)? {
+            return Ok(false);
+        }
+    }
+    Ok(true)
+}
+
+// Whether the reader gave what the plain program finds in these bytes.
+fn is_script(
+    alloc: Global,
+    limits: Limits,
+    reading: &mut Reading,
+    bytes: &[u8],
+) -> Result<bool, Memory> {
+    let (commands, rest) = script_of(alloc, limits, bytes)?;
+    let text = format!(in alloc; "{commands:?}")?;
+    reading.finds(alloc, text.as_str(), rest)
+}
+
 // Whether each step is answered as it must be, and the reader gave what the plain program finds in all that was fed.
 fn holds(alloc: Global, row: &Row) -> Result<bool, Memory> {
     let limits = Limits {
@@ -135,14 +166,10 @@ fn holds(alloc: Global, row: &Row) -> Result<bool, Memory> {
     };
     let mut reading = Reading::new(alloc, limits)?;
     let mut bytes = Vec::new(alloc);
-    for step in row.steps {
-        if !answers(alloc, &mut reading, &mut bytes, *step)? {
-            return Ok(false);
-        }
+    if !goes(alloc, row, &mut reading, &mut bytes)? {
+        return Ok(false);
     }
-    let (commands, rest) = script_of(alloc, limits, &bytes)?;
-    let text = format!(in alloc; "{commands:?}")?;
-    Ok(reading.take()? == rest && reading.prints(alloc, text.as_str())?)
+    is_script(alloc, limits, &mut reading, &bytes)
 }
 
 #[test]

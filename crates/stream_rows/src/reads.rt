@@ -37,21 +37,59 @@ impl Reading {
         Ok(Rest::Unfinished)
     }
 
+    /// Takes a further piece, and asks.
+    fn feed_and_take(&mut self, piece: &[u8]) -> Result<(), Memory> {
+        self.reader.feed(piece)?;
+        self.take()?;
+        Ok(())
+    }
+
+    /// Takes pieces of one byte, and asks behind each.
+    fn feed_bytes(&mut self, bytes: &[u8]) -> Result<(), Memory> {
+        for byte in bytes {
+            self.feed_and_take(&[*byte])?;
+        }
+        Ok(())
+    }
+
     /// How many commands the reader gave.
     pub fn count(&self) -> usize {
         self.commands.len()
     }
 
-    /// Whether the commands print as this.
-    pub fn prints(&self, alloc: Global, want: &str) -> Result<bool, Memory> {
+    /// Whether this is behind the commands, and they print so.
+    pub fn finds(&mut self, alloc: Global, want: &str, rest: Rest) -> Result<bool, Memory> {
+        if self.take()? != rest {
+            return Ok(false);
+        }
         prints(alloc, &self.commands, want)
     }
+}
+
+/// Whether these are the same bytes.
+pub fn same(one: &[u8], other: &[u8]) -> bool {
+    one == other
 }
 
 /// Whether the commands print as this.
 pub fn prints(alloc: Global, commands: &Vec<Command>, want: &str) -> Result<bool, Memory> {
     let text = format!(in alloc; "{commands:?}")?;
-    Ok(text.as_str() == want)
+    Ok(same(text.as_bytes(), want.as_bytes()))
+}
+
+// Whether the plain program finds these commands and this rest.
+fn is_script(
+    alloc: Global,
+    limits: Limits,
+    bytes: &[u8],
+    want: &str,
+    rest: Rest,
+) -> Result<bool, Memory> {
+    let (commands, found) = script_of(alloc, limits, bytes)?;
+    if found != rest {
+        return Ok(false);
+    }
+    prints(alloc, &commands, want)
 }
 
 /// Whether the plain program and a reader find these commands and this rest: the reader for every cut into two pieces, and
@@ -63,8 +101,7 @@ pub fn reads(
     want: &str,
     rest: Rest,
 ) -> Result<bool, Memory> {
-    let (commands, found) = script_of(alloc, limits, bytes)?;
-    if found != rest || !prints(alloc, &commands, want)? {
+    if !is_script(alloc, limits, bytes, want, rest)? {
         return Ok(false);
     }
     for cut in 0..=bytes.len() {
@@ -86,11 +123,9 @@ fn reads_two(
     rest: Rest,
 ) -> Result<bool, Memory> {
     let mut reading = Reading::new(alloc, limits)?;
-    reading.feed(before)?;
-    reading.take()?;
-    reading.feed(after)?;
-    reading.take()?;
-    Ok(reading.take()? == rest && reading.prints(alloc, want)?)
+    reading.feed_and_take(before)?;
+    reading.feed_and_take(after)?;
+    reading.finds(alloc, want, rest)
 }
 
 // Whether a reader finds them in pieces of one byte.
@@ -102,9 +137,6 @@ fn reads_bytes(
     rest: Rest,
 ) -> Result<bool, Memory> {
     let mut reading = Reading::new(alloc, limits)?;
-    for piece in bytes.chunks(1) {
-        reading.feed(piece)?;
-        reading.take()?;
-    }
-    Ok(reading.take()? == rest && reading.prints(alloc, want)?)
+    reading.feed_bytes(bytes)?;
+    reading.finds(alloc, want, rest)
 }

@@ -1,6 +1,7 @@
 ghost use Rattle.std.specs.Prelude.{◌≡◌, ◌^◌, ◌<◌, IfOk, IfSome};
 ghost use Rattle.v2_frame.specs.Writing.{CanWrite};
 
+use crate::reads::same;
 use nsq_base::Memory;
 use std::alloc::Global;
 use std::test::Fail;
@@ -16,7 +17,7 @@ struct Row {
     written: &'static [u8],
 }
 
-const ROWS: [Row; 14] = [
+static ROWS: [Row; 14] = [
     Row {
         name: "IDENTIFY",
         spelled: b"IDENTIFY\n\0\0\0\x02{}",
@@ -113,6 +114,12 @@ fn command_of(alloc: Global, bytes: &[u8]) -> Result<Option<Command>, Memory>
     }
 }
 
+// Whether the command prints as this.
+fn prints(alloc: Global, command: &Command, want: &str) -> Result<bool, Memory> {
+    let text = format!(in alloc; "{command:?}")?;
+    Ok(same(text.as_bytes(), want.as_bytes()))
+}
+
 // Whether the command that is spelled prints as the row says, and is written behind what is there as its canonical spelling.
 fn holds(alloc: Global, row: &Row) -> Result<bool, Memory> {
     let Some(command) = command_of(alloc, row.spelled)? else {
@@ -120,9 +127,10 @@ fn holds(alloc: Global, row: &Row) -> Result<bool, Memory> {
     };
     let mut out = b"  V2".to_vec(alloc)?;
     write_command(alloc, &command, &mut out)?;
-    let text = format!(in alloc; "{command:?}")?;
-    let (before, written) = out.split_at(out.len().min(4));
-    Ok(text.as_str() == row.command && before == b"  V2".as_slice() && written == row.written)
+    match out.strip_prefix(b"  V2") {
+        Some(written) if same(written, row.written) => prints(alloc, &command, row.command),
+        _ => Ok(false),
+    }
 }
 
 #[test]

@@ -19,7 +19,7 @@ struct Row {
     ends: &'static [(u64, u64)],
 }
 
-const ROWS: [Row; 2] = [
+static ROWS: [Row; 2] = [
     Row {
         name: "each pass has its entry alone as its own",
         one: 7,

@@ -34,7 +34,7 @@ struct Row {
     ends: &'static [(u64, u64)],
 }
 
-const ROWS: [Row; 5] = [
+static ROWS: [Row; 5] = [
     Row {
         name: "one pass appends an entry of its own and a common one",
         begins: &[],

@@ -20,7 +20,7 @@ struct Row {
     each: u64,
 }
 
-const ROWS: [Row; 3] = [
+static ROWS: [Row; 3] = [
     Row {
         name: "two threads that append nothing",
         four: false,

@@ -166,7 +166,7 @@ const EPHEMERAL_TOPIC: GivenTopic = GivenTopic {
     channels: &[EMPTY_CHANNEL],
 };
 
-const ROWS: [Row; 21] = [
+static ROWS: [Row; 21] = [
     Row {
         name: "a queued copy, one in flight and one deferred",
         given: HELD,

@@ -3,7 +3,7 @@
 use super::{Change, Row, Shows, holds};
 use std::test::Fail;
 
-const NUMBERS: [Row; 20] = [
+static NUMBERS: [Row; 20] = [
     Row {
         name: "all of it",
         topic: b"",
@@ -166,7 +166,7 @@ const NUMBERS: [Row; 20] = [
     },
 ];
 
-const LISTS: [Row; 21] = [
+static LISTS: [Row; 21] = [
     Row {
         name: "another count of finished messages",
         topic: b"",

@@ -16,7 +16,7 @@ struct Row {
     is: bool,
 }
 
-const ROWS: [Row; 8] = [
+static ROWS: [Row; 8] = [
     Row {
         name: "a connection among others",
         number: 1,

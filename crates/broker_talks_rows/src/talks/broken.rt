@@ -4,7 +4,7 @@ use super::{Got, Piece, Row, Told, holds};
 use broker_history::Ended;
 use std::test::Fail;
 
-const ROWS: [Row; 21] = [
+static ROWS: [Row; 21] = [
     Row {
         name: "messages that come out of order",
         sent: &[Piece::Subscribe(2)],

@@ -4,7 +4,7 @@ use super::{Got, Piece, Row, Told, holds};
 use broker_history::Ended;
 use std::test::Fail;
 
-const ROWS: [Row; 19] = [
+static ROWS: [Row; 19] = [
     Row {
         name: "64 sent, and then a read",
         sent: &[Piece::MagicNop],

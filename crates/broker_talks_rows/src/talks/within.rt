@@ -4,7 +4,7 @@ use super::{Got, Piece, Row, Told, holds};
 use broker_history::Ended;
 use std::test::Fail;
 
-const ROWS: [Row; 16] = [
+static ROWS: [Row; 16] = [
     Row {
         name: "a heartbeat that is cut short",
         sent: &[Piece::MagicNop],

@@ -11,7 +11,7 @@ struct Row {
     given: &'static [u64],
 }
 
-const ROWS: [Row; 2] = [
+static ROWS: [Row; 2] = [
     Row {
         name: "the last reading repeats",
         readings: &[5, 9],

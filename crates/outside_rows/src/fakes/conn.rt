@@ -30,7 +30,7 @@ struct Row {
 /// A piece of 5 bytes, a mark, a piece of 0 bytes and one that nobody reads.
 const PIECES: Pieces = &[Some(b"hello"), None, Some(b""), Some(b"lost")];
 
-const ROWS: [Row; 2] = [
+static ROWS: [Row; 2] = [
     Row {
         name: "a long piece comes in two reads, around one that fails",
         pieces: PIECES,

@@ -23,7 +23,7 @@ struct Row {
 
 const TWO_FILES: Files = &[("a", b"one"), ("b", b"two")];
 
-const ROWS: [Row; 5] = [
+static ROWS: [Row; 5] = [
     Row {
         name: "reads and writes",
         files: TWO_FILES,

@@ -31,7 +31,7 @@ struct Row {
     printed: &'static [u8],
 }
 
-const ROWS: [Row; 3] = [
+static ROWS: [Row; 3] = [
     Row {
         name: "a caller is served through the bounds",
         callers: &[(Kind::Http, &[Some(b"GET /ping")])],

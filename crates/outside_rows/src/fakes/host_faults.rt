@@ -43,7 +43,7 @@ struct Row {
     faults: (u64, u64, u64),
 }
 
-const ROWS: [Row; 5] = [
+static ROWS: [Row; 5] = [
     Row {
         name: "the caller of an accept that fails comes with the next",
         callers: &[Kind::Tcp],

@@ -25,7 +25,7 @@ struct Row {
     kept: &'static [(u64, End)],
 }
 
-const ROWS: [Row; 1] = [Row {
+static ROWS: [Row; 1] = [Row {
     name: "a skipped entry leaves no trace",
     noted: &[(1, End::Done), (2, End::Skip), (3, End::Faulted(0))],
     kept: &[(1, End::Done), (3, End::Faulted(0))],

@@ -44,7 +44,7 @@ struct Row {
     readings: &'static [u64],
 }
 
-const ROWS: [Row; 4] = [
+static ROWS: [Row; 4] = [
     Row {
         name: "nanoseconds",
         times: &[Some((1, 5)), Some((1_577_836_800, 123_456_789))],

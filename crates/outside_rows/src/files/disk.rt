@@ -195,7 +195,7 @@ struct Row {
 
 const FOLDER: &str = "outside_rows_disk";
 
-const ROWS: [Row; 11] = [
+static ROWS: [Row; 11] = [
     Row {
         name: "short and interrupted reads",
         fails_from: u64::MAX,

@@ -44,7 +44,7 @@ const OTHER: &str = "outside_rows_other";
 /// Where another process writes a file first.
 const NEW: &str = "outside_rows_other/new";
 
-const ROWS: [Row; 11] = [
+static ROWS: [Row; 11] = [
     Row {
         name: "files of a folder",
         steps: &[

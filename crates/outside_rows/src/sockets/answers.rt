@@ -9,7 +9,7 @@ struct Row {
     means: NoCaller,
 }
 
-const ROWS: [Row; 20] = [
+static ROWS: [Row; 20] = [
     Row {
         name: "EAGAIN: nobody called",
         code: 11,

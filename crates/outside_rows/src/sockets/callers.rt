@@ -16,7 +16,7 @@ struct Row {
     sends: &'static [u8],
 }
 
-const ROWS: [Row; 2] = [
+static ROWS: [Row; 2] = [
     Row {
         name: "a caller of the TCP protocol",
         kind: Kind::Tcp,

@@ -71,7 +71,7 @@ struct Hearing {
     waits: u32,
 }
 
-const HEARINGS: [Hearing; 8] = [
+static HEARINGS: [Hearing; 8] = [
     Hearing {
         name: "the end is there",
         speech: Speech::Ends(1),
@@ -142,7 +142,7 @@ struct Closing {
     stops: bool,
 }
 
-const CLOSINGS: [Closing; 3] = [
+static CLOSINGS: [Closing; 3] = [
     Closing {
         name: "HTTP, and the peer goes on listening",
         kind: Kind::Http,
@@ -206,7 +206,7 @@ struct Late {
     sends: usize,
 }
 
-const LATES: [Late; 2] = [
+static LATES: [Late; 2] = [
     Late {
         name: "a body that comes behind the answer",
         sends: 1_000_000,

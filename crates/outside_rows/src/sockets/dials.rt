@@ -45,7 +45,7 @@ struct Row {
     faults: u64,
 }
 
-const ROWS: [Row; 2] = [
+static ROWS: [Row; 2] = [
     Row {
         name: "nobody there, and no address",
         has_names: true,

@@ -100,7 +100,7 @@ const INSIDE: &[u8] = &[0, 0, 0, 12, 0, 0, 0, 2, 0, 0, 0, 4, 0, 0, 0, 1];
 /// An error frame that isn't whole.
 const OPEN: &[u8] = &[0, 0, 0, 5, 0, 0, 0, 1];
 
-const ROWS: [Row; 14] = [
+static ROWS: [Row; 14] = [
     Row {
         name: "a writer that takes few bytes a call gets all, in order and none twice",
         answers: &[

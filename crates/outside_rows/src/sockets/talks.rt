@@ -85,7 +85,7 @@ const OPEN: &[u8] = &[0, 0, 0, 5, 0, 0, 0, 1];
 
 const LONG: u128 = 60_000;
 
-const ROWS: [Row; 12] = [
+static ROWS: [Row; 12] = [
     Row {
         name: "gathered until the next read",
         kind: Kind::Tcp,

@@ -1,5 +1,6 @@
 ghost use Rattle.std.specs.Prelude.{◌≡◌, ◌<◌};
 
+use crate::same;
 use due_heap::{DueHeap, Key};
 use nsq_base::{Body, Memory, Steps};
 use std::alloc::Global;
@@ -96,9 +97,8 @@ fn insert<L: Ledger>(
     item: &[u8],
     steps: &mut Steps<L>,
 ) -> Result<(), Memory> {
-    let item = Body::copy(alloc, item)?;
     made.heap.reserve(1)?;
-    let key = made.heap.insert(due, item, steps);
+    let key = made.heap.insert(due, Body::copy(alloc, item)?, steps);
     made.keys.push(key)?;
     Ok(())
 }
@@ -109,7 +109,7 @@ fn is_item(found: Option<&Body>, want: Option<&[u8]>) -> bool {
         None => want.is_none(),
         Some(found) => match want {
             None => false,
-            Some(bytes) => found.bytes() == bytes,
+            Some(bytes) => same(found.bytes(), bytes),
         },
     }
 }
@@ -150,7 +150,7 @@ fn removes<L: Ledger>(
     if heap.get(key).is_none() {
         return false;
     }
-    heap.remove(key, steps).bytes() == want
+    same(heap.remove(key, steps).bytes(), want)
 }
 
 fn insert_latest_first<L: Ledger>(
@@ -180,13 +180,8 @@ fn pops_in_order<L: Ledger>(heap: &mut DueHeap<Body>, count: u64, steps: &mut St
 }
 
 // Makes the call, and says whether it answers as it must.
-fn answers<L: Ledger>(
-    alloc: Global,
-    made: &mut Made,
-    call: Call,
-    steps: &mut Steps<L>,
-) -> Result<bool, Memory> {
-    Ok(match call {
+fn answers<L: Ledger>(alloc: Global, made: &mut Made, call: Call, steps: &mut Steps<L>) -> bool {
+    match call {
         Call::Reserve(count) => made.heap.reserve(count).is_ok(),
         Call::Insert(due, item) => insert(alloc, made, due, item, steps).is_ok(),
         Call::First(want) => is_first(made, want),
@@ -203,40 +198,50 @@ fn answers<L: Ledger>(
             steps.tick();
             true
         }
-    })
+    }
 }
 
-fn holds<L: Ledger>(alloc: Global, row: &Row, steps: &mut Steps<L>) -> Result<bool, Memory> {
+// Makes the calls up to one that doesn't answer as it must.
+fn all_answer<L: Ledger>(
+    alloc: Global,
+    made: &mut Made,
+    calls: &[Call],
+    steps: &mut Steps<L>,
+) -> bool {
+    for call in calls {
+        if !answers(alloc, made, *call, steps) {
+            return false;
+        }
+    }
+    true
+}
+
+fn holds<L: Ledger>(alloc: Global, row: &Row, steps: &mut Steps<L>) -> bool {
     let mut made = Made {
         heap: DueHeap::new(alloc),
         keys: Vec::new(alloc),
     };
-    for call in row.calls {
-        if !answers(alloc, &mut made, *call, steps)? {
-            return Ok(false);
-        }
-    }
-    Ok(true)
+    all_answer(alloc, &mut made, row.calls, steps)
 }
 
 // The name of the first row that doesn't hold, if any.
-fn wrong_row<L: Ledger>(alloc: Global, blank: Blank) -> Result<Option<&'static str>, Memory>
+fn wrong_row<L: Ledger>(alloc: Global, blank: Blank) -> Option<&'static str>
     requires name { blank.name ≡ L.name }
     requires parts { blank.parts ≡ L.parts }
     requires some { 0 < L.parts }
 {
     let mut steps: Steps<L> = Steps::new(blank);
     for row in &ROWS {
-        if !holds(alloc, row, &mut steps)? {
-            return Ok(Some(row.name));
+        if !holds(alloc, row, &mut steps) {
+            return Some(row.name);
         }
     }
-    Ok(None)
+    None
 }
 
 #[test]
 fn rows(rt: HostRuntime) -> Result<(), Fail> {
-    let wrong = wrong_row::<Brand>(rt.alloc(), Blank::new(1))?;
+    let wrong = wrong_row::<Brand>(rt.alloc(), Blank::new(1));
     assert_eq!(rt; wrong, None);
     Ok(())
 }

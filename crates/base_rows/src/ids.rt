@@ -1,3 +1,4 @@
+use crate::same;
 use nsq_base::MsgId;
 use std::test::Fail;
 
@@ -54,7 +55,7 @@ fn holds(row: &Row) -> bool {
         None => row.id.is_none(),
         Some(id) => match row.id {
             None => false,
-            Some((epoch, number)) => id.bytes() == row.bytes && is_made(id, epoch, number),
+            Some((epoch, number)) => same(id.bytes(), row.bytes) && is_made(id, epoch, number),
         },
     }
 }

@@ -20,3 +20,9 @@ mod names;
 mod options;
 #[cfg(test)]
 mod topics;
+
+// Whether the bytes are the same.
+#[cfg(test)]
+pub(crate) fn same(one: &[u8], other: &[u8]) -> bool {
+    one == other
+}

@@ -1,3 +1,4 @@
+use crate::same;
 use nsq_base::{Bodies, Body, Memory, Pair, Pairs};
 use std::alloc::Global;
 use std::test::Fail;
@@ -31,27 +32,33 @@ static ROWS: [Row; 3] = [
     },
 ];
 
+// Whether the list has these bodies.
+fn has_bodies(bodies: &Bodies, want: &[&[u8]]) -> bool {
+    if bodies.count() != want.len() {
+        return false;
+    }
+    for (i, bytes) in want.iter().enumerate() {
+        if i >= bodies.count() || !same(bodies.get(i).bytes(), bytes) {
+            return false;
+        }
+    }
+    true
+}
+
 // Whether the list has these bodies, and its copies too.
 fn are_bodies(alloc: Global, bodies: &Bodies, want: &[&[u8]]) -> Result<bool, Memory> {
     let copy = bodies.copy(alloc)?;
-    if copy != *bodies || bodies.count() != want.len() || copy.as_slice().len() != want.len() {
-        return Ok(false);
-    }
-    for (i, bytes) in want.iter().enumerate() {
-        if i >= bodies.count() || bodies.get(i).bytes() != *bytes {
-            return Ok(false);
-        }
-    }
-    Ok(true)
+    Ok(copy == *bodies && copy.as_slice().len() == want.len() && has_bodies(bodies, want))
 }
 
 fn add_bodies(alloc: Global, bodies: &mut Bodies, more: &[&[u8]]) -> Result<(), Memory> {
     for (i, bytes) in more.iter().enumerate() {
-        if i % 2 == 0 {
-            bodies.push(Body::copy(alloc, bytes)?)?;
+        let body = if i % 2 == 0 {
+            Body::copy(alloc, bytes)?
         } else {
-            bodies.push(Body::of(bytes.to_vec(alloc)?))?;
-        }
+            Body::of(bytes.to_vec(alloc)?)
+        };
+        bodies.push(body)?;
     }
     Ok(())
 }
@@ -63,7 +70,7 @@ fn is_last(bodies: Bodies, want: &[&[u8]]) -> bool {
         None => want.is_empty(),
         Some(last) => match want.last() {
             None => false,
-            Some(bytes) => last.spend().as_slice() == *bytes,
+            Some(bytes) => same(&last.spend(), bytes),
         },
     }
 }
@@ -79,22 +86,27 @@ fn holds_of_bodies(alloc: Global, row: &Row) -> Result<bool, Memory> {
     Ok(are_bodies(alloc, &bodies, row.all)? && is_last(bodies, row.all))
 }
 
-// Whether the list has pairs of these names and values, and its copies too.
-fn are_pairs(alloc: Global, pairs: &Pairs, want: &[&[u8]]) -> Result<bool, Memory> {
-    let copy = pairs.copy(alloc)?;
-    if copy != *pairs || pairs.count() != want.len() || copy.as_slice().len() != want.len() {
-        return Ok(false);
+// Whether the list has pairs of these names and values.
+fn has_pairs(pairs: &Pairs, want: &[&[u8]]) -> bool {
+    if pairs.count() != want.len() {
+        return false;
     }
     for (i, bytes) in want.iter().enumerate() {
         if i >= pairs.count() {
-            return Ok(false);
+            return false;
         }
         let pair = pairs.get(i);
-        if pair.name.bytes() != b"topic".as_slice() || pair.value.bytes() != *bytes {
-            return Ok(false);
+        if !same(pair.name.bytes(), b"topic") || !same(pair.value.bytes(), bytes) {
+            return false;
         }
     }
-    Ok(true)
+    true
+}
+
+// Whether the list has pairs of these names and values, and its copies too.
+fn are_pairs(alloc: Global, pairs: &Pairs, want: &[&[u8]]) -> Result<bool, Memory> {
+    let copy = pairs.copy(alloc)?;
+    Ok(copy == *pairs && copy.as_slice().len() == want.len() && has_pairs(pairs, want))
 }
 
 fn add_pairs(alloc: Global, pairs: &mut Pairs, more: &[&[u8]]) -> Result<(), Memory> {

@@ -113,7 +113,19 @@ fn answers_the_same<L: Ledger>(
     Ok(same && (both.plain.len() <= 200 || pops_the_same(both, 64, steps)))
 }
 
-// How many of so many calls both answered the same, before the first that they didn't.
+// How many of so many calls both answer the same, before the first that they don't.
+fn answered<L: Ledger>(both: &mut Both, calls: u64, steps: &mut Steps<L>) -> Result<u64, Memory> {
+    let mut seed = 1;
+    for item in 0..calls {
+        let same = answers_the_same(both, item, &mut seed, steps)?;
+        if !same || !are_the_same(both, next(&mut seed)) {
+            return Ok(item);
+        }
+    }
+    Ok(calls)
+}
+
+// The same of a new heap and a new list.
 fn calls_the_same<L: Ledger>(alloc: Global, blank: Blank, calls: u64) -> Result<u64, Memory>
     requires name { blank.name ≡ L.name }
     requires parts { blank.parts ≡ L.parts }
@@ -124,14 +136,7 @@ fn calls_the_same<L: Ledger>(alloc: Global, blank: Blank, calls: u64) -> Result<
         heap: DueHeap::new(alloc),
         plain: Vec::new(alloc),
     };
-    let mut seed = 1;
-    for item in 0..calls {
-        let same = answers_the_same(&mut both, item, &mut seed, &mut steps)?;
-        if !same || !are_the_same(&both, next(&mut seed)) {
-            return Ok(item);
-        }
-    }
-    Ok(calls)
+    answered(&mut both, calls, &mut steps)
 }
 
 #[test]

@@ -1,3 +1,4 @@
+use crate::same;
 use nsq_base::{Chan, Topic};
 use std::test::Fail;
 
@@ -123,8 +124,8 @@ fn is_topic(row: &Row) -> bool {
         None => row.kind == Kind::NoName,
         Some(topic) => {
             kind_of(topic.ephemeral()) == row.kind
-                && topic.bytes() == row.bytes
-                && topic.as_str().as_bytes() == row.bytes
+                && same(topic.bytes(), row.bytes)
+                && same(topic.as_str().as_bytes(), row.bytes)
         }
     }
 }
@@ -135,8 +136,8 @@ fn is_channel(row: &Row) -> bool {
         None => row.kind == Kind::NoName,
         Some(channel) => {
             kind_of(channel.ephemeral()) == row.kind
-                && channel.bytes() == row.bytes
-                && channel.as_str().as_bytes() == row.bytes
+                && same(channel.bytes(), row.bytes)
+                && same(channel.as_str().as_bytes(), row.bytes)
         }
     }
 }

@@ -91,12 +91,18 @@ static ROWS: [Row; 7] = [
     },
 ];
 
+// Puts a text in the place of another one.
+fn put(alloc: Global, place: &mut Body, text: &[u8]) -> Result<(), Memory> {
+    *place = Body::copy(alloc, text)?;
+    Ok(())
+}
+
 fn give(alloc: Global, options: &mut Options, given: Given) -> Result<(), Memory> {
     match given {
-        Given::TcpAddress(text) => options.tcp_address = Body::copy(alloc, text)?,
-        Given::HttpAddress(text) => options.http_address = Body::copy(alloc, text)?,
-        Given::BroadcastAddress(text) => options.broadcast_address = Body::copy(alloc, text)?,
-        Given::DataPath(text) => options.data_path = Body::copy(alloc, text)?,
+        Given::TcpAddress(text) => return put(alloc, &mut options.tcp_address, text),
+        Given::HttpAddress(text) => return put(alloc, &mut options.http_address, text),
+        Given::BroadcastAddress(text) => return put(alloc, &mut options.broadcast_address, text),
+        Given::DataPath(text) => return put(alloc, &mut options.data_path, text),
         Given::MemQueueSize(count) => options.mem_queue_size = count,
         Given::SyncEvery(count) => options.sync_every = count,
         Given::SyncTimeout(time) => options.sync_timeout = time,
@@ -111,12 +117,17 @@ fn give(alloc: Global, options: &mut Options, given: Given) -> Result<(), Memory
     Ok(())
 }
 
+fn give_all(alloc: Global, options: &mut Options, given: &[Given]) -> Result<(), Memory> {
+    for it in given {
+        give(alloc, options, *it)?;
+    }
+    Ok(())
+}
+
 // A copy of the defaults, with what is given in their place.
 fn options_of(alloc: Global, given: &[Given]) -> Result<Options, Memory> {
     let mut options = Options::defaults(alloc)?.copy(alloc)?;
-    for it in given {
-        give(alloc, &mut options, *it)?;
-    }
+    give_all(alloc, &mut options, given)?;
     Ok(options)
 }
 

@@ -1,3 +1,4 @@
+use crate::same;
 use nsq_base::{Chan, Memory, Names, Topic};
 use std::alloc::Global;
 use std::test::Fail;
@@ -81,8 +82,8 @@ fn are_channels(channels: &[Chan], want: &[&[u8]]) -> bool {
     if channels.len() != want.len() {
         return false;
     }
-    for (channel, bytes) in channels.iter().zip(want) {
-        if channel.bytes() != *bytes {
+    for (i, bytes) in want.iter().enumerate() {
+        if i >= channels.len() || !same(channels[i].bytes(), bytes) {
             return false;
         }
     }
@@ -96,7 +97,7 @@ fn are_topics(names: &Names, want: &[Entry]) -> bool {
     }
     for (i, (topic, channels)) in want.iter().enumerate() {
         if i >= names.count()
-            || names.topic(i).bytes() != *topic
+            || !same(names.topic(i).bytes(), topic)
             || !are_channels(names.channels(i), channels)
         {
             return false;
@@ -105,12 +106,20 @@ fn are_topics(names: &Names, want: &[Entry]) -> bool {
     true
 }
 
-fn holds(alloc: Global, row: &Row) -> Result<bool, Memory> {
-    let mut names = Names::new(alloc);
-    for it in row.given {
-        if put(&mut names, *it)?.is_none() {
+// Puts these in, up to one that can't be.
+fn put_all(names: &mut Names, given: &[Given]) -> Result<bool, Memory> {
+    for it in given {
+        if put(names, *it)?.is_none() {
             return Ok(false);
         }
+    }
+    Ok(true)
+}
+
+fn holds(alloc: Global, row: &Row) -> Result<bool, Memory> {
+    let mut names = Names::new(alloc);
+    if !put_all(&mut names, row.given)? {
+        return Ok(false);
     }
     let copy = names.copy(alloc)?;
     Ok(copy == names && are_topics(&names, row.topics) && are_topics(&copy, row.topics))

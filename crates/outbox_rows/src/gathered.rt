@@ -172,19 +172,37 @@ static ROWS: [Row; 8] = [
     },
 ];
 
+/// A connection that gives these pieces, and notes its calls in a trace.
+fn conn_of<'a>(
+    alloc: Global,
+    pieces: &[Runs],
+    trace: &'a Trace,
+) -> Result<GatheringConn<'a>, Memory> {
+    let pieces = pieces_of(alloc, &spread_all(alloc, pieces)?)?;
+    let inner = MemConn::new(alloc, pieces, Vec::new(alloc), Vec::new(alloc))?;
+    let outbox = Outbox::new(alloc, NotedWriter { trace })?;
+    Ok(GatheringConn {
+        inner,
+        outbox,
+        failed: Faults::none(),
+        trace,
+    })
+}
+
+/// Serves a row's connection, whose calls and turns are noted in a trace.
+fn serve<R: Wait>(rt: &R, alloc: Global, row: &Row, trace: &Trace) -> Result<(), Memory> {
+    let script = spread(alloc, row.script)?;
+    let mut conn = conn_of(alloc, row.pieces, trace)?;
+    let mut floor = floor_of(script, usize::MAX, trace);
+    let _ = serve_by(rt, alloc, &mut conn, &mut floor);
+    Ok(())
+}
+
 /// Whether a connection's calls come in this order.
 fn holds<R: Wait>(rt: &R, alloc: Global, row: &Row) -> Result<bool, Memory> {
     let wanted = spread(alloc, row.trace)?;
     let trace = Trace::new(alloc, wanted.len().saturating_add(16))?;
-    let pieces = pieces_of(alloc, &spread_all(alloc, row.pieces)?)?;
-    let mut conn = GatheringConn {
-        inner: MemConn::new(alloc, pieces, Vec::new(alloc), Vec::new(alloc))?,
-        outbox: Outbox::new(alloc, NotedWriter { trace: &trace })?,
-        failed: Faults::none(),
-        trace: &trace,
-    };
-    let mut floor = floor_of(spread(alloc, row.script)?, usize::MAX, &trace);
-    let _ = serve_by(rt, alloc, &mut conn, &mut floor);
+    serve(rt, alloc, row, &trace)?;
     Ok(trace.letters(alloc)? == wanted)
 }
 

@@ -8,6 +8,7 @@ mod host_faults;
 mod journal;
 mod threads;
 
+use crate::same;
 use nsq_base::{Body, Memory};
 use nsq_fakes::{MemConn, Piece};
 use std::alloc::Global;
@@ -23,16 +24,34 @@ fn made_conn(
     write_fails: &[u64],
 ) -> Result<MemConn, Memory> {
     let mut list = Vec::new(alloc);
-    for piece in pieces {
-        list.push(match piece {
-            Some(bytes) => Piece::Bytes(Body::copy(alloc, bytes)?),
-            None => Piece::Nothing,
-        })?;
-    }
+    push_pieces(alloc, pieces, &mut list)?;
     MemConn::new(
         alloc,
         list,
         read_fails.to_vec(alloc)?,
         write_fails.to_vec(alloc)?,
     )
+}
+
+fn push_pieces(alloc: Global, pieces: Pieces, list: &mut Vec<Piece>) -> Result<(), Memory> {
+    for piece in pieces {
+        list.push(match piece {
+            Some(bytes) => Piece::Bytes(Body::copy(alloc, bytes)?),
+            None => Piece::Nothing,
+        })?;
+    }
+    Ok(())
+}
+
+/// Whether these are the bytes of a list, one by one.
+fn are(list: &[Vec<u8>], want: &[&[u8]]) -> bool {
+    if list.len() != want.len() {
+        return false;
+    }
+    for (i, bytes) in want.iter().enumerate() {
+        if i >= list.len() || !same(&list[i], bytes) {
+            return false;
+        }
+    }
+    true
 }

@@ -1,5 +1,6 @@
 //! Calls on a folder, each with what it answers.
 
+use crate::same;
 use nsq_base::Memory;
 use nsq_outside::{Did, Folder, Length, Listing, ReadAt};
 use std::alloc::Global;
@@ -111,7 +112,7 @@ fn lists<F: Folder>(
 /// Whether a name is among these.
 fn is_among(names: &[String], want: &str) -> bool {
     for name in names {
-        if name.as_str() == want {
+        if same(name.as_bytes(), want.as_bytes()) {
             return true;
         }
     }
@@ -128,7 +129,7 @@ fn list_fails<F: Folder>(alloc: Global, folder: &mut F) -> bool {
 fn reads<F: Folder>(folder: &mut F, name: &str, at: u64, got: ReadAt, after: &[u8]) -> bool {
     let mut into = [b'-'; MOST_READ];
     let room = after.len().min(MOST_READ);
-    folder.read_at(name, at, &mut into[..room]) == got && &into[..room] == after
+    folder.read_at(name, at, &mut into[..room]) == got && same(&into[..room], after)
 }
 
 /// Whether a file has 2^62 bytes after a cut to them that was carried out, and this length after one that failed.

@@ -9,3 +9,9 @@ mod files;
 mod folder_steps;
 #[cfg(test)]
 mod sockets;
+
+/// Whether the bytes are the same.
+#[cfg(test)]
+pub(crate) fn same(one: &[u8], other: &[u8]) -> bool {
+    one == other
+}

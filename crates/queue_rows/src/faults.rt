@@ -4,6 +4,7 @@
 ghost use Rattle.std.specs.Prelude.{◌≡◌, ◌≤◌};
 
 use crate::plain::finds;
+use crate::same;
 use crate::script::{ROLLING, folder_of};
 use disk_queue::{Deleted, Emptied, Put, Queue, Sync, Take};
 use nsq_base::{Bodies, Body, Memory};
@@ -101,20 +102,31 @@ fn holds(alloc: Global, trial: &Trial, failing: u64) -> Result<bool, Memory> {
         first: b'a',
         next: b'a',
     };
-    if !goes(
+    let right = goes(
         alloc,
         &mut queue,
         &mut folder,
         &mut letters,
         trial.moves,
         failing,
-    )? {
-        return Ok(false);
+    )?;
+    let ended = ends(queue, &mut folder, &mut letters, trial.deletes, failing);
+    Ok(right && ended && finds_letters(alloc, &folder, &letters)?)
+}
+
+// Whether the queue's deletion is right, where it is deleted.
+fn ends(
+    queue: Queue,
+    folder: &mut MemFolder,
+    letters: &mut Letters,
+    deletes: bool,
+    failing: u64,
+) -> bool {
+    if deletes {
+        delete(queue, folder, letters, failing)
+    } else {
+        true
     }
-    if trial.deletes && !delete(queue, &mut folder, &mut letters, failing) {
-        return Ok(false);
-    }
-    finds_letters(alloc, &folder, &letters)
 }
 
 // Makes the moves up to one that goes wrong.
@@ -190,7 +202,7 @@ fn take(queue: &mut Queue, folder: &mut MemFolder, letters: &mut Letters) -> boo
     let mut into = [0; 60];
     match queue.take(folder, &mut into) {
         Take::Got(size, _) => {
-            let right = letters.first < letters.next && into[..size] == [letters.first; 40];
+            let right = letters.first < letters.next && same(&into[..size], &[letters.first; 40]);
             letters.first = letters.first.saturating_add(1);
             right
         }
@@ -255,10 +267,15 @@ fn delete(queue: Queue, folder: &mut MemFolder, letters: &mut Letters, failing: 
 // Whether an opening finds these letters.
 fn finds_letters(alloc: Global, folder: &MemFolder, letters: &Letters) -> Result<bool, Memory> {
     let mut expected = Bodies::new(alloc);
-    for letter in letters.first..letters.next {
-        expected.push(Body::copy(alloc, &[letter; 40])?)?;
-    }
+    push_letters(alloc, letters, &mut expected)?;
     finds(alloc, folder, &expected)
+}
+
+fn push_letters(alloc: Global, letters: &Letters, bodies: &mut Bodies) -> Result<(), Memory> {
+    for letter in letters.first..letters.next {
+        bodies.push(Body::copy(alloc, &[letter; 40])?)?;
+    }
+    Ok(())
 }
 
 #[test]

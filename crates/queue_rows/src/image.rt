@@ -1,6 +1,8 @@
 //! What queue files are called, what their bytes are, and what the plain program finds in them.
 
-use nsq_base::{Bodies, Body, Memory};
+use crate::plain::copy_file;
+use crate::same;
+use nsq_base::{Bodies, Memory};
 use queue_image::{Positions, file_names, laws, read_meta};
 use queue_plain::{Found, NamedFile, Row, found_queue, records_of};
 use std::alloc::Global;
@@ -153,15 +155,17 @@ static FINDINGS: [Finding; 7] = [
     },
 ];
 
+fn copy_all(alloc: Global, files: &[File], all: &mut Vec<NamedFile>) -> Result<(), Memory> {
+    for file in files {
+        copy_file(alloc, file.name, file.bytes, all)?;
+    }
+    Ok(())
+}
+
 // The files as the plain program takes them.
 fn copied(alloc: Global, files: &[File]) -> Result<Vec<NamedFile>, Memory> {
     let mut all = Vec::new(alloc);
-    for file in files {
-        all.push(NamedFile {
-            name: Body::copy(alloc, file.name.as_bytes())?,
-            bytes: Body::copy(alloc, file.bytes)?,
-        })?;
-    }
+    copy_all(alloc, files, &mut all)?;
     Ok(all)
 }
 
@@ -171,26 +175,29 @@ fn are(found: &Bodies, expected: &[&[u8]]) -> bool {
         return false;
     }
     for i in 0..expected.len() {
-        if found.get(i).bytes() != expected[i] {
+        if !same(found.get(i).bytes(), expected[i]) {
             return false;
         }
     }
     true
 }
 
+// Whether this is what the row says.
+fn is_found(found: &Found, row: &Finding) -> bool {
+    match found {
+        Found::Records(listing) => match row.bodies {
+            Some(bodies) => are(&listing.bodies, bodies) && listing.bad.as_slice() == row.bad,
+            None => false,
+        },
+        Found::BadMeta => row.bodies.is_none(),
+    }
+}
+
 // Whether the plain program finds what the row says.
 fn finds(alloc: Global, row: &Finding) -> Result<bool, Memory> {
     let files = copied(alloc, row.files)?;
-    match (
-        found_queue(alloc, files.as_slice(), row.queue, 26, row.limit)?,
-        row.bodies,
-    ) {
-        (Found::Records(listing), Some(bodies)) => {
-            Ok(are(&listing.bodies, bodies) && listing.bad.as_slice() == row.bad)
-        }
-        (Found::BadMeta, None) => Ok(true),
-        (Found::Records(_), None) | (Found::BadMeta, Some(_)) => Ok(false),
-    }
+    let found = found_queue(alloc, files.as_slice(), row.queue, 26, row.limit)?;
+    Ok(is_found(&found, row))
 }
 
 // What bytes are as a row of records.
@@ -217,15 +224,21 @@ static SPLITTINGS: [Splitting; 2] = [
     },
 ];
 
+// Whether this is what the row says.
+fn is_split(found: &Row, damage: Option<(usize, u32)>) -> bool {
+    match found {
+        Row::Whole(_) => damage.is_none(),
+        Row::Damaged { place, size } => match damage {
+            Some(damage) => *place == damage.0 && *size == damage.1,
+            None => false,
+        },
+    }
+}
+
 // Whether the bytes are what the row says. Its records have at most 60 bytes.
 fn splits(alloc: Global, row: &Splitting) -> Result<bool, Memory> {
-    Ok(
-        match (records_of(alloc, row.bytes, row.least, 60)?, row.damage) {
-            (Row::Whole(_bodies), None) => true,
-            (Row::Damaged { place, size }, Some(damage)) => place == damage.0 && size == damage.1,
-            (Row::Whole(_), Some(_)) | (Row::Damaged { .. }, None) => false,
-        },
-    )
+    let found = records_of(alloc, row.bytes, row.least, 60)?;
+    Ok(is_split(&found, row.damage))
 }
 
 // What a metadata text says.
@@ -361,16 +374,21 @@ static NAMINGS: [Naming; 6] = [
     },
 ];
 
+// What it is called.
+fn name_of(alloc: Global, named: Named) -> Result<String, Memory> {
+    match named {
+        Named::Data(queue, number) => file_names::data_file(alloc, queue, number),
+        Named::Metadata(queue) => file_names::meta_file(alloc, queue),
+        Named::Temporary(queue) => file_names::meta_temp(alloc, queue),
+        Named::Aside(file) => file_names::set_aside(alloc, file),
+        Named::Channel(topic, channel) => file_names::channel_queue(alloc, topic, channel),
+    }
+}
+
 // Whether the row's name is given.
 fn is_named(alloc: Global, row: &Naming) -> Result<bool, Memory> {
-    let name = match row.of {
-        Named::Data(queue, number) => file_names::data_file(alloc, queue, number)?,
-        Named::Metadata(queue) => file_names::meta_file(alloc, queue)?,
-        Named::Temporary(queue) => file_names::meta_temp(alloc, queue)?,
-        Named::Aside(file) => file_names::set_aside(alloc, file)?,
-        Named::Channel(topic, channel) => file_names::channel_queue(alloc, topic, channel)?,
-    };
-    Ok(name.as_str() == row.is)
+    let name = name_of(alloc, row.of)?;
+    Ok(same(name.as_bytes(), row.is.as_bytes()))
 }
 
 // The number of a file of the queue `t`.
@@ -417,29 +435,47 @@ fn call_laws() {
     laws::openings();
 }
 
-#[test]
-fn rows(rt: HostRuntime) -> Result<(), Fail> {
-    let alloc = rt.alloc();
+// The name of the first row of files, of records or of metadata that doesn't hold, if any.
+fn wrong_text(alloc: Global) -> Result<Option<&'static str>, Memory> {
     for row in &FINDINGS {
-        let holds = finds(alloc, row)?;
-        assert!(rt; holds, "{}", row.name);
+        if !finds(alloc, row)? {
+            return Ok(Some(row.name));
+        }
     }
     for row in &SPLITTINGS {
-        let holds = splits(alloc, row)?;
-        assert!(rt; holds, "{}", row.name);
+        if !splits(alloc, row)? {
+            return Ok(Some(row.name));
+        }
     }
     for row in &METAS {
-        let holds = says(row);
-        assert!(rt; holds, "{}", row.name);
+        if !says(row) {
+            return Ok(Some(row.name));
+        }
     }
+    Ok(None)
+}
+
+// The first row's name or file that doesn't hold, if any.
+fn wrong_name(alloc: Global) -> Result<Option<&'static str>, Memory> {
     for row in &NAMINGS {
-        let holds = is_named(alloc, row)?;
-        assert!(rt; holds, "{}", row.is);
+        if !is_named(alloc, row)? {
+            return Ok(Some(row.is));
+        }
     }
     for row in &NUMBERINGS {
-        let holds = is_numbered(alloc, row)?;
-        assert!(rt; holds, "{}", row.file);
+        if !is_numbered(alloc, row)? {
+            return Ok(Some(row.file));
+        }
     }
+    Ok(None)
+}
+
+#[test]
+fn rows(rt: HostRuntime) -> Result<(), Fail> {
+    let text = wrong_text(rt.alloc())?;
+    assert!(rt; text.is_none(), "{}", text.unwrap_or(""));
+    let name = wrong_name(rt.alloc())?;
+    assert!(rt; name.is_none(), "{}", name.unwrap_or(""));
     call_laws();
     Ok(())
 }

@@ -19,3 +19,9 @@ mod script;
 mod waiting;
 #[cfg(test)]
 mod writing;
+
+// Whether the bytes are the same.
+#[cfg(test)]
+pub(crate) fn same(one: &[u8], other: &[u8]) -> bool {
+    one == other
+}

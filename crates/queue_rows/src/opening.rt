@@ -1,10 +1,10 @@
 //! What an opening makes of a queue's files.
 
 use crate::plain::finds_short;
-use crate::script::{File, Look, Script, Step, folder_of, holds};
+use crate::script::{File, Look, Script, Step, folder_of};
 use disk_queue::{Open, Put, Queue, QueueOptions, Sync, Take};
 use nsq_base::{Bodies, Body, Memory};
-use nsq_fakes::{Failing, FolderCall};
+use nsq_fakes::{Failing, FolderCall, MemFolder};
 use std::alloc::Global;
 use std::test::Fail;
 
@@ -52,7 +52,8 @@ const DAMAGED: [File; 8] = [
     },
 ];
 
-static ROWS: [Script; 8] = [
+/// Scripts.
+pub const ROWS: &[Script] = &[
     Script {
         name: "the depth is not trusted",
         queue: "q",
@@ -336,36 +337,58 @@ fn answers(alloc: Global, row: &Meta) -> Result<bool, Memory> {
     })
 }
 
+// The same, as what functions name.
+static DAMAGED_FILES: [File; 8] = DAMAGED;
+
 // The records of the good ones between the positions.
 static LEFT: [&[u8]; 2] = [b"a", b"bc"];
 
-// Whether the plain program finds these before and after an opening of the damaged files in which one call fails, and after one behind
-// it that opens them.
+fn push_left(alloc: Global, left: &mut Bodies) -> Result<(), Memory> {
+    for bytes in &LEFT {
+        left.push(Body::copy(alloc, bytes)?)?;
+    }
+    Ok(())
+}
+
+// Whether an opening fails as the folder does.
+fn fails_to_open(alloc: Global, folder: &mut MemFolder) -> bool {
+    match Queue::open(alloc, folder, "q", OPTIONS) {
+        Err(Open::Fault) => true,
+        _ => false,
+    }
+}
+
+// Whether an opening finds two records.
+fn finds_two(alloc: Global, folder: &mut MemFolder) -> bool {
+    match Queue::open(alloc, folder, "q", OPTIONS) {
+        Ok(queue) => queue.depth() == 2,
+        Err(_) => false,
+    }
+}
+
+// Whether the plain program finds these before and after an opening of the files in which one call fails, and after one behind it
+// that opens them.
+fn is_found_again(alloc: Global, folder: &mut MemFolder, left: &Bodies) -> Result<bool, Memory> {
+    if !finds_short(alloc, folder, left)? || !fails_to_open(alloc, folder) {
+        return Ok(false);
+    }
+    if !finds_short(alloc, folder, left)? || !finds_two(alloc, folder) {
+        return Ok(false);
+    }
+    finds_short(alloc, folder, left)
+}
+
+// The same of the damaged files, where the call with that number fails.
 fn opens_again(alloc: Global, failing: u64) -> Result<bool, Memory> {
     let fails = [Failing {
         call: FolderCall::Any,
         from: failing,
         to: failing.saturating_add(1),
     }];
-    let mut folder = folder_of(alloc, &DAMAGED, &fails)?;
+    let mut folder = folder_of(alloc, &DAMAGED_FILES, &fails)?;
     let mut left = Bodies::new(alloc);
-    for bytes in LEFT {
-        left.push(Body::copy(alloc, bytes)?)?;
-    }
-    if !finds_short(alloc, &folder, &left)? {
-        return Ok(false);
-    }
-    match Queue::open(alloc, &mut folder, "q", OPTIONS) {
-        Err(Open::Fault) => {}
-        _ => return Ok(false),
-    }
-    if !finds_short(alloc, &folder, &left)? {
-        return Ok(false);
-    }
-    match Queue::open(alloc, &mut folder, "q", OPTIONS) {
-        Ok(queue) => Ok(queue.depth() == 2 && finds_short(alloc, &folder, &left)?),
-        Err(_) => Ok(false),
-    }
+    push_left(alloc, &mut left)?;
+    is_found_again(alloc, &mut folder, &left)
 }
 
 // How many calls the opening of the damaged files makes.
@@ -374,10 +397,6 @@ const CALLS: u64 = 20;
 #[test]
 fn rows(rt: HostRuntime) -> Result<(), Fail> {
     let alloc = rt.alloc();
-    for row in &ROWS {
-        let holds = holds(alloc, row)?;
-        assert!(rt; holds, "{}", row.name);
-    }
     for row in &METAS {
         let holds = answers(alloc, row)?;
         assert!(rt; holds, "{}", row.name);

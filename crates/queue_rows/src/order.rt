@@ -1,9 +1,12 @@
 //! The calls of the folder that each call of a queue makes, in their order.
 
+ghost use Rattle.std.specs.Prelude.{◌≡◌};
+
+use crate::same;
 use crate::script::{File, Look, ROLLING, Script, Step, all_are, folder_of, plays, step_holds};
 use disk_queue::{Emptied, Peek, Put, Queue, QueueOptions, Sync, Take};
 use nsq_base::Memory;
-use nsq_fakes::{Called, Failing, FolderCall};
+use nsq_fakes::{Called, Failing, FolderCall, MemFolder};
 use nsq_outside::Did;
 use std::alloc::Global;
 use std::test::Fail;
@@ -518,14 +521,27 @@ fn holds(alloc: Global, row: &Row) -> Result<bool, Memory> {
     let script = &row.script;
     let mut folder = folder_of(alloc, script.files, script.fails)?;
     let mut queue = Queue::fresh(alloc, script.queue, script.options)?;
-    if !plays(alloc, &mut queue, &mut folder, script)? {
+    calls(alloc, &mut queue, &mut folder, script, row)
+}
+
+fn calls(
+    alloc: Global,
+    queue: &mut Queue,
+    folder: &mut MemFolder,
+    script: &Script,
+    row: &Row,
+) -> Result<bool, Memory>
+    requires options { queue.old.options ≡ script.now.options }
+    requires none { queue.old.staged.count ≡ 0 }
+{
+    if !plays(alloc, queue, folder, script)? {
         return Ok(false);
     }
     let before = folder.called().len();
-    if !step_holds(alloc, &mut queue, &mut folder, script, row.step)? {
+    if !step_holds(alloc, queue, folder, script, row.step)? {
         return Ok(false);
     }
-    Ok(are_behind(folder.called(), before, row.calls) && all_are(&folder, script.left))
+    Ok(are_behind(folder.called(), before, row.calls) && all_are(folder, script.left))
 }
 
 // Whether behind the first so many calls that were made these stand, and no other.
@@ -534,8 +550,8 @@ fn are_behind(called: &[Called], before: usize, calls: &[Call]) -> bool {
     if made.len() != calls.len() {
         return false;
     }
-    for (called, call) in made.iter().zip(calls) {
-        if !is(called, *call) {
+    for (i, call) in calls.iter().enumerate() {
+        if i >= made.len() || !is(&made[i], *call) {
             return false;
         }
     }
@@ -545,7 +561,9 @@ fn are_behind(called: &[Called], before: usize, calls: &[Call]) -> bool {
 // Whether this call was made.
 fn is(called: &Called, call: Call) -> bool {
     let (method, name, to) = call;
-    called.call == method && called.name.as_str() == name && called.to.as_str() == to
+    called.call == method
+        && same(called.name.as_bytes(), name.as_bytes())
+        && same(called.to.as_bytes(), to.as_bytes())
 }
 
 #[test]

@@ -1,5 +1,6 @@
 //! What the plain program finds of the queue `q` in a folder in memory. It judges rows whose files aren't written out.
 
+use crate::same;
 use nsq_base::{Bodies, Body, Memory};
 use nsq_fakes::MemFolder;
 use queue_plain::{Found, NamedFile, found_queue};
@@ -39,7 +40,7 @@ fn same_bodies(found: &Bodies, expected: &Bodies) -> bool {
         return false;
     }
     for i in 0..expected.count() {
-        if found.get(i).bytes() != expected.get(i).bytes() {
+        if !same(found.get(i).bytes(), expected.get(i).bytes()) {
             return false;
         }
     }
@@ -48,24 +49,29 @@ fn same_bodies(found: &Bodies, expected: &Bodies) -> bool {
 
 fn found(alloc: Global, folder: &MemFolder, least: u32) -> Result<Found, Memory> {
     let mut files = Vec::new(alloc);
-    for name in FILES {
-        copy_file(alloc, folder, name, &mut files)?;
-    }
+    copy_files(alloc, folder, &mut files)?;
     found_queue(alloc, files.as_slice(), "q", least, 60)
 }
 
-// Copies a file of the folder, if it is there.
-fn copy_file(
+// Copies the files that are there.
+fn copy_files(alloc: Global, folder: &MemFolder, files: &mut Vec<NamedFile>) -> Result<(), Memory> {
+    for name in &FILES {
+        if let Some(bytes) = folder.file(name) {
+            copy_file(alloc, name, bytes, files)?;
+        }
+    }
+    Ok(())
+}
+
+/// Puts a copy of a file behind these.
+pub fn copy_file(
     alloc: Global,
-    folder: &MemFolder,
     name: &str,
+    bytes: &[u8],
     files: &mut Vec<NamedFile>,
 ) -> Result<(), Memory> {
-    if let Some(bytes) = folder.file(name) {
-        files.push(NamedFile {
-            name: Body::copy(alloc, name.as_bytes())?,
-            bytes: Body::copy(alloc, bytes)?,
-        })?;
-    }
+    let name = Body::copy(alloc, name.as_bytes())?;
+    let bytes = Body::copy(alloc, bytes)?;
+    files.push(NamedFile { name, bytes })?;
     Ok(())
 }

@@ -1,11 +1,11 @@
 //! Reading, emptying and deleting.
 
-use crate::script::{Look, ROLLING, Script, Step, holds};
+use crate::script::{Look, ROLLING, Script, Step};
 use disk_queue::{Emptied, Peek, Put, Sync, Take};
 use nsq_fakes::{Failing, FolderCall};
-use std::test::Fail;
 
-static ROWS: [Script; 6] = [
+/// Scripts.
+pub const ROWS: &[Script] = &[
     Script {
         name: "three are taken",
         queue: "q",
@@ -135,12 +135,3 @@ static ROWS: [Script; 6] = [
         ],
     },
 ];
-
-#[test]
-fn rows(rt: HostRuntime) -> Result<(), Fail> {
-    for row in &ROWS {
-        let holds = holds(rt.alloc(), row)?;
-        assert!(rt; holds, "{}", row.name);
-    }
-    Ok(())
-}

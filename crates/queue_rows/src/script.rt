@@ -2,6 +2,7 @@
 
 ghost use Rattle.std.specs.Prelude.{◌≡◌, OnOk};
 
+use crate::{opening, reading, writing};
 use disk_queue::{
     Deleted, Emptied, Open, Peek, Put, Queue, QueueOptions, Stage, Sync, Take, replace_file,
 };
@@ -9,6 +10,7 @@ use nsq_base::Memory;
 use nsq_fakes::{Failing, MemFolder};
 use nsq_outside::{Did, Folder};
 use std::alloc::Global;
+use std::test::Fail;
 
 /// Records of 26 to 60 bytes, of which two of 40 fit into a file.
 pub const ROLLING: QueueOptions = QueueOptions {
@@ -91,15 +93,19 @@ pub fn holds(alloc: Global, script: &Script) -> Result<bool, Memory> {
     Ok(plays(alloc, &mut queue, &mut folder, script)? && all_are(&folder, script.left))
 }
 
+fn push_all(alloc: Global, files: &[File], all: &mut Vec<(String, Vec<u8>)>) -> Result<(), Memory> {
+    for file in files {
+        let name = String::from_str(alloc, file.name)?;
+        let bytes = file.bytes.to_vec(alloc)?;
+        all.push((name, bytes))?;
+    }
+    Ok(())
+}
+
 /// A folder with these files, of which these calls fail.
 pub fn folder_of(alloc: Global, files: &[File], fails: &[Failing]) -> Result<MemFolder, Memory> {
     let mut all = Vec::new(alloc);
-    for file in files {
-        all.push((
-            String::from_str(alloc, file.name)?,
-            file.bytes.to_vec(alloc)?,
-        ))?;
-    }
+    push_all(alloc, files, &mut all)?;
     MemFolder::new(alloc, all, fails.to_vec(alloc)?)
 }
 
@@ -343,9 +349,18 @@ pub fn is(folder: &MemFolder, look: Look) -> bool {
 // Whether the bytes are these and then so many of that value.
 fn is_filled(bytes: &[u8], head: &[u8], byte: u8, times: usize) -> bool {
     match bytes.strip_prefix(head) {
-        Some(rest) => rest.len() == times && rest.iter().all(|b| *b == byte),
+        Some(rest) => rest.len() == times && are_all(rest, byte),
         None => false,
     }
+}
+
+fn are_all(bytes: &[u8], byte: u8) -> bool {
+    for each in bytes {
+        if *each != byte {
+            return false;
+        }
+    }
+    true
 }
 
 // Whether the bytes are these pieces, one behind the other.
@@ -358,4 +373,17 @@ fn is_made_of(bytes: &[u8], pieces: &[&[u8]]) -> bool {
         }
     }
     rest.is_empty()
+}
+
+static TABLES: [&[Script]; 3] = [writing::ROWS, reading::ROWS, opening::ROWS];
+
+#[test]
+fn rows(rt: HostRuntime) -> Result<(), Fail> {
+    for table in &TABLES {
+        for row in *table {
+            let holds = holds(rt.alloc(), row)?;
+            assert!(rt; holds, "{}", row.name);
+        }
+    }
+    Ok(())
 }

@@ -4,6 +4,7 @@ ghost use Rattle.std.specs.Prelude.{◌≡◌, ◌≤◌, All, length, IfOk, OnO
 ghost use Rattle.backlog.specs.declared.backlog.Lent.TheVariants.{Nothing};
 ghost use Rattle.backlog.specs.Seen.{SameQueue, FitsLimit};
 
+use crate::same;
 use backlog::{Backlog, Depths, Drawn, Flushed, Gone, PutAll, PutOne};
 use disk_queue::{Emptied, Open, QueueOptions, Sync};
 use nsq_base::{Body, Memory, MsgId};
@@ -247,8 +248,8 @@ fn step_holds(
         Step::PutAll(letters, answer, left) => {
             Ok(put_all(alloc, backlog, folder, scratch, letters)? == (answer, left))
         }
-        Step::Take(told) => Ok(take(backlog, folder, scratch) == told),
-        Step::Undo(told) => Ok(undo_and_take(backlog, folder, scratch) == told),
+        Step::Take(told) => Ok(are_told(take(backlog, folder, scratch), told)),
+        Step::Undo(told) => Ok(are_told(undo_and_take(backlog, folder, scratch), told)),
         Step::Depths(ring, disk) => Ok(backlog.depths() == Depths { ring, disk }),
         Step::Sync(answer) => Ok(backlog.sync(folder) == answer),
         Step::Empty(answer) => Ok(backlog.empty(folder) == answer),
@@ -293,10 +294,17 @@ fn put(
         PutOne::Kept => Fate::Kept,
         PutOne::Dropped => Fate::Dropped,
         PutOne::Spilled => Fate::Spilled,
-        PutOne::Fault(message)
-            if message.delay == 5 && message.body.bytes() == [letter].as_slice() => { Fate::Back }
-        PutOne::Fault(_message) => Fate::Other,
+        PutOne::Fault(message) => came_back(&message, letter),
     })
+}
+
+// What becomes of a message that comes back.
+fn came_back(message: &Message, letter: u8) -> Fate {
+    if message.delay == 5 && same(message.body.bytes(), &[letter]) {
+        Fate::Back
+    } else {
+        Fate::Other
+    }
 }
 
 // The answer, and how many are left.
@@ -325,6 +333,10 @@ fn all_of(alloc: Global, letters: &[u8]) -> Result<Vec<Message>, Memory>
         messages.push(message(alloc, *letter)?)?;
     }
     Ok(messages)
+}
+
+fn are_told(told: Option<(u8, u64)>, want: Option<(u8, u64)>) -> bool {
+    told == want
 }
 
 // The letter and the delay of the message that is drawn.

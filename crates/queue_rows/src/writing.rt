@@ -1,10 +1,9 @@
 //! Writing and saving.
 
-use crate::script::{File, Look, ROLLING, Script, Step, holds};
+use crate::script::{File, Look, ROLLING, Script, Step};
 use disk_queue::{Put, QueueOptions, Sync};
 use nsq_fakes::{Failing, FolderCall};
 use nsq_outside::Did;
-use std::test::Fail;
 
 // Any records up to 6,000 bytes.
 const WIDE: QueueOptions = QueueOptions {
@@ -14,7 +13,8 @@ const WIDE: QueueOptions = QueueOptions {
     limit: 6000,
 };
 
-static ROWS: [Script; 13] = [
+/// Scripts.
+pub const ROWS: &[Script] = &[
     Script {
         name: "three records in two files",
         queue: "q",
@@ -251,12 +251,3 @@ static ROWS: [Script; 13] = [
         left: &[],
     },
 ];
-
-#[test]
-fn rows(rt: HostRuntime) -> Result<(), Fail> {
-    for row in &ROWS {
-        let holds = holds(rt.alloc(), row)?;
-        assert!(rt; holds, "{}", row.name);
-    }
-    Ok(())
-}

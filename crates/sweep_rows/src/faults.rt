@@ -2,7 +2,7 @@
 
 use crate::folder::{File, Look, all_are, calls_are, folder_of, sweeps};
 use nsq_base::Memory;
-use nsq_fakes::{Failing, FolderCall};
+use nsq_fakes::{Failing, FolderCall, MemFolder};
 use queue_sweep::Unswept;
 use std::alloc::Global;
 use std::test::Fail;
@@ -89,6 +89,9 @@ const SWEPT: [Look; 5] = [
     Look::Has("t.diskqueue.meta.dat", b"listed"),
 ];
 
+// The same, as what functions name.
+static SWEPT_FILES: [Look; 5] = SWEPT;
+
 // Whether the sweep leaves that, and another one the rest.
 fn holds(alloc: Global, fault: &Fault) -> Result<bool, Memory> {
     let fails = [Failing {
@@ -97,14 +100,18 @@ fn holds(alloc: Global, fault: &Fault) -> Result<bool, Memory> {
         to: fault.number.saturating_add(1),
     }];
     let mut folder = folder_of(alloc, &FILES, &fails)?;
-    if !sweeps(alloc, &mut folder, Some(Unswept::Fault))? {
+    sweeps_twice(alloc, &mut folder, fault)
+}
+
+fn sweeps_twice(alloc: Global, folder: &mut MemFolder, fault: &Fault) -> Result<bool, Memory> {
+    if !sweeps(alloc, folder, Some(Unswept::Fault))? {
         return Ok(false);
     }
-    if !calls_are(&folder, fault.calls) || !all_are(&folder, fault.left) {
+    if !calls_are(folder, fault.calls) || !all_are(folder, fault.left) {
         return Ok(false);
     }
-    let again = sweeps(alloc, &mut folder, None)?;
-    Ok(again && all_are(&folder, &SWEPT))
+    let again = sweeps(alloc, folder, None)?;
+    Ok(again && all_are(folder, &SWEPT_FILES))
 }
 
 #[test]

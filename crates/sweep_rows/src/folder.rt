@@ -66,13 +66,17 @@ pub fn sweeps(
 /// A folder with these files, of which these calls fail.
 pub fn folder_of(alloc: Global, files: &[File], fails: &[Failing]) -> Result<MemFolder, Memory> {
     let mut all = Vec::new(alloc);
-    for file in files {
-        all.push((
-            String::from_str(alloc, file.name)?,
-            file.bytes.to_vec(alloc)?,
-        ))?;
-    }
+    push_all(alloc, files, &mut all)?;
     MemFolder::new(alloc, all, fails.to_vec(alloc)?)
+}
+
+fn push_all(alloc: Global, files: &[File], all: &mut Vec<(String, Vec<u8>)>) -> Result<(), Memory> {
+    for file in files {
+        let name = String::from_str(alloc, file.name)?;
+        let bytes = file.bytes.to_vec(alloc)?;
+        all.push((name, bytes))?;
+    }
+    Ok(())
 }
 
 /// Whether these calls were made, in this order, and no other.
@@ -81,8 +85,8 @@ pub fn calls_are(folder: &MemFolder, calls: &[FolderCall]) -> bool {
     if called.len() != calls.len() {
         return false;
     }
-    for (made, call) in called.iter().zip(calls) {
-        if made.call != *call {
+    for (i, call) in calls.iter().enumerate() {
+        if i >= called.len() || called[i].call != *call {
             return false;
         }
     }

@@ -59,9 +59,9 @@ static OTHERS: [&str; 20] = [
 
 // A folder with that file alone, and whether a sweep answers well there.
 fn is_set_aside(alloc: Global, name: &'static str) -> Result<bool, Memory> {
+    let aside = format!(in alloc; "{name}.bad")?;
     let mut folder = folder_of(alloc, &[File { name, bytes: b"x" }], &[])?;
     let answered = sweeps(alloc, &mut folder, None)?;
-    let aside = format!(in alloc; "{name}.bad")?;
     Ok(
         answered
             && calls_are(&folder, ONE_MOVED)
@@ -77,20 +77,35 @@ fn stays(alloc: Global, name: &'static str) -> Result<bool, Memory> {
     Ok(answered && calls_are(&folder, NONE_MOVED) && has(&folder, name, b"x"))
 }
 
+// The first of these files that doesn't stay.
+fn first_gone(
+    alloc: Global,
+    names: &'static [&'static str],
+) -> Result<Option<&'static str>, Memory> {
+    for name in names {
+        if !stays(alloc, name)? {
+            return Ok(Some(*name));
+        }
+    }
+    Ok(None)
+}
+
+// The first of the files that isn't set aside, or doesn't stay, as it should.
+fn wrong(alloc: Global) -> Result<Option<&'static str>, Memory> {
+    for name in &MOVED {
+        if !is_set_aside(alloc, name)? {
+            return Ok(Some(*name));
+        }
+    }
+    match first_gone(alloc, &LISTED)? {
+        Some(name) => Ok(Some(name)),
+        None => first_gone(alloc, &OTHERS),
+    }
+}
+
 #[test]
 fn forms(rt: HostRuntime) -> Result<(), Fail> {
-    let alloc = rt.alloc();
-    for name in &MOVED {
-        let holds = is_set_aside(alloc, name)?;
-        assert!(rt; holds, "{name} is set aside");
-    }
-    for name in &LISTED {
-        let holds = stays(alloc, name)?;
-        assert!(rt; holds, "{name} is listed");
-    }
-    for name in &OTHERS {
-        let holds = stays(alloc, name)?;
-        assert!(rt; holds, "{name} is no queue's");
-    }
+    let wrong = wrong(rt.alloc())?;
+    assert!(rt; wrong.is_none(), "{}", wrong.unwrap_or(""));
     Ok(())
 }

@@ -4,6 +4,7 @@ ghost use Rattle.std.specs.Prelude.{◌≡◌, All, length, IfOk};
 ghost use Rattle.backlog.specs.Seen.{FitsLimit};
 ghost use Rattle.topic_core.specs.Seen.{IsSettled};
 
+use crate::same;
 use backlog::{Depths, Flushed, PutAll};
 use disk_queue::{Emptied, Open, Sync};
 use nsq_base::{Body, Chan, Memory, MsgId, Options, Topic};
@@ -53,11 +54,13 @@ impl Bench {
         memory: u64,
         fails: &[Failing],
     ) -> Result<Bench, Memory> {
+        let folder = MemFolder::new(alloc, Vec::new(alloc), fails.to_vec(alloc)?)?;
         let mut options = Options::defaults(alloc)?;
         options.mem_queue_size = memory;
+        let topic = TopicQueue::fresh(alloc, name, &options)?;
         Ok(Bench {
-            topic: TopicQueue::fresh(alloc, name, &options)?,
-            folder: MemFolder::new(alloc, Vec::new(alloc), fails.to_vec(alloc)?)?,
+            topic,
+            folder,
             options,
         })
     }
@@ -176,8 +179,8 @@ impl Bench {
         if owed.len() != letters.len() {
             return false;
         }
-        for (channel, letter) in owed.iter().zip(letters) {
-            if channel.bytes() != [*letter].as_slice() {
+        for (i, letter) in letters.iter().enumerate() {
+            if i >= owed.len() || !same(owed[i].bytes(), &[*letter]) {
                 return false;
             }
         }

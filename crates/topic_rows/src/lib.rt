@@ -13,3 +13,9 @@ mod random;
 mod script;
 #[cfg(test)]
 mod wanting;
+
+// Whether the bytes are the same.
+#[cfg(test)]
+pub(crate) fn same(one: &[u8], other: &[u8]) -> bool {
+    one == other
+}

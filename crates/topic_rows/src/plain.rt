@@ -1,5 +1,6 @@
 //! A topic as a plain list of what waits in it, by the rules of the floor alone.
 
+use crate::bench::delay_of;
 use nsq_base::Memory;
 use std::alloc::Global;
 
@@ -47,6 +48,14 @@ impl Plain {
         };
         self.waiting.push(waiting)?;
         self.count = self.count.saturating_add(1);
+        Ok(())
+    }
+
+    /// Puts messages in, each with the delay of its number.
+    pub fn put_all(&mut self, numbers: &[u64]) -> Result<(), Memory> {
+        for number in numbers {
+            self.put(*number, delay_of(*number))?;
+        }
         Ok(())
     }
 

@@ -2,7 +2,7 @@
 
 ghost use Rattle.std.specs.Prelude.{◌≤◌};
 
-use crate::bench::{Bench, Scratch, delay_of};
+use crate::bench::{Bench, Scratch};
 use crate::plain::Plain;
 use crate::script::is_opened;
 use backlog::{Flushed, PutAll};
@@ -79,21 +79,52 @@ struct Pair {
     state: u64,
 }
 
-impl Pair {
-    // The next random number below this one.
-    fn below(&mut self, bound: u64) -> u64
-        requires { 1 ≤ bound }
-    {
-        self.state = self
-            .state
-            .wrapping_mul(6_364_136_223_846_793_005)
-            .wrapping_add(1_442_695_040_888_963_407);
-        (self.state >> 33) % bound
-    }
+// The next random number below this one.
+fn below(state: &mut u64, bound: u64) -> u64
+    requires { 1 ≤ bound }
+{
+    *state = state
+        .wrapping_mul(6_364_136_223_846_793_005)
+        .wrapping_add(1_442_695_040_888_963_407);
+    (*state >> 33) % bound
+}
 
+// One of the channels.
+fn letter(state: &mut u64) -> u8 {
+    match below(state, 3) {
+        0 => b'a',
+        1 => b'b',
+        _ => b'c',
+    }
+}
+
+// Some of the channels, at least one.
+fn letters(state: &mut u64) -> &'static [u8] {
+    match below(state, 7) {
+        0 => b"a",
+        1 => b"b",
+        2 => b"c",
+        3 => b"ab",
+        4 => b"ac",
+        5 => b"bc",
+        _ => b"abc",
+    }
+}
+
+// So many numbers from the next one on.
+fn numbers(alloc: Global, count: u64, next: &mut u64) -> Result<Vec<u64>, Memory> {
+    let mut numbers = Vec::new(alloc);
+    for _ in 0..count {
+        numbers.push(*next)?;
+        *next = next.wrapping_add(1);
+    }
+    Ok(numbers)
+}
+
+impl Pair {
     // One random call. Whether it answers what the list says, and shows that afterwards.
     fn step(&mut self, alloc: Global, scratch: &mut Scratch) -> Result<bool, Memory> {
-        let right = match self.below(32) {
+        let right = match below(&mut self.state, 32) {
             0..=11 => self.put(alloc, scratch)?,
             12..=17 => self.take(alloc, scratch)?,
             18..=19 => self.undo(alloc, scratch)?,
@@ -107,16 +138,11 @@ impl Pair {
 
     // Up to three messages are put.
     fn put(&mut self, alloc: Global, scratch: &mut Scratch) -> Result<bool, Memory> {
-        let mut numbers = Vec::new(alloc);
-        for _ in 0..self.below(4) {
-            numbers.push(self.next)?;
-            self.next = self.next.wrapping_add(1);
-        }
+        let count = below(&mut self.state, 4);
+        let numbers = numbers(alloc, count, &mut self.next)?;
         match self.bench.put(alloc, scratch, &numbers)? {
             (PutAll::Done, left) => {
-                for number in &numbers {
-                    self.plain.put(*number, delay_of(*number))?;
-                }
+                self.plain.put_all(&numbers)?;
                 Ok(left == 0)
             }
             (PutAll::Fault, left) => Ok(self.fails && left == numbers.len()),
@@ -125,7 +151,7 @@ impl Pair {
 
     // A message is taken, where none is.
     fn take(&mut self, alloc: Global, scratch: &mut Scratch) -> Result<bool, Memory> {
-        let letters = self.letters();
+        let letters = letters(&mut self.state);
         match self.bench.take(alloc, scratch, letters, true)? {
             Some(Head::Ready) => self.took(letters),
             other => self.draws(other),
@@ -143,7 +169,7 @@ impl Pair {
 
     // A message is drawn, where none is taken, and put back.
     fn undo(&mut self, alloc: Global, scratch: &mut Scratch) -> Result<bool, Memory> {
-        let letters = self.letters();
+        let letters = letters(&mut self.state);
         let answer = self.bench.take(alloc, scratch, letters, false)?;
         self.draws(answer)
     }
@@ -163,7 +189,7 @@ impl Pair {
 
     // A channel is paid, where it is owed a copy.
     fn pay(&mut self) -> bool {
-        let letter = self.letter();
+        let letter = letter(&mut self.state);
         let owed = self.plain.owed.contains(&letter);
         if owed {
             self.plain.pay(letter);
@@ -173,7 +199,7 @@ impl Pair {
 
     // A channel is gone.
     fn forget(&mut self) -> bool {
-        let letter = self.letter();
+        let letter = letter(&mut self.state);
         self.plain.pay(letter);
         self.bench.forget(letter)
     }
@@ -212,28 +238,6 @@ impl Pair {
         Ok(false)
     }
 
-    // One of the channels.
-    fn letter(&mut self) -> u8 {
-        match self.below(3) {
-            0 => b'a',
-            1 => b'b',
-            _ => b'c',
-        }
-    }
-
-    // Some of the channels, at least one.
-    fn letters(&mut self) -> &'static [u8] {
-        match self.below(7) {
-            0 => b"a",
-            1 => b"b",
-            2 => b"c",
-            3 => b"ab",
-            4 => b"ac",
-            5 => b"bc",
-            _ => b"abc",
-        }
-    }
-
     // Whether the topic's queue shows what the list says.
     fn agrees(&self) -> bool {
         let depths = self.bench.topic.depths();
@@ -257,6 +261,10 @@ fn holds(alloc: Global, scratch: &mut Scratch, run: &Run) -> Result<bool, Memory
         next: 0,
         state: run.seed,
     };
+    all_are_right(alloc, scratch, &mut pair)
+}
+
+fn all_are_right(alloc: Global, scratch: &mut Scratch, pair: &mut Pair) -> Result<bool, Memory> {
     for _ in 0..CALLS {
         if !pair.step(alloc, scratch)? {
             return Ok(false);

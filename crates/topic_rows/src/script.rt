@@ -60,7 +60,7 @@ const WRITE_FAILS: Failing = Failing {
 };
 
 // Taking and paying.
-static TAKING: [Script; 3] = [
+const TAKING: &[Script] = &[
     Script {
         name: "a message is taken and paid in any order",
         topic: b"t",
@@ -130,7 +130,7 @@ static TAKING: [Script; 3] = [
 ];
 
 // What a fault and an emptying leave.
-static FAILING: [Script; 3] = [
+const FAILING: &[Script] = &[
     Script {
         name: "a fault of the disk takes no message",
         topic: b"t",
@@ -193,7 +193,7 @@ static FAILING: [Script; 3] = [
 ];
 
 // Topics without memory, and ephemeral ones.
-static BOUNDS: [Script; 3] = [
+const BOUNDS: &[Script] = &[
     Script {
         name: "without memory all go by the disk",
         topic: b"t",
@@ -254,7 +254,7 @@ static BOUNDS: [Script; 3] = [
 ];
 
 // What a stop and a deletion leave.
-static STOPPING: [Script; 4] = [
+const STOPPING: &[Script] = &[
     Script {
         name: "a stop writes the head back",
         topic: b"t",
@@ -336,12 +336,21 @@ fn holds(alloc: Global, scratch: &mut Scratch, script: &Script) -> Result<bool, 
         return Ok(false);
     };
     let mut bench = Bench::new(alloc, name, script.memory, script.fails)?;
-    for step in script.steps {
-        if !step_holds(alloc, &mut bench, scratch, *step)? {
+    Ok(all_hold(alloc, &mut bench, scratch, script.steps)? && bench.topic.name() == name)
+}
+
+fn all_hold(
+    alloc: Global,
+    bench: &mut Bench,
+    scratch: &mut Scratch,
+    steps: &[Step],
+) -> Result<bool, Memory> {
+    for step in steps {
+        if !step_holds(alloc, bench, scratch, *step)? {
             return Ok(false);
         }
     }
-    Ok(bench.topic.name() == name)
+    Ok(true)
 }
 
 // Whether a step answers what it says.
@@ -352,16 +361,9 @@ fn step_holds(
     step: Step,
 ) -> Result<bool, Memory> {
     match step {
-        Step::Put(letters, answer, left) => {
-            let numbers = numbers_of(alloc, letters)?;
-            Ok(bench.put(alloc, scratch, &numbers)? == (answer, left))
-        }
-        Step::Take(channels, answer) => {
-            Ok(bench.take(alloc, scratch, channels, true)? == Some(answer))
-        }
-        Step::Undo(channels, answer) => {
-            Ok(bench.take(alloc, scratch, channels, false)? == Some(answer))
-        }
+        Step::Put(letters, answer, left) => puts(alloc, bench, scratch, letters, (answer, left)),
+        Step::Take(channels, answer) => takes(alloc, bench, scratch, channels, true, answer),
+        Step::Undo(channels, answer) => takes(alloc, bench, scratch, channels, false, answer),
         Step::Is(told) => Ok(is_head(bench, told)),
         Step::Owes(channels) => Ok(bench.owes(channels)),
         Step::Pay(channel) => Ok(bench.pay(channel)),
@@ -382,14 +384,38 @@ fn step_holds(
     }
 }
 
+// Whether the messages of these letters are put so.
+fn puts(
+    alloc: Global,
+    bench: &mut Bench,
+    scratch: &mut Scratch,
+    letters: &[u8],
+    answer: (PutAll, usize),
+) -> Result<bool, Memory> {
+    let numbers = numbers_of(alloc, letters)?;
+    Ok(bench.put(alloc, scratch, &numbers)? == answer)
+}
+
+// Whether a message is taken so, or put back.
+fn takes(
+    alloc: Global,
+    bench: &mut Bench,
+    scratch: &mut Scratch,
+    channels: &[u8],
+    keeps: bool,
+    answer: Head,
+) -> Result<bool, Memory> {
+    Ok(bench.take(alloc, scratch, channels, keeps)? == Some(answer))
+}
+
 // Whether the head has this letter and this delay.
 fn is_head(bench: &Bench, told: Option<(u8, u64)>) -> bool {
-    match (bench.head(), told) {
-        (Some((number, delay)), Some((letter, wanted))) => {
-            number == u64::from(letter) && delay == wanted
-        }
-        (None, None) => true,
-        (Some(_), None) | (None, Some(_)) => false,
+    match bench.head() {
+        Some((number, delay)) => match told {
+            Some((letter, wanted)) => number == u64::from(letter) && delay == wanted,
+            None => false,
+        },
+        None => told.is_none(),
     }
 }
 
@@ -411,11 +437,12 @@ fn numbers_of(alloc: Global, letters: &[u8]) -> Result<Vec<u64>, Memory> {
     Ok(numbers)
 }
 
+static TABLES: [&[Script]; 4] = [TAKING, FAILING, BOUNDS, STOPPING];
+
 /// The name of the first row that doesn't hold.
 pub fn wrong(alloc: Global, scratch: &mut Scratch) -> Result<Option<&'static str>, Memory> {
-    let tables: [&'static [Script]; 4] = [&TAKING, &FAILING, &BOUNDS, &STOPPING];
-    for table in tables {
-        for row in table {
+    for table in &TABLES {
+        for row in *table {
             if !holds(alloc, scratch, row)? {
                 return Ok(Some(row.name));
             }

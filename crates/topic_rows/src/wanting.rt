@@ -4,6 +4,7 @@
 //! keep its calls. So the rows hold too where one allocation fails, whichever it is: `rt try --test --fail-alloc N`.
 
 use crate::bench::{Bench, Scratch};
+use crate::same;
 use backlog::{Depths, Flushed, PutAll};
 use disk_queue::Open;
 use nsq_base::{Memory, Topic};
@@ -108,6 +109,11 @@ fn file<'a>(folder: &'a MemFolder, name: &str) -> &'a [u8] {
     folder.file(name).unwrap_or(b"")
 }
 
+// Whether the files of the topic `t` have these bytes.
+fn is_image(alloc: Global, folder: &MemFolder, bytes: &[u8]) -> Result<bool, Memory> {
+    Ok(same(&image(alloc, folder)?, bytes))
+}
+
 // Whether a ring that no memory has room for is refused, and the files are as they were.
 fn is_refused(alloc: Global, bench: &mut Bench) -> Result<bool, Memory> {
     if Bench::new(alloc, bench.topic.name(), BEYOND, &[]).is_ok() {
@@ -119,7 +125,7 @@ fn is_refused(alloc: Global, bench: &mut Bench) -> Result<bool, Memory> {
     let opened = bench.open(alloc);
     bench.options.mem_queue_size = memory;
     match opened {
-        Err(Open::Memory) => Ok(image(alloc, &bench.folder)?.as_slice() == before.as_slice()),
+        Err(Open::Memory) => is_image(alloc, &bench.folder, &before),
         Err(Open::Fault | Open::BadMeta) | Ok(()) => Ok(false),
     }
 }
@@ -130,7 +136,7 @@ fn reopens(alloc: Global, bench: &mut Bench, left: u128) -> Result<bool, Memory>
     match bench.open(alloc) {
         Ok(()) => return Ok(has_on_disk(bench, left)),
         Err(Open::Memory) => {
-            if image(alloc, &bench.folder)?.as_slice() != before.as_slice() {
+            if !is_image(alloc, &bench.folder, &before)? {
                 return Ok(false);
             }
         }
@@ -155,13 +161,22 @@ fn holds(alloc: Global, scratch: &mut Scratch, row: &Row) -> Result<bool, Memory
         return Ok(false);
     };
     let mut bench = Bench::new(alloc, name, row.memory, &[])?;
-    if !puts(alloc, &mut bench, scratch, row.numbers)? || bench.topic.depths() != row.waits {
+    all_succeed(alloc, &mut bench, scratch, row)
+}
+
+fn all_succeed(
+    alloc: Global,
+    bench: &mut Bench,
+    scratch: &mut Scratch,
+    row: &Row,
+) -> Result<bool, Memory> {
+    if !puts(alloc, bench, scratch, row.numbers)? || bench.topic.depths() != row.waits {
         return Ok(false);
     }
-    if !takes(alloc, &mut bench, scratch)? || !flushes(&mut bench, scratch) {
+    if !takes(alloc, bench, scratch)? || !flushes(bench, scratch) {
         return Ok(false);
     }
-    Ok(is_refused(alloc, &mut bench)? && reopens(alloc, &mut bench, row.left)?)
+    Ok(is_refused(alloc, bench)? && reopens(alloc, bench, row.left)?)
 }
 
 // The name of the first row that doesn't hold. One that ends for want of memory begins once more.

@@ -3,7 +3,7 @@ ghost use Rattle.std.specs.Prelude.{◌≡◌, ◌<◌, [], ◌∷◌, OnOk};
 ghost use Rattle.turnstile.specs.Passes.{number, own_of};
 ghost use Rattle.turnstile_rows.specs.Keeps.{KeepsNumbers, IsReady};
 
-use crate::pairs::{Pairs, append};
+use crate::pairs::{Pairs, append, same};
 use crate::scripts::made;
 use std::alloc::{AllocError, Global};
 use std::sync::Wait;
@@ -65,7 +65,7 @@ fn holds<R: Wait>(rt: &R, alloc: Global, row: &Row) -> Result<bool, AllocError> 
     turnstile.join(&mut first, one);
     turnstile.join(&mut first, two);
     let ended = turnstile.close(first);
-    Ok(ended.list.as_slice() == row.ends)
+    Ok(same(&ended.list, row.ends))
 }
 
 #[test]

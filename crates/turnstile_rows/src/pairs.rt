@@ -39,3 +39,8 @@ pub fn append(pairs: &mut Pairs, adds: &[(u64, u64)]) -> Result<(), AllocError>
 {
     pairs.list.extend_from_slice(adds)
 }
+
+/// Whether the entries are the same.
+pub fn same(one: &[(u64, u64)], other: &[(u64, u64)]) -> bool {
+    one == other
+}

@@ -3,7 +3,7 @@ ghost use Rattle.std.specs.Prelude.{◌≡◌, ◌⊎◌, IsTrue, All, IfOk};
 ghost use Rattle.turnstile.specs.Passes.{number};
 ghost use Rattle.turnstile_rows.specs.Keeps.{KeepsNumbers, IsReady, IsUnsplit};
 
-use crate::pairs::{Pairs, append};
+use crate::pairs::{Pairs, append, same};
 use std::alloc::{AllocError, Global};
 use std::sync::Wait;
 use std::test::Fail;
@@ -135,7 +135,7 @@ pub fn turn<R: Wait>(
     ensures kept { KeepsNumbers pass.old pass.new }
 {
     let mut held = turnstile.take(rt, pass);
-    let found = held.value.list.as_slice() == finds;
+    let found = same(&held.value.list, finds);
     let added = append(&mut held.value, adds);
     turnstile.give(held, pass);
     added?;
@@ -217,7 +217,7 @@ fn holds<R: Wait>(rt: &R, alloc: Global, row: &Row) -> Result<bool, AllocError> 
     turnstile.join(&mut first, two);
     turnstile.join(&mut first, one);
     let ended = turnstile.close(first);
-    Ok(found && ended.list.as_slice() == row.ends)
+    Ok(found && same(&ended.list, row.ends))
 }
 
 #[test]

@@ -1,4 +1,5 @@
-use super::{Pieces, made_conn};
+use super::{Pieces, are, made_conn};
+use crate::same;
 use nsq_base::Memory;
 use nsq_fakes::MemConn;
 use nsq_outside::{Conn, Read, Write, get, put};
@@ -76,25 +77,24 @@ fn answers<R: Wait, K: Conn>(rt: &R, conn: &mut K, call: Call) -> bool {
 
 /// Whether these pieces were read, and these bytes written.
 fn keeps(conn: &MemConn, read: &[&[u8]], written: &[u8]) -> bool {
-    let pieces = conn.pieces_read();
-    let mut all = pieces.len() == read.len() && conn.bytes_written() == written;
-    for (piece, want) in pieces.iter().zip(read) {
-        if piece.as_slice() != *want {
-            all = false;
+    are(conn.pieces_read(), read) && same(conn.bytes_written(), written)
+}
+
+/// Whether a connection answers all these calls so.
+fn all_answer<R: Wait>(rt: &R, conn: &mut MemConn, calls: &[Call]) -> bool {
+    for call in calls {
+        if !answers(rt, conn, *call) {
+            return false;
         }
     }
-    all
+    true
 }
 
 fn holds<R: Wait>(rt: &R, alloc: Global, row: &Row) -> Result<bool, Memory> {
     let mut conn = made_conn(alloc, row.pieces, row.read_fails, row.write_fails)?;
-    for call in row.calls {
-        if !answers(rt, &mut conn, *call) {
-            return Ok(false);
-        }
-    }
     Ok(
-        keeps(&conn, row.read, row.written)
+        all_answer(rt, &mut conn, row.calls)
+            && keeps(&conn, row.read, row.written)
             && conn.read_faults() == row.faults.0
             && conn.write_faults() == row.faults.1,
     )

@@ -1,4 +1,5 @@
 use crate::folder_steps::{BY_BEGINNING, Step, all_answer};
+use crate::same;
 use nsq_base::Memory;
 use nsq_fakes::{Called, Failing, FolderCall, MemFolder};
 use nsq_outside::{Did, Length, ReadAt};
@@ -152,17 +153,36 @@ static ROWS: [Row; 5] = [
 /// A folder with these files, of which these calls fail.
 fn made(alloc: Global, files: Files, fails: &[Failing]) -> Result<MemFolder, Memory> {
     let mut list = Vec::new(alloc);
-    for (name, bytes) in files {
-        list.push((String::from_str(alloc, name)?, bytes.to_vec(alloc)?))?;
-    }
+    push_files(alloc, files, &mut list)?;
     MemFolder::new(alloc, list, fails.to_vec(alloc)?)
+}
+
+fn push_files(
+    alloc: Global,
+    files: Files,
+    list: &mut Vec<(String, Vec<u8>)>,
+) -> Result<(), Memory> {
+    for (name, bytes) in files {
+        let name = String::from_str(alloc, name)?;
+        let bytes = bytes.to_vec(alloc)?;
+        list.push((name, bytes))?;
+    }
+    Ok(())
+}
+
+/// Whether a file has these bytes.
+pub fn is_file(folder: &MemFolder, name: &str, bytes: &[u8]) -> bool {
+    match folder.file(name) {
+        Some(found) => same(found, bytes),
+        None => false,
+    }
 }
 
 /// Whether these files are there, and none of the absent ones.
 fn has(folder: &MemFolder, there: Files, absent: &[&str]) -> bool {
     let mut all = true;
     for (name, bytes) in there {
-        all = all && folder.file(name) == Some(bytes);
+        all = all && is_file(folder, name, bytes);
     }
     for name in absent {
         all = all && folder.file(name).is_none();
@@ -172,11 +192,23 @@ fn has(folder: &MemFolder, there: Files, absent: &[&str]) -> bool {
 
 /// Whether these calls were made, in this order.
 fn is_called(called: &[Called], want: &[(FolderCall, &str, &str)]) -> bool {
-    let mut all = called.len() == want.len();
-    for (made, (call, name, to)) in called.iter().zip(want) {
-        all = all && made.call == *call && made.name.as_str() == *name && made.to.as_str() == *to;
+    if called.len() != want.len() {
+        return false;
     }
-    all
+    for (i, call) in want.iter().enumerate() {
+        if i >= called.len() || !is_made(&called[i], *call) {
+            return false;
+        }
+    }
+    true
+}
+
+/// Whether this call was made.
+fn is_made(made: &Called, want: (FolderCall, &str, &str)) -> bool {
+    let (call, name, to) = want;
+    made.call == call
+        && same(made.name.as_bytes(), name.as_bytes())
+        && same(made.to.as_bytes(), to.as_bytes())
 }
 
 fn holds(alloc: Global, row: &Row) -> Result<bool, Memory> {

@@ -2,7 +2,8 @@ ghost use Rattle.std.specs.Prelude.{◌≡◌, ◌≤◌, [], false, IfOk, IsTru
 ghost use Rattle.nsq_fakes.specs.MemHosts.{content_of, state_of};
 
 use super::journal::{Seen, keeps};
-use super::{Pieces, made_conn};
+use super::{Pieces, are, made_conn};
+use crate::same;
 use nsq_base::Memory;
 use nsq_fakes::{MemClock, MemConn, MemFolder, MemHost, MemJournal, Start};
 use nsq_outside::{
@@ -128,10 +129,13 @@ fn serve_link<R: Wait, H: Host<Seen>>(rt: &R, host: &mut H, address: &str) -> bo
 
 /// A kit with the clock at 7.
 pub fn home_kit(alloc: Global) -> Result<Kit<MemFolder, MemClock, MemJournal<Seen>>, Memory> {
+    let folder = MemFolder::new(alloc, Vec::new(alloc), Vec::new(alloc))?;
+    let clock = MemClock::new(alloc, [7].to_vec(alloc)?)?;
+    let journal = MemJournal::new(alloc);
     Ok(Kit {
-        folder: MemFolder::new(alloc, Vec::new(alloc), Vec::new(alloc))?,
-        clock: MemClock::new(alloc, [7].to_vec(alloc)?)?,
-        journal: MemJournal::new(alloc),
+        folder,
+        clock,
+        journal,
     })
 }
 
@@ -141,14 +145,28 @@ fn made(alloc: Global, row: &Row) -> Result<MemHost<Seen>, Memory>
     ensures back { IfOk result (λ host. (content_of host).back ≡ []) }
 {
     let mut callers = Vec::new(alloc);
-    for (kind, pieces) in row.callers {
-        callers.push((*kind, made_conn(alloc, pieces, &[], &[])?))?;
-    }
+    push_callers(alloc, row.callers, &mut callers)?;
     let mut dialled = Vec::new(alloc);
-    for pieces in row.dialled {
-        dialled.push(made_conn(alloc, pieces, &[], &[])?)?;
-    }
+    push_dialled(alloc, row.dialled, &mut dialled)?;
     MemHost::new(alloc, callers, dialled, home_kit(alloc)?, row.beside)
+}
+
+fn push_callers(
+    alloc: Global,
+    callers: &[(Kind, Pieces)],
+    list: &mut Vec<(Kind, MemConn)>,
+) -> Result<(), Memory> {
+    for (kind, pieces) in callers {
+        list.push((*kind, made_conn(alloc, pieces, &[], &[])?))?;
+    }
+    Ok(())
+}
+
+fn push_dialled(alloc: Global, dialled: &[Pieces], list: &mut Vec<MemConn>) -> Result<(), Memory> {
+    for pieces in dialled {
+        list.push(made_conn(alloc, pieces, &[], &[])?)?;
+    }
+    Ok(())
 }
 
 /// Whether nobody will call any more.
@@ -161,35 +179,34 @@ fn is_halt(accept: Accept<MemConn>) -> bool {
 
 /// Whether these connections came back.
 fn is_back(back: &[(u64, MemConn)], want: &[(u64, &[u8])]) -> bool {
-    let mut all = back.len() == want.len();
-    for ((number, conn), (want_number, written)) in back.iter().zip(want) {
-        all = all && number == want_number && conn.bytes_written() == *written;
+    if back.len() != want.len() {
+        return false;
     }
-    all
-}
-
-/// Whether these lines were told.
-pub fn is_told(lines: &[Vec<u8>], want: &[&[u8]]) -> bool {
-    let mut all = lines.len() == want.len();
-    for (line, want) in lines.iter().zip(want) {
-        all = all && line.as_slice() == *want;
+    for (i, (number, written)) in want.iter().enumerate() {
+        if i >= back.len() || back[i].0 != *number || !same(back[i].1.bytes_written(), written) {
+            return false;
+        }
     }
-    all
+    true
 }
 
 /// Whether the addresses that were asked for are those of a row, in order.
 fn is_asked(asked: &[String], want: &[(&str, bool)]) -> bool {
-    let mut all = asked.len() == want.len();
-    for (address, want) in asked.iter().zip(want) {
-        all = all && address.as_str() == want.0;
+    if asked.len() != want.len() {
+        return false;
     }
-    all
+    for (i, (address, _)) in want.iter().enumerate() {
+        if i >= asked.len() || !same(asked[i].as_bytes(), address.as_bytes()) {
+            return false;
+        }
+    }
+    true
 }
 
 /// Whether a host was started once, with the address of HTTP.
 fn is_started(starts: &[Start]) -> bool {
     match starts.first() {
-        Some(start) => starts.len() == 1 && start.http.as_str() == "127.0.0.1:4151",
+        Some(start) => starts.len() == 1 && same(start.http.as_bytes(), b"127.0.0.1:4151"),
         None => false,
     }
 }
@@ -204,9 +221,9 @@ fn keeps_all(host: &MemHost<Seen>, row: &Row) -> bool {
         && noted
         && host.beside() == row.beside
         && host.given() == row.given
-        && host.printed() == row.printed
+        && same(host.printed(), row.printed)
         && is_back(host.back(), row.back)
-        && is_told(host.lines(), row.tells)
+        && are(host.lines(), row.tells)
         && is_asked(host.asked(), row.dials)
 }
 

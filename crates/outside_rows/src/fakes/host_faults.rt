@@ -1,8 +1,9 @@
 //! Rows of a host in memory whose calls fail by their numbers.
 
-use super::host::{home_kit, is_told};
+use super::host::home_kit;
 use super::journal::Seen;
-use super::made_conn;
+use super::{are, made_conn};
+use crate::same;
 use nsq_base::Memory;
 use nsq_fakes::{MemConn, MemHost};
 use nsq_outside::{Accept, Did, Host, Kind};
@@ -114,16 +115,29 @@ static ROWS: [Row; 5] = [
 /// A host with the callers of a row, whose calls fail as it says.
 fn made(alloc: Global, row: &Row) -> Result<MemHost<Seen>, Memory> {
     let mut callers = Vec::new(alloc);
-    for kind in row.callers {
+    push_callers(alloc, row.callers, &mut callers)?;
+    let mut host = MemHost::new(alloc, callers, Vec::new(alloc), home_kit(alloc)?, false)?;
+    set_fails(alloc, &mut host, row)?;
+    Ok(host)
+}
+
+fn push_callers(
+    alloc: Global,
+    kinds: &[Kind],
+    callers: &mut Vec<(Kind, MemConn)>,
+) -> Result<(), Memory> {
+    for kind in kinds {
         callers.push((*kind, made_conn(alloc, &[], &[], &[])?))?;
     }
-    let mut host = MemHost::new(alloc, callers, Vec::new(alloc), home_kit(alloc)?, false)?;
-    host.fail_at(
-        row.accept_fails.to_vec(alloc)?,
-        row.print_fails.to_vec(alloc)?,
-        row.tell_fails.to_vec(alloc)?,
-    );
-    Ok(host)
+    Ok(())
+}
+
+fn set_fails(alloc: Global, host: &mut MemHost<Seen>, row: &Row) -> Result<(), Memory> {
+    let accepts = row.accept_fails.to_vec(alloc)?;
+    let prints = row.print_fails.to_vec(alloc)?;
+    let tells = row.tell_fails.to_vec(alloc)?;
+    host.fail_at(accepts, prints, tells);
+    Ok(())
 }
 
 /// What an accept answered.
@@ -149,10 +163,20 @@ fn answers<R: Wait>(rt: &R, host: &mut MemHost<Seen>, call: Call) -> bool {
     }
 }
 
+/// Whether a host answers all these calls so.
+fn all_answer<R: Wait>(rt: &R, host: &mut MemHost<Seen>, calls: &[Call]) -> bool {
+    for call in calls {
+        if !answers(rt, host, *call) {
+            return false;
+        }
+    }
+    true
+}
+
 /// Whether a host printed and was told what a row says, and counts its faults.
 fn keeps(host: &MemHost<Seen>, row: &Row) -> bool {
-    host.printed() == row.printed
-        && is_told(host.lines(), row.lines)
+    same(host.printed(), row.printed)
+        && are(host.lines(), row.lines)
         && host.accept_faults() == row.faults.0
         && host.print_faults() == row.faults.1
         && host.tell_faults() == row.faults.2
@@ -160,12 +184,7 @@ fn keeps(host: &MemHost<Seen>, row: &Row) -> bool {
 
 fn holds<R: Wait>(rt: &R, alloc: Global, row: &Row) -> Result<bool, Memory> {
     let mut host = made(alloc, row)?;
-    for call in row.calls {
-        if !answers(rt, &mut host, *call) {
-            return Ok(false);
-        }
-    }
-    Ok(keeps(&host, row))
+    Ok(all_answer(rt, &mut host, row.calls) && keeps(&host, row))
 }
 
 #[test]

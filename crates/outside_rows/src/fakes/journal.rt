@@ -44,13 +44,15 @@ fn add<J: Journal<Seen>>(journal: &mut J, entry: &Seen, end: End) -> Result<(), 
 /// Whether these entries stand in a journal, in this order.
 pub fn keeps(journal: &MemJournal<Seen>, kept: &[(u64, End)]) -> bool {
     let entries = journal.entries();
-    let mut all = entries.len() == kept.len();
-    for (entry, want) in entries.iter().zip(kept) {
-        if entry.0.0 != want.0 || entry.1 != want.1 {
-            all = false;
+    if entries.len() != kept.len() {
+        return false;
+    }
+    for (i, want) in kept.iter().enumerate() {
+        if i >= entries.len() || entries[i].0.0 != want.0 || entries[i].1 != want.1 {
+            return false;
         }
     }
-    all
+    true
 }
 
 /// The entries go into a journal that keeps them, and into one that forgets them.

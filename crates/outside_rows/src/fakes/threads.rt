@@ -1,3 +1,4 @@
+use super::folder::is_file;
 use super::journal::Seen;
 use super::made_conn;
 use nsq_fakes::{MemClock, MemFolder, MemJournal};
@@ -38,7 +39,10 @@ fn fakes_move_between_threads(rt: HostRuntime) -> Result<(), Fail> {
     let conn = made_conn(alloc, &[Some(b"hi")], &[], &[])?;
     let (conn, folder, clock, _) = carried(&rt, conn, folder, clock, MemJournal::new(alloc));
     let (_, mut folder, mut clock, _) = carried(&rt, conn, folder, clock, Forgetful::new(alloc));
-    assert_eq!(rt; folder.file("a"), Some(b"anew".as_slice()));
+    assert!(rt;
+        is_file(&folder, "a", b"anew"),
+        "the file that was written anew"
+    );
     assert_eq!(rt; put_anew(&mut folder, "b", b""), Length::Is(0));
     assert_eq!(rt; clock.now(), 7);
     Ok(())

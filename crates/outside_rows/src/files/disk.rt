@@ -51,8 +51,9 @@ fn ask(broken: Option<Asked>, asked: Asked) -> io::Result<()> {
 
 impl Clone for Slow {
     fn clone(&self) -> Result<Slow, AllocError> {
+        let rt = self.rt.clone()?;
         Ok(Slow {
-            rt: self.rt.clone()?,
+            rt,
             fails_from: self.fails_from,
             broken: self.broken,
         })
@@ -74,8 +75,9 @@ impl Files for Slow {
 
     fn open_file(&self, how: &OpenOptions, path: &str) -> io::Result<SlowFile> {
         ask(self.broken, Asked::Open)?;
+        let file = self.rt.open_file(how, path)?;
         Ok(SlowFile {
-            file: self.rt.open_file(how, path)?,
+            file,
             reads: Cell::new(0),
             fails_from: self.fails_from,
             broken: self.broken,
@@ -325,16 +327,21 @@ static ROWS: [Row; 11] = [
     },
 ];
 
-fn holds(rt: &HostRuntime, row: &Row) -> Result<bool, Fail> {
-    let _ = fs::remove_dir_all(rt, FOLDER);
-    fs::create_dir(rt, FOLDER)?;
+/// Whether a folder of such a disk answers all calls of a row.
+fn all_go(rt: &HostRuntime, row: &Row) -> Result<bool, Fail> {
     let slow = Slow {
         rt: rt.clone()?,
         fails_from: row.fails_from,
         broken: row.broken,
     };
     let mut folder = DirFolder::new(slow, rt.alloc(), FOLDER)?;
-    let all = all_answer(rt.alloc(), &mut folder, row.steps)?;
+    Ok(all_answer(rt.alloc(), &mut folder, row.steps)?)
+}
+
+fn holds(rt: &HostRuntime, row: &Row) -> Result<bool, Fail> {
+    let _ = fs::remove_dir_all(rt, FOLDER);
+    fs::create_dir(rt, FOLDER)?;
+    let all = all_go(rt, row)?;
     fs::remove_dir_all(rt, FOLDER)?;
     Ok(all)
 }

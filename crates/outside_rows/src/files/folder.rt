@@ -1,4 +1,5 @@
 use crate::folder_steps::{BY_BEGINNING, Step, all_answer, answers};
+use crate::same;
 use nsq_outside::{Did, Length, ReadAt};
 use nsq_system::DirFolder;
 use std::alloc::Global;
@@ -215,24 +216,32 @@ fn goes(
             fs::rename(rt, NEW, path)?;
             Ok(true)
         }
-        Do::Finds(path, bytes) => Ok(fs::read(rt, path)?.as_slice() == bytes),
+        Do::Finds(path, bytes) => Ok(same(&fs::read(rt, path)?, bytes)),
         Do::GoThrough(path) => Ok(folder.move_to(path).is_ok()),
         Do::GoToOther => Ok(folder.move_to(OTHER).is_ok()),
         Do::GoBack => Ok(folder.move_to(FOLDER).is_ok()),
     }
 }
 
-fn holds(rt: &HostRuntime, row: &Row) -> Result<bool, Fail> {
-    make_folders(rt)?;
-    let alloc = rt.alloc();
-    let mut folder = DirFolder::new(rt.clone()?, alloc, FOLDER)?;
-    for step in row.steps {
-        if !goes(rt, alloc, &mut folder, *step)? {
+/// Whether all these steps go so.
+fn all_go(
+    rt: &HostRuntime,
+    folder: &mut DirFolder<HostRuntime>,
+    steps: &[Do],
+) -> Result<bool, Fail> {
+    for step in steps {
+        if !goes(rt, rt.alloc(), folder, *step)? {
             return Ok(false);
         }
     }
     remove_folders(rt);
     Ok(true)
+}
+
+fn holds(rt: &HostRuntime, row: &Row) -> Result<bool, Fail> {
+    make_folders(rt)?;
+    let mut folder = DirFolder::new(rt.clone()?, rt.alloc(), FOLDER)?;
+    all_go(rt, &mut folder, row.steps)
 }
 
 #[test]

@@ -86,19 +86,37 @@ fn take_turns<R: Wait + Clock + Clone + Drop + Send + Net<Stream = TcpStream>>(
     alloc: Global,
 ) -> io::Result<bool> {
     let mut listeners = Listeners::open(rt.clone()?, alloc, HERE, Some(HERE))?;
-    let mut dialer = TcpDialer::new(rt.clone()?, alloc);
     let tcp = address_of(alloc, &listeners, Kind::Tcp)?;
     let http = address_of(alloc, &listeners, Kind::Http)?;
+    let mut dialer = TcpDialer::new(rt.clone()?, alloc);
     let _first = linked(dialer.dial(rt, tcp.as_str()));
     let _second = linked(dialer.dial(rt, tcp.as_str()));
     let _third = linked(dialer.dial(rt, http.as_str()));
-    for kind in [Kind::Tcp, Kind::Http, Kind::Tcp] {
+    Ok(gives(&mut listeners, &[Kind::Tcp, Kind::Http, Kind::Tcp]))
+}
+
+/// Whether callers of these kinds are given, one after another.
+fn gives<R: Net + Clock>(listeners: &mut Listeners<R>, kinds: &[Kind]) -> bool {
+    for kind in kinds {
         match caller(listeners.accept()) {
-            Some((given, _conn)) if given == kind => {}
-            _ => return Ok(false),
+            Some((given, _conn)) if given == *kind => {}
+            _ => return false,
         }
     }
-    Ok(true)
+    true
+}
+
+/// Whether a caller of this kind is given, whose bytes come.
+fn hears<R: Wait + Net<Stream = TcpStream> + Clock>(
+    rt: &R,
+    listeners: &mut Listeners<R>,
+    near: &mut TcpConn,
+    row: &Row,
+) -> bool {
+    match caller(listeners.accept()) {
+        Some((kind, mut far)) => kind == row.kind && speaks(rt, near, &mut far, row.sends),
+        None => false,
+    }
 }
 
 /// Whether nobody calls, and then one of this kind, whose bytes come.
@@ -111,19 +129,14 @@ fn holds<R: Wait + Clock + Clone + Drop + Send + Net<Stream = TcpStream>>(
     if caller(listeners.accept()).is_some() || listeners.faults() != 0 {
         return Ok(false);
     }
+    let address = address_of(alloc, &listeners, row.kind)?;
     let mut dialer = TcpDialer::new(rt.clone()?, alloc);
     may_move(&listeners);
     may_move(&dialer);
-    let address = address_of(alloc, &listeners, row.kind)?;
     let Some(mut near) = linked(dialer.dial(rt, address.as_str())) else {
         return Ok(false);
     };
-    match caller(listeners.accept()) {
-        Some((kind, mut far)) => {
-            Ok(kind == row.kind && speaks(rt, &mut near, &mut far, row.sends))
-        }
-        None => Ok(false),
-    }
+    Ok(hears(rt, &mut listeners, &mut near, row))
 }
 
 #[test]

@@ -1,6 +1,8 @@
 ghost use Rattle.std.specs.Prelude.{◌<◌};
 ghost use Rattle.nsq_outside.specs.Streams.{IsAmountRead};
 
+use super::made_pair;
+use crate::same;
 use nsq_outside::{Kind, Read, Sink, Source, Write};
 use nsq_system::{Talker, TcpConn, hear_out};
 use std::alloc::Global;
@@ -175,19 +177,12 @@ fn answers_and_closes<R: Wait>(rt: &R, mut conn: TcpConn) -> bool {
 fn gets_all(peer: &mut TcpStream) -> io::Result<bool> {
     let mut came = [0u8; 9];
     peer.read_exact(&mut came)?;
-    let answered = came.as_slice() == ANSWER && peer.read(&mut came)? == 0;
+    let answered = same(&came, ANSWER) && peer.read(&mut came)? == 0;
     Ok(answered && peer.take_error()?.is_none())
 }
 
-fn closing_holds<R: Wait + Net<Listener = TcpListener, Stream = TcpStream>>(
-    rt: &R,
-    alloc: Global,
-    row: &Closing,
-) -> io::Result<bool> {
-    let listener = TcpListener::bind(rt, "127.0.0.1:0")?;
-    let mut peer = TcpStream::connect(rt, listener.local_addr()?)?;
-    let (stream, _) = listener.accept()?;
-    let conn = TcpConn::new(rt, alloc, stream, row.kind)?;
+/// The peer sends what it has to, and its reads wait at most a second. How much the system took.
+fn sends(alloc: Global, peer: &mut TcpStream, row: &Closing) -> io::Result<usize> {
     peer.set_nonblocking(true)?;
     let sent = peer.write(&vec![in alloc; 7; row.sends]?)?;
     peer.set_nonblocking(false)?;
@@ -195,6 +190,16 @@ fn closing_holds<R: Wait + Net<Listener = TcpListener, Stream = TcpStream>>(
     if row.stops {
         peer.shutdown(Shutdown::Write)?;
     }
+    Ok(sent)
+}
+
+fn closing_holds<R: Wait + Net<Listener = TcpListener, Stream = TcpStream>>(
+    rt: &R,
+    alloc: Global,
+    row: &Closing,
+) -> io::Result<bool> {
+    let (conn, mut peer) = made_pair(rt, alloc, row.kind)?;
+    let sent = sends(alloc, &mut peer, row)?;
     let all = answers_and_closes(rt, conn);
     Ok(10 < sent && all && gets_all(&mut peer)?)
 }
@@ -229,11 +234,8 @@ fn sends_late(mut peer: TcpStream, body: &[u8]) -> io::Result<bool> {
 
 fn late_holds<R: Wait + Threads + Sync>(rt: &R, own: &HostRuntime, row: &Late) -> io::Result<bool> {
     let alloc = own.alloc();
-    let listener = TcpListener::bind(own, "127.0.0.1:0")?;
-    let peer = TcpStream::connect(own, listener.local_addr()?)?;
-    let (stream, _) = listener.accept()?;
-    let conn = TcpConn::new(own, alloc, stream, Kind::Http)?;
     let body = vec![in alloc; 7; row.sends]?;
+    let (conn, peer) = made_pair(own, alloc, Kind::Http)?;
     let (heard, answered) = join(
         rt,
         || sends_late(peer, &body),

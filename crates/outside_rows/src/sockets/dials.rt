@@ -78,17 +78,25 @@ fn nobody<R: Net<Listener = TcpListener, Stream = TcpStream>>(
     Ok(format!(in alloc; "{address}")?)
 }
 
+/// Whether a dial fails.
+fn fails<
+    R: Wait + Net<Listener = TcpListener, Stream = TcpStream>,
+    N: Net<Stream = TcpStream> + Drop,
+>(rt: &R, alloc: Global, dialer: &mut TcpDialer<N>, asked: Asked) -> io::Result<bool> {
+    let address = match asked {
+        Asked::Nobody => nobody(rt, alloc)?,
+        Asked::Address(text) => String::from_str(alloc, text)?,
+    };
+    Ok(is_failed(dialer.dial(rt, address.as_str())))
+}
+
 /// Whether each dial of a row fails and is counted.
 fn all_fail<
     R: Wait + Net<Listener = TcpListener, Stream = TcpStream>,
     N: Net<Stream = TcpStream> + Drop,
 >(rt: &R, alloc: Global, mut dialer: TcpDialer<N>, row: &Row) -> io::Result<bool> {
     for asked in row.asked {
-        let address = match asked {
-            Asked::Nobody => nobody(rt, alloc)?,
-            Asked::Address(text) => String::from_str(alloc, text)?,
-        };
-        if !is_failed(dialer.dial(rt, address.as_str())) {
+        if !fails(rt, alloc, &mut dialer, *asked)? {
             return Ok(false);
         }
     }

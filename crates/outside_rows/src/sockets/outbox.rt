@@ -1,5 +1,6 @@
 ghost use Rattle.std.specs.Prelude.{◌≡◌};
 
+use crate::same;
 use nsq_outside::{Did, Write};
 use nsq_system::Outbox;
 use std::alloc::Global;
@@ -287,10 +288,20 @@ fn goes(alloc: Global, outbox: &mut Outbox<Scripted>, call: Call) -> Result<bool
             outbox.stop();
             outbox.is_broken()
         }
-        Call::Holds(bytes) => outbox.writer().held.as_slice() == bytes,
+        Call::Holds(bytes) => same(&outbox.writer().held, bytes),
         Call::HoldsMany(byte, count) => holds_many(&outbox.writer().held, byte, count),
         Call::Faults(count) => outbox.faults() == count,
     })
+}
+
+/// Whether all these calls go so.
+fn all_go(alloc: Global, outbox: &mut Outbox<Scripted>, calls: &[Call]) -> Result<bool, Fail> {
+    for call in calls {
+        if !goes(alloc, outbox, *call)? {
+            return Ok(false);
+        }
+    }
+    Ok(true)
 }
 
 fn holds(alloc: Global, row: &Row) -> Result<bool, Fail> {
@@ -300,12 +311,7 @@ fn holds(alloc: Global, row: &Row) -> Result<bool, Fail> {
         at: 0,
     };
     let mut outbox = Outbox::new(alloc, writer)?;
-    for call in row.calls {
-        if !goes(alloc, &mut outbox, *call)? {
-            return Ok(false);
-        }
-    }
-    Ok(true)
+    all_go(alloc, &mut outbox, row.calls)
 }
 
 #[test]

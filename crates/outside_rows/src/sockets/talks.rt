@@ -1,3 +1,5 @@
+use super::made_pair;
+use crate::same;
 use nsq_outside::{Did, Kind, Read, Sink, Source, Write};
 use nsq_system::TcpConn;
 use std::alloc::Global;
@@ -283,28 +285,32 @@ struct Pair {
     peer: Option<TcpStream>,
 }
 
-/// A connection and its peer, over the loopback network. The peer's reads wait at most a second.
-fn made_pair<R: Net<Listener = TcpListener, Stream = TcpStream>>(
+/// A connection and its peer, whose reads wait at most a second.
+fn made<R: Net<Listener = TcpListener, Stream = TcpStream>>(
     rt: &R,
     alloc: Global,
     kind: Kind,
 ) -> io::Result<Pair> {
-    let listener = TcpListener::bind(rt, "127.0.0.1:0")?;
-    let peer = TcpStream::connect(rt, listener.local_addr()?)?;
+    let (conn, peer) = made_pair(rt, alloc, kind)?;
     peer.set_read_timeout(Some(Duration::from_secs(1)))?;
-    let (stream, _) = listener.accept()?;
     Ok(Pair {
-        conn: Some(TcpConn::new(rt, alloc, stream, kind)?),
+        conn: Some(conn),
         peer: Some(peer),
     })
 }
 
-/// What a write answers, or `None` where there is nothing to write.
-fn written<R: Wait>(rt: &R, conn: &mut TcpConn, bytes: &[u8]) -> Option<Write> {
+/// Whether a write of these bytes, of which there are some, answers so.
+fn writes<R: Wait>(rt: &R, conn: &mut TcpConn, bytes: &[u8], answer: Write) -> bool {
+    !bytes.is_empty() && conn.write(rt, bytes) == answer
+}
+
+/// Whether there are bytes. Then they are written, whatever that answers.
+fn tries<R: Wait>(rt: &R, conn: &mut TcpConn, bytes: &[u8]) -> bool {
     if bytes.is_empty() {
-        return None;
+        return false;
     }
-    Some(conn.write(rt, bytes))
+    let _ = conn.write(rt, bytes);
+    true
 }
 
 /// Whether a write of so many bytes of one value takes them all.
@@ -316,14 +322,14 @@ fn fills<R: Wait>(
     count: usize,
 ) -> io::Result<bool> {
     let bytes = vec![in alloc; byte; count]?;
-    Ok(written(rt, conn, &bytes) == Some(Write::Took(count)))
+    Ok(writes(rt, conn, &bytes, Write::Took(count)))
 }
 
 /// Whether one of many writes of 32 KiB fails.
 fn overfills<R: Wait>(rt: &R, alloc: Global, conn: &mut TcpConn) -> io::Result<bool> {
     let bytes = vec![in alloc; 7; 32_768]?;
     for _ in 0..2_000 {
-        if written(rt, conn, &bytes) == Some(Write::Failed) {
+        if writes(rt, conn, &bytes, Write::Failed) {
             return Ok(true);
         }
     }
@@ -348,8 +354,8 @@ fn reads<R: Wait>(rt: &R, conn: &mut TcpConn, answer: Read, bytes: &[u8]) -> boo
 /// Whether the connection answers a call so.
 fn answers<R: Wait>(rt: &R, alloc: Global, conn: &mut TcpConn, call: Call) -> io::Result<bool> {
     Ok(match call {
-        Call::Write(bytes, answer) => written(rt, conn, bytes) == Some(answer),
-        Call::TryWrite(bytes) => written(rt, conn, bytes).is_some(),
+        Call::Write(bytes, answer) => writes(rt, conn, bytes, answer),
+        Call::TryWrite(bytes) => tries(rt, conn, bytes),
         Call::Fill(byte, count) => fills(rt, alloc, conn, byte, count)?,
         Call::Overfill => overfills(rt, alloc, conn)?,
         Call::Busy => is_busy(rt, conn),
@@ -364,7 +370,7 @@ fn answers<R: Wait>(rt: &R, alloc: Global, conn: &mut TcpConn, call: Call) -> io
 fn gets(alloc: Global, peer: &mut TcpStream, want: &[u8]) -> io::Result<bool> {
     let mut came = vec![in alloc; 0; want.len()]?;
     peer.read_exact(&mut came)?;
-    Ok(came.as_slice() == want)
+    Ok(same(&came, want))
 }
 
 /// Whether nothing has come so far.
@@ -428,17 +434,22 @@ fn all_go<R: Wait>(rt: &R, alloc: Global, pair: &mut Pair, steps: &[Step]) -> io
     Ok(true)
 }
 
+/// Whether the steps of a row go so, with their rounds.
+fn talk_goes<R: Wait>(rt: &R, alloc: Global, pair: &mut Pair, row: &Row) -> io::Result<bool> {
+    let mut all = all_go(rt, alloc, pair, row.steps)?;
+    for _ in 0..row.rounds {
+        all = all_go(rt, alloc, pair, row.round)? && all;
+    }
+    Ok(all_go(rt, alloc, pair, row.last)? && all)
+}
+
 fn talk_holds<R: Wait + Net<Listener = TcpListener, Stream = TcpStream>>(
     rt: &R,
     alloc: Global,
     row: &Row,
 ) -> io::Result<bool> {
-    let mut pair = made_pair(rt, alloc, row.kind)?;
-    let mut all = all_go(rt, alloc, &mut pair, row.steps)?;
-    for _ in 0..row.rounds {
-        all = all_go(rt, alloc, &mut pair, row.round)? && all;
-    }
-    Ok(all_go(rt, alloc, &mut pair, row.last)? && all)
+    let mut pair = made(rt, alloc, row.kind)?;
+    talk_goes(rt, alloc, &mut pair, row)
 }
 
 fn holds<R: Wait + Clock + Net<Listener = TcpListener, Stream = TcpStream>>(

@@ -78,13 +78,16 @@ fn files_of(alloc: Global, folder: &MemFolder) -> Result<Vec<NamedFile>, Memory>
     let mut files = Vec::new(alloc);
     for name in &NAMES {
         if let Some(bytes) = folder.file(name) {
-            files.push(NamedFile {
-                name: Body::copy(alloc, name.as_bytes())?,
-                bytes: Body::copy(alloc, bytes)?,
-            })?;
+            files.push(named(alloc, name, bytes)?)?;
         }
     }
     Ok(files)
+}
+
+fn named(alloc: Global, name: &str, bytes: &[u8]) -> Result<NamedFile, Memory> {
+    let name = Body::copy(alloc, name.as_bytes())?;
+    let bytes = Body::copy(alloc, bytes)?;
+    Ok(NamedFile { name, bytes })
 }
 
 // The states to which entries lead from an empty folder.
@@ -116,10 +119,7 @@ fn is_talk(
     entries: &[(Entry, End)],
     conn: &MemConn,
 ) -> Result<bool, Memory> {
-    let mut pieces = Vec::new(alloc);
-    for piece in conn.pieces_read() {
-        pieces.push(Body::copy(alloc, piece)?)?;
-    }
+    let pieces = pieces_of(alloc, conn)?;
     let out = conn.bytes_written();
     is_talk_in(
         alloc,
@@ -131,6 +131,14 @@ fn is_talk(
         out,
         Ended::EndOfInput,
     )
+}
+
+fn pieces_of(alloc: Global, conn: &MemConn) -> Result<Vec<Body>, Memory> {
+    let mut pieces = Vec::new(alloc);
+    for piece in conn.pieces_read() {
+        pieces.push(Body::copy(alloc, piece)?)?;
+    }
+    Ok(pieces)
 }
 
 fn are_talks(
@@ -152,15 +160,24 @@ fn judged(alloc: Global, drilled: &Drilled) -> Result<Option<&'static str>, Memo
         return Ok(Some("the kit"));
     };
     let entries = kit.journal.entries();
-    let states = states_of(alloc, entries)?;
-    if states.is_empty() {
-        return Ok(Some("the history isn't legal"));
-    }
     if !are_talks(alloc, entries, drilled.host.back())? {
         return Ok(Some("a conversation"));
     }
     let files = files_of(alloc, &kit.folder)?;
-    if !is_kept(alloc, &states, &files)? {
+    history_wrong(alloc, entries, &files)
+}
+
+// What is wrong with entries that left these files.
+fn history_wrong(
+    alloc: Global,
+    entries: &[(Entry, End)],
+    files: &[NamedFile],
+) -> Result<Option<&'static str>, Memory> {
+    let states = states_of(alloc, entries)?;
+    if states.is_empty() {
+        return Ok(Some("the history isn't legal"));
+    }
+    if !is_kept(alloc, &states, files)? {
         return Ok(Some("something else is kept"));
     }
     Ok(None)
@@ -172,13 +189,22 @@ fn row_wrong<R: Wait>(rt: &R, alloc: Global, row: &Row) -> Result<Option<&'stati
     requires count { row.now.count ≤ 100000 }
 {
     let drilled = drill(rt, alloc, row.seed, row.count)?;
+    drilled_wrong(alloc, row, &drilled)
+}
+
+// What differs in what a drill came to.
+fn drilled_wrong(
+    alloc: Global,
+    row: &Row,
+    drilled: &Drilled,
+) -> Result<Option<&'static str>, Memory> {
     if drilled.published != row.count || drilled.sent != row.sent || drilled.left != row.left {
         return Ok(Some("the numbers"));
     }
     if drilled.published.checked_sub(drilled.finished) != Some(drilled.left) {
         return Ok(Some("what is left"));
     }
-    judged(alloc, &drilled)
+    judged(alloc, drilled)
 }
 
 #[test]

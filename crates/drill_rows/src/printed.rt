@@ -29,7 +29,7 @@ const WRONG: Row = Row {
     line: b"nsqd: bad options",
 };
 
-static RIGHT: [Row; 3] = [
+static ROWS: [Row; 10] = [
     Row {
         words: &["drill", "7", "10"],
         status: 0,
@@ -48,9 +48,6 @@ static RIGHT: [Row; 3] = [
         printed: b"published 100\nsent 100\nfinished 100\nleft 0\n",
         line: b"",
     },
-];
-
-static REFUSED: [Row; 7] = [
     Row {
         words: &["drill"],
         ..WRONG
@@ -112,11 +109,15 @@ fn row_wrong<R: Wait>(rt: &R, alloc: Global, row: &Row) -> Result<Option<&'stati
     Ok(told_wrong(&host, row))
 }
 
+fn same(one: &[u8], other: &[u8]) -> bool {
+    one == other
+}
+
 fn told_wrong(host: &MemHost<Entry>, row: &Row) -> Option<&'static str> {
-    if host.printed() != row.printed {
+    if !same(host.printed(), row.printed) {
         return Some("what is printed");
     }
-    if line_of(host) != row.line {
+    if !same(line_of(host), row.line) {
         return Some("the line");
     }
     if !host.starts().is_empty() || !host.given().is_empty() {
@@ -133,12 +134,9 @@ fn line_of(host: &MemHost<Entry>) -> &[u8] {
     }
 }
 
-fn rows_wrong<R: Wait>(
-    rt: &R,
-    alloc: Global,
-    rows: &[Row],
-) -> Result<Option<(usize, &'static str)>, Memory> {
-    for (place, row) in rows.iter().enumerate() {
+// The place of the first row that differs, and what differs in it.
+fn rows_wrong<R: Wait>(rt: &R, alloc: Global) -> Result<Option<(usize, &'static str)>, Memory> {
+    for (place, row) in ROWS.iter().enumerate() {
         if let Some(wrong) = row_wrong(rt, alloc, row)? {
             return Ok(Some((place, wrong)));
         }
@@ -148,9 +146,7 @@ fn rows_wrong<R: Wait>(
 
 #[test]
 fn printed_drills(rt: HostRuntime) -> Result<(), Fail> {
-    let right = rows_wrong(&rt, rt.alloc(), &RIGHT)?;
-    assert!(rt; right.is_none(), "right words");
-    let refused = rows_wrong(&rt, rt.alloc(), &REFUSED)?;
-    assert!(rt; refused.is_none(), "wrong words");
+    let (place, wrong) = rows_wrong(&rt, rt.alloc())?.unwrap_or((0, ""));
+    assert!(rt; wrong.is_empty(), "row {place}: {wrong}");
     Ok(())
 }

@@ -4,7 +4,7 @@ use crate::stats::put_stats;
 use crate::texts::{put, put_names, put_number, put_sent};
 use broker_history::{Act, Said};
 use desk::Turned;
-use nsq_base::Memory;
+use nsq_base::{Memory, Names};
 use nsq_outside::End;
 use std::alloc::Global;
 use v2_frame::{Command, Frame, FrameKind, Message, Taken};
@@ -22,14 +22,16 @@ pub fn put_answer(alloc: Global, out: &mut Vec<u8>, answer: &Turned) -> Result<(
         Turned::Silent => put(out, b"silent"),
         Turned::Ended => put(out, b"ended"),
         Turned::Said(said) => put_said(out, said),
-        Turned::Listed(names, at) => {
-            put(out, b"names at ")?;
-            put_number(out, u128::from(*at))?;
-            put_names(out, names)
-        }
+        Turned::Listed(names, at) => put_listed(out, names, *at),
         Turned::Strange => put(out, b"strange"),
         Turned::Memory => put(out, b"memory"),
     }
+}
+
+fn put_listed(out: &mut Vec<u8>, names: &Names, at: u64) -> Result<(), Memory> {
+    put(out, b"names at ")?;
+    put_number(out, u128::from(at))?;
+    put_names(out, names)
 }
 
 // A reply, of which a text that isn't of its kind says so.
@@ -88,11 +90,7 @@ pub fn put_told(out: &mut Vec<u8>, act: &Act, at: u64, end: End) -> Result<(), M
             End::Done => put_said(out, said),
             End::Faulted(_) | End::Skip => put(out, b"disk fault"),
         },
-        Act::Listed(names) => {
-            put(out, b"names at ")?;
-            put_number(out, u128::from(at))?;
-            put_names(out, names)
-        }
+        Act::Listed(names) => put_listed(out, names, at),
         Act::Ticked => put(out, b"quiet"),
         Act::Stop => put(out, b"stopping"),
         _ => Ok(()),

@@ -4,7 +4,7 @@
 ghost use Rattle.std.specs.Prelude.{◌≡◌, ◌∷◌, [], IfOk, IfSome};
 ghost use Rattle.desk.specs.Calls.{CanAsk, CanCall};
 
-use crate::texts::{FIRST_IDS, put};
+use crate::texts::{FIRST_IDS, look_up, put, put_each};
 use broker_history::Ask;
 use desk::Call;
 use nsq_base::{Bodies, Body, Chan, Memory, Topic};
@@ -19,6 +19,81 @@ const LIMITS: Limits = Limits {
 // The longest delay that any options allow.
 const LONGEST: u64 = 31_536_000_000_000_000;
 
+// The first word of a call that is neither asked of a topic or a channel nor a command.
+#[derive(Clone, Copy)]
+enum Word {
+    Begin,
+    Next,
+    Gone,
+    Names,
+    Tick,
+    Stop,
+    Bad,
+    Publish,
+}
+
+static WORDS: [(&[u8], Word); 8] = [
+    (b"begin", Word::Begin),
+    (b"next", Word::Next),
+    (b"gone", Word::Gone),
+    (b"names", Word::Names),
+    (b"tick", Word::Tick),
+    (b"stop", Word::Stop),
+    (b"bad", Word::Bad),
+    (b"publish", Word::Publish),
+];
+
+static FAULTS: [(&[u8], FaultKind); 7] = [
+    (b"magic", FaultKind::BadMagic),
+    (b"length", FaultKind::LineTooLong),
+    (b"word", FaultKind::BadWord),
+    (b"topic", FaultKind::BadTopic),
+    (b"channel", FaultKind::BadChannel),
+    (b"size", FaultKind::BadSize),
+    (b"body", FaultKind::BadBody),
+];
+
+// What is asked of a topic or a channel.
+#[derive(Clone, Copy)]
+enum Asking {
+    Stats,
+    Create,
+    Delete,
+    Empty,
+    Pause,
+    Unpause,
+}
+
+static ASKINGS: [(&[u8], Asking); 6] = [
+    (b"stats", Asking::Stats),
+    (b"create", Asking::Create),
+    (b"delete", Asking::Delete),
+    (b"empty", Asking::Empty),
+    (b"pause", Asking::Pause),
+    (b"unpause", Asking::Unpause),
+];
+
+// What stands behind a command's word.
+#[derive(Clone, Copy)]
+enum Form {
+    Body,
+    Topic,
+    List,
+    Delayed,
+    Id,
+}
+
+// The commands that are more than a line of their words.
+static FORMS: [(&[u8], Form); 7] = [
+    (b"IDENTIFY", Form::Body),
+    (b"PUB", Form::Topic),
+    (b"MPUB", Form::List),
+    (b"DPUB", Form::Delayed),
+    (b"FIN", Form::Id),
+    (b"REQ", Form::Id),
+    (b"TOUCH", Form::Id),
+];
+
 /// The first word of a text, and what stands behind it.
 pub fn parted(text: &str) -> (&str, &str) {
     match text.split_once(" ") {
@@ -32,16 +107,16 @@ pub fn call_of(alloc: Global, text: &str) -> Result<Option<Call>, Memory>
     ensures { IfOk result (λ call. IfSome call CanCall) }
 {
     let (word, rest) = parted(text);
-    match word.as_bytes() {
-        b"begin" => Ok(Some(Call::Begin)),
-        b"next" => Ok(Some(Call::Next)),
-        b"gone" => Ok(Some(Call::Gone)),
-        b"names" => Ok(Some(Call::Names)),
-        b"tick" => Ok(Some(Call::Tick)),
-        b"stop" => Ok(Some(Call::Stop)),
-        b"bad" => Ok(bad(rest)),
-        b"publish" => published(alloc, rest),
-        _ => asked_or_sent(alloc, text),
+    match look_up(&WORDS, word.as_bytes()) {
+        Some(Word::Bad) => Ok(bad(rest)),
+        Some(Word::Publish) => published(alloc, rest),
+        Some(Word::Begin) => Ok(Some(Call::Begin)),
+        Some(Word::Next) => Ok(Some(Call::Next)),
+        Some(Word::Gone) => Ok(Some(Call::Gone)),
+        Some(Word::Names) => Ok(Some(Call::Names)),
+        Some(Word::Tick) => Ok(Some(Call::Tick)),
+        Some(Word::Stop) => Ok(Some(Call::Stop)),
+        None => asked_or_sent(alloc, text),
     }
 }
 
@@ -49,7 +124,7 @@ fn asked_or_sent(alloc: Global, text: &str) -> Result<Option<Call>, Memory>
     ensures { IfOk result (λ call. IfSome call CanCall) }
 {
     let (word, rest) = parted(text);
-    let Some(asking) = asking_of(word) else {
+    let Some(asking) = look_up(&ASKINGS, word.as_bytes()) else {
         return sent(alloc, text);
     };
     let (topic, channel) = parted(rest);
@@ -67,40 +142,10 @@ fn asked_or_sent(alloc: Global, text: &str) -> Result<Option<Call>, Memory>
 fn bad(what: &str) -> Option<Call>
     ensures { IfSome result CanCall }
 {
-    let kind = match what.as_bytes() {
-        b"magic" => FaultKind::BadMagic,
-        b"length" => FaultKind::LineTooLong,
-        b"word" => FaultKind::BadWord,
-        b"topic" => FaultKind::BadTopic,
-        b"channel" => FaultKind::BadChannel,
-        b"size" => FaultKind::BadSize,
-        b"body" => FaultKind::BadBody,
-        _ => return None,
+    let Some(kind) = look_up(&FAULTS, what.as_bytes()) else {
+        return None;
     };
     Some(Call::Bad(Fault { kind, at: 0 }))
-}
-
-// What is asked of a topic or a channel.
-#[derive(Clone, Copy)]
-enum Asking {
-    Stats,
-    Create,
-    Delete,
-    Empty,
-    Pause,
-    Unpause,
-}
-
-fn asking_of(word: &str) -> Option<Asking> {
-    match word.as_bytes() {
-        b"stats" => Some(Asking::Stats),
-        b"create" => Some(Asking::Create),
-        b"delete" => Some(Asking::Delete),
-        b"empty" => Some(Asking::Empty),
-        b"pause" => Some(Asking::Pause),
-        b"unpause" => Some(Asking::Unpause),
-        _ => None,
-    }
 }
 
 fn ask_of(asking: Asking, topic: Option<Topic>, channel: Option<Chan>) -> Option<Ask>
@@ -148,9 +193,17 @@ fn one_body(alloc: Global, body: &str) -> Result<Bodies, Memory>
 fn sent(alloc: Global, text: &str) -> Result<Option<Call>, Memory>
     ensures { IfOk result (λ call. IfSome call CanCall) }
 {
+    let mut bytes = Vec::from_slice(alloc, b"  V2")?;
+    put_command(alloc, &mut bytes, text)?;
+    read(alloc, &bytes)
+}
+
+// The call of a client's bytes from its first one on.
+fn read(alloc: Global, bytes: &[u8]) -> Result<Option<Call>, Memory>
+    ensures { IfOk result (λ call. IfSome call CanCall) }
+{
     let mut reader = Reader::new(alloc, LIMITS)?;
-    reader.feed(b"  V2")?;
-    reader.feed(&bytes_of(alloc, text)?)?;
+    reader.feed(bytes)?;
     match reader.next() {
         Got::Whole(command) => Ok(Some(Call::Command(command))),
         Got::Fault(fault) => Ok(Some(Call::Bad(fault))),
@@ -159,44 +212,35 @@ fn sent(alloc: Global, text: &str) -> Result<Option<Call>, Memory>
     }
 }
 
-// The bytes of a command.
-fn bytes_of(alloc: Global, text: &str) -> Result<Vec<u8>, Memory> {
-    let mut bytes = Vec::new(alloc);
-    put_command(alloc, &mut bytes, text)?;
-    Ok(bytes)
-}
-
 fn put_command(alloc: Global, bytes: &mut Vec<u8>, text: &str) -> Result<(), Memory> {
     let (word, rest) = parted(text);
-    match word.as_bytes() {
-        b"IDENTIFY" => {
+    match look_up(&FORMS, word.as_bytes()) {
+        Some(Form::Body) => {
             put_line(bytes, word, "")?;
             put_sized(bytes, rest.as_bytes())
         }
-        b"PUB" => {
+        Some(Form::Topic) => {
             let (topic, body) = parted(rest);
             put_line(bytes, word, topic)?;
             put_sized(bytes, body.as_bytes())
         }
-        b"MPUB" => {
+        Some(Form::List) => {
             let (topic, list) = parted(rest);
             put_line(bytes, word, topic)?;
-            put_sized(bytes, &listed(alloc, list)?)
+            put_list(alloc, bytes, list)
         }
-        b"DPUB" => put_delayed(bytes, rest),
-        b"FIN" | b"REQ" | b"TOUCH" => put_of_id(bytes, word, rest),
-        _ => put_line(bytes, text, ""),
+        Some(Form::Delayed) => put_delayed(bytes, rest),
+        Some(Form::Id) => put_of_id(bytes, word, rest),
+        None => put_line(bytes, text, ""),
     }
 }
 
 // A line of two words, or of one where the second is empty.
 fn put_line(bytes: &mut Vec<u8>, word: &str, rest: &str) -> Result<(), Memory> {
-    put(bytes, word.as_bytes())?;
-    if !rest.is_empty() {
-        put(bytes, b" ")?;
-        put(bytes, rest.as_bytes())?;
+    if rest.is_empty() {
+        return put_each(bytes, &[word.as_bytes(), b"\n"]);
     }
-    put(bytes, b"\n")
+    put_each(bytes, &[word.as_bytes(), b" ", rest.as_bytes(), b"\n"])
 }
 
 // A size, and so many bytes.
@@ -221,27 +265,28 @@ fn put_delayed(bytes: &mut Vec<u8>, rest: &str) -> Result<(), Memory> {
 
 // A line that names a message.
 fn put_of_id(bytes: &mut Vec<u8>, word: &str, rest: &str) -> Result<(), Memory> {
-    put(bytes, word.as_bytes())?;
-    put(bytes, b" ")?;
+    put_each(bytes, &[word.as_bytes(), b" "])?;
     match rest.strip_prefix("i") {
-        Some(digit) => {
-            put(bytes, FIRST_IDS)?;
-            put_line(bytes, digit, "")
-        }
+        Some(digit) => put_each(bytes, &[FIRST_IDS, digit.as_bytes(), b"\n"]),
         None => put_line(bytes, rest, ""),
     }
 }
 
-// So many messages, each with its size.
-fn listed(alloc: Global, list: &str) -> Result<Vec<u8>, Memory> {
+// The size of a list of messages, their count, and each with its size.
+fn put_list(alloc: Global, bytes: &mut Vec<u8>, list: &str) -> Result<(), Memory> {
     let mut bodies = Vec::new(alloc);
+    let count = put_bodies(&mut bodies, list)?;
+    put_size(bytes, bodies.len().saturating_add(4))?;
+    put_size(bytes, count)?;
+    put(bytes, &bodies)
+}
+
+// Messages, each with its size. How many they are.
+fn put_bodies(bytes: &mut Vec<u8>, list: &str) -> Result<usize, Memory> {
     let mut count: usize = 0;
     for body in list.split(" ") {
-        put_sized(&mut bodies, body.as_bytes())?;
+        put_sized(bytes, body.as_bytes())?;
         count = count.saturating_add(1);
     }
-    let mut bytes = Vec::new(alloc);
-    put_size(&mut bytes, count)?;
-    put(&mut bytes, &bodies)?;
-    Ok(bytes)
+    Ok(count)
 }

@@ -100,13 +100,9 @@ impl Dice {
             20..=25 => put(out, "stats"),
             26 | 27 => put(out, "names"),
             _ => {
-                put(out, "publish ")?;
-                put(out, self.topic())?;
-                put(
-                    out,
-                    self.word(&[" 0 ", " 0 ", " 500000000 ", " 5000000000 "]),
-                )?;
-                put(out, self.body())
+                let topic = self.topic();
+                let delay = self.word(&[" 0 ", " 0 ", " 500000000 ", " 5000000000 "]);
+                put_each(out, &["publish ", topic, delay, self.body()])
             }
         }
     }
@@ -124,35 +120,30 @@ impl Dice {
     }
 
     fn topic_call(&mut self, out: &mut String, word: &str) -> Result<(), Memory> {
-        put(out, word)?;
-        put(out, self.topic())
+        put_each(out, &[word, self.topic()])
     }
 
     fn channel_call(&mut self, out: &mut String, word: &str) -> Result<(), Memory> {
-        self.topic_call(out, word)?;
-        put(out, " ")?;
-        put(out, self.channel())
+        let topic = self.topic();
+        put_each(out, &[word, topic, " ", self.channel()])
     }
 
     /// What a client publishes.
     pub fn publish(&mut self, out: &mut String) -> Result<(), Memory> {
         match self.below(8) {
             0 => {
-                self.topic_call(out, "DPUB ")?;
-                put(out, self.word(&[" 0 ", " 300 ", " 1000 ", " 3600001 "]))?;
-                put(out, self.body())
+                let topic = self.topic();
+                let delay = self.word(&[" 0 ", " 300 ", " 1000 ", " 3600001 "]);
+                put_each(out, &["DPUB ", topic, delay, self.body()])
             }
             1 => {
-                self.topic_call(out, "MPUB ")?;
-                put(out, " ")?;
-                put(out, self.body())?;
-                put(out, " ")?;
-                put(out, self.body())
+                let topic = self.topic();
+                let first = self.body();
+                put_each(out, &["MPUB ", topic, " ", first, " ", self.body()])
             }
             _ => {
-                self.topic_call(out, "PUB ")?;
-                put(out, " ")?;
-                put(out, self.body())
+                let topic = self.topic();
+                put_each(out, &["PUB ", topic, " ", self.body()])
             }
         }
     }
@@ -190,18 +181,11 @@ impl Dice {
     /// What a client does with a message of this id.
     pub fn handles(&mut self, out: &mut String, id: &str) -> Result<(), Memory> {
         match self.below(8) {
-            0 | 1 | 2 => {
-                put(out, "FIN ")?;
-                put(out, id)
-            }
-            3 | 4 => {
-                put(out, "TOUCH ")?;
-                put(out, id)
-            }
+            0 | 1 | 2 => put_each(out, &["FIN ", id]),
+            3 | 4 => put_each(out, &["TOUCH ", id]),
             _ => {
-                put(out, "REQ ")?;
-                put(out, id)?;
-                put(out, self.word(&[" 0", " 0", " 300", " 1000", " 99999999"]))
+                let delay = self.word(&[" 0", " 0", " 300", " 1000", " 99999999"]);
+                put_each(out, &["REQ ", id, delay])
             }
         }
     }
@@ -209,5 +193,12 @@ impl Dice {
 
 fn put(out: &mut String, text: &str) -> Result<(), Memory> {
     out.push_str(text)?;
+    Ok(())
+}
+
+fn put_each(out: &mut String, texts: &[&str]) -> Result<(), Memory> {
+    for text in texts {
+        put(out, text)?;
+    }
     Ok(())
 }

@@ -1,6 +1,6 @@
 //! Entries as text, and whether they are those of a turn.
 
-use crate::texts::{put, put_channels, put_id, put_message, put_number, put_place, put_sent};
+use crate::texts::{put, put_channels, put_each, put_id, put_message, put_number, put_sent, same};
 use broker_history::{Act, Ask, Entry};
 use desk::Call;
 use nsq_base::{Bodies, Body, Chan, Memory, MsgId, Names, Topic};
@@ -46,17 +46,14 @@ fn put_move(out: &mut Vec<u8>, act: &Act) -> Result<(), Memory> {
     match act {
         Act::Took(topic, message, names) => put_took(out, topic, message, names),
         Act::Copied(topic, channel, message) => {
-            put(out, b"copied ")?;
-            put_place(out, topic, channel)?;
-            put(out, b" ")?;
+            put_place(out, b"copied ", topic, channel)?;
             put_message(out, message)
         }
         Act::TimedOut(topic, channel, id) => put_moved(out, b"timed-out ", topic, channel, id),
         Act::CameDue(topic, channel, id) => put_moved(out, b"came-due ", topic, channel, id),
         Act::HeldBack(topic, channel, id) => put_moved(out, b"held-back ", topic, channel, id),
         Act::Stuck(topic, channel) => {
-            put(out, b"stuck ")?;
-            put(out, topic.bytes())?;
+            put_each(out, &[b"stuck ", topic.bytes()])?;
             put_channels(out, channel.as_slice())
         }
         _ => Ok(()),
@@ -69,12 +66,10 @@ fn put_took(
     message: &Message,
     names: &Names,
 ) -> Result<(), Memory> {
-    put(out, b"took ")?;
-    put(out, topic.bytes())?;
-    put(out, b" ")?;
+    put_each(out, &[b"took ", topic.bytes(), b" "])?;
     put_message(out, message)?;
     put(out, b" for")?;
-    if names.count() != 1 || names.topic(0).bytes() != topic.bytes() {
+    if names.count() != 1 || !same(names.topic(0).bytes(), topic.bytes()) {
         return put(out, b" others");
     }
     put_channels(out, names.channels(0))
@@ -87,10 +82,13 @@ fn put_moved(
     channel: &Chan,
     id: &MsgId,
 ) -> Result<(), Memory> {
-    put(out, word)?;
-    put_place(out, topic, channel)?;
-    put(out, b" ")?;
+    put_place(out, word, topic, channel)?;
     put_id(out, id)
+}
+
+// Behind a word a topic and a channel of it.
+fn put_place(out: &mut Vec<u8>, word: &[u8], topic: &Topic, channel: &Chan) -> Result<(), Memory> {
+    put_each(out, &[word, topic.bytes(), b" ", channel.bytes(), b" "])
 }
 
 /// Whether an act is a move, or the daemon's Stuck.
@@ -152,7 +150,7 @@ fn is_command(a: &Command, b: &Command) -> bool {
 }
 
 fn is_body(a: &Body, b: &Body) -> bool {
-    a.bytes() == b.bytes()
+    same(a.bytes(), b.bytes())
 }
 
 fn are_bodies(a: &Bodies, b: &Bodies) -> bool {
@@ -163,11 +161,16 @@ fn is_ask(a: &Ask, b: &Ask) -> bool {
     match (a, b) {
         (Ask::Publish(a, c, e), Ask::Publish(b, d, f)) => a == b && c == d && are_bodies(e, f),
         (Ask::Stats(a, c), Ask::Stats(b, d)) => a == b && c == d,
-        (Ask::Create(a, c), Ask::Create(b, d)) => a == b && c == d,
-        (Ask::Delete(a, c), Ask::Delete(b, d)) => a == b && c == d,
-        (Ask::Empty(a, c), Ask::Empty(b, d)) => a == b && c == d,
-        (Ask::Pause(a, c), Ask::Pause(b, d)) => a == b && c == d,
-        (Ask::Unpause(a, c), Ask::Unpause(b, d)) => a == b && c == d,
+        (Ask::Create(a, c), Ask::Create(b, d)) => is_place(a, c, b, d),
+        (Ask::Delete(a, c), Ask::Delete(b, d)) => is_place(a, c, b, d),
+        (Ask::Empty(a, c), Ask::Empty(b, d)) => is_place(a, c, b, d),
+        (Ask::Pause(a, c), Ask::Pause(b, d)) => is_place(a, c, b, d),
+        (Ask::Unpause(a, c), Ask::Unpause(b, d)) => is_place(a, c, b, d),
         _ => false,
     }
+}
+
+// Whether a topic and a channel of it, or none, are those.
+fn is_place(a: &Topic, c: &Option<Chan>, b: &Topic, d: &Option<Chan>) -> bool {
+    a == b && c == d
 }

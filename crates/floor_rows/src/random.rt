@@ -7,7 +7,7 @@ ghost use Rattle.nsq_base.specs.Options.{IsInRange};
 use crate::dice::Dice;
 use crate::plain::states_of;
 use crate::script::{Bench, Dials, Done, Left, floor_of, is_in_order, put_turn};
-use crate::texts::{put, put_number};
+use crate::texts::{look_up, put, put_each, put_number};
 use nsq_base::{Body, Memory, Options};
 use nsq_fakes::MemFolder;
 use std::alloc::Global;
@@ -39,6 +39,44 @@ fn side_of(number: u64) -> Side {
     }
 }
 
+// A call that is one word.
+#[derive(Clone, Copy)]
+enum Kind {
+    Begin,
+    Gone,
+    Next,
+    Names,
+    Stop,
+    Other,
+}
+
+static KINDS: [(&[u8], Kind); 5] = [
+    (b"begin", Kind::Begin),
+    (b"gone", Kind::Gone),
+    (b"next", Kind::Next),
+    (b"names", Kind::Names),
+    (b"stop", Kind::Stop),
+];
+
+// What an answer tells: that the call was strange, that the daemon stops, that the client joined its channel, that it is closed, or something else.
+#[derive(Clone, Copy)]
+enum Told {
+    Strange,
+    Stopping,
+    Joined,
+    Closed,
+    Other,
+}
+
+// The answers that tell something; one that closes ends so.
+static TOLD: [(&[u8], Told); 5] = [
+    (b"strange", Told::Strange),
+    (b"stopping", Told::Stopping),
+    (b"OK", Told::Joined),
+    (b"deleted", Told::Closed),
+    (b"silent", Told::Closed),
+];
+
 // A run: a floor, what its clients know, and whether it stopped.
 #[derive(Drop)]
 struct Run<'a> {
@@ -52,7 +90,22 @@ struct Run<'a> {
     stopped: bool,
 }
 
-impl Run<'_> {
+impl<'a> Run<'a> {
+    // What was done, and what the floor left.
+    fn end(self) -> (Vec<Done>, Left<'a>) {
+        let Run {
+            alloc: _,
+            bench,
+            dice: _,
+            reading: _,
+            sides: _,
+            sent: _,
+            stopped: _,
+        } = self;
+        let (done, _, left) = bench.end(false);
+        (done, left)
+    }
+
     // One random turn. Whether it was strange, or stopping, exactly where it should.
     fn turn(&mut self, count: u64) -> Result<bool, Memory> {
         self.pass();
@@ -63,11 +116,16 @@ impl Run<'_> {
         } else {
             self.put_call(&mut call, side)?;
         }
+        self.make(side, &call)
+    }
+
+    // A turn of this call. Whether it was strange, or stopping, exactly where it should.
+    fn make(&mut self, side: usize, call: &str) -> Result<bool, Memory> {
         let number = self.side(side).number;
-        if !self.bench.turn(number, &call)? {
+        if !self.bench.turn(number, call)? {
             return Ok(false);
         }
-        self.learn(side, &call)
+        self.learn(side, call)
     }
 
     // The clock stands, goes on, or goes back for one turn.
@@ -122,32 +180,30 @@ impl Run<'_> {
         let Some(done) = self.bench.last() else {
             return Ok(false);
         };
-        let is_strange = done.answer.as_slice() == b"strange".as_slice();
-        let is_stopping = done.answer.as_slice() == b"stopping".as_slice();
+        let told = told_by(&done.answer);
         if let Some(id) = sent_id(self.alloc, &done.answer)? {
             self.sent.push(id)?;
         }
-        let closed = closes(&done.answer);
-        let joined = call.starts_with("SUB") && done.answer.as_slice() == b"OK".as_slice();
+        Ok(self.note(side, call, told))
+    }
+
+    // Notes what a call was answered. Whether it was strange, or stopping, exactly where it should.
+    fn note(&mut self, side: usize, call: &str, told: Told) -> bool {
+        let kind = look_up(&KINDS, call.as_bytes()).unwrap_or(Kind::Other);
         let before = self.side(side);
-        let stops = ends_at_stop(call) && self.stopped;
-        let strange = call == "begin" && before.is_there || needs_client(call) && !before.is_there;
-        self.put_side(
-            side,
-            Side {
-                number: before.number,
-                is_there: before.is_there || call == "begin",
-                joined: before.joined || joined,
-                closed: before.closed || closed,
-            },
-        );
-        if call == "gone" {
-            self.put_side(side, side_of(before.number.saturating_add(3)));
-        }
-        if call == "stop" {
-            self.stopped = true;
-        }
-        Ok(is_strange == strange && is_stopping == (!strange && (stops || call == "stop")))
+        let stops = self.stopped && ends_at_stop(kind) || matches!(kind, Kind::Stop);
+        let strange = match kind {
+            Kind::Begin => before.is_there,
+            _ => !before.is_there && needs_client(kind, call),
+        };
+        let after = match kind {
+            Kind::Gone => side_of(before.number.saturating_add(3)),
+            _ => learned(before, kind, call, told),
+        };
+        self.put_side(side, after);
+        self.stopped = self.stopped || matches!(kind, Kind::Stop);
+        matches!(told, Told::Strange) == strange
+            && matches!(told, Told::Stopping) == (!strange && stops)
     }
 
     fn put_side(&mut self, side: usize, now: Side) {
@@ -157,9 +213,23 @@ impl Run<'_> {
     }
 }
 
-// Whether an answer tells a client that it is closed.
-fn closes(answer: &[u8]) -> bool {
-    answer.ends_with(b"closes") || answer == b"deleted".as_slice() || answer == b"silent".as_slice()
+// What an answer tells.
+fn told_by(answer: &[u8]) -> Told {
+    if answer.ends_with(b"closes") {
+        return Told::Closed;
+    }
+    look_up(&TOLD, answer).unwrap_or(Told::Other)
+}
+
+// What a client knows behind a call that was answered so.
+fn learned(before: Side, kind: Kind, call: &str, told: Told) -> Side {
+    let joined = call.starts_with("SUB") && matches!(told, Told::Joined);
+    Side {
+        number: before.number,
+        is_there: before.is_there || matches!(kind, Kind::Begin),
+        joined: before.joined || joined,
+        closed: before.closed || matches!(told, Told::Closed),
+    }
 }
 
 // The id of the message that an answer sends.
@@ -175,8 +245,8 @@ fn sent_id(alloc: Global, answer: &[u8]) -> Result<Option<String>, Memory> {
 }
 
 // Whether it is a client's call, other than its beginning.
-fn needs_client(call: &str) -> bool {
-    call == "next" || call == "gone" || call.starts_with("bad") || is_command(call)
+fn needs_client(kind: Kind, call: &str) -> bool {
+    matches!(kind, Kind::Next | Kind::Gone) || call.starts_with("bad") || is_command(call)
 }
 
 // Whether it is a command: its word is in capitals.
@@ -188,8 +258,8 @@ fn is_command(call: &str) -> bool {
 }
 
 // Whether it does nothing behind a stop.
-fn ends_at_stop(call: &str) -> bool {
-    call != "begin" && call != "gone" && call != "names"
+fn ends_at_stop(kind: Kind) -> bool {
+    !matches!(kind, Kind::Begin | Kind::Gone | Kind::Names)
 }
 
 // Options with short times, and no texts, since each state has a copy of them.
@@ -213,34 +283,37 @@ fn options_of(alloc: Global, seed: u64) -> Result<Options, Memory>
     }
 }
 
-// What is wrong with a seed's turns, as text; nothing where they are right.
-fn wrong_in(alloc: Global, seed: u64) -> Result<Vec<u8>, Memory> {
-    let dials = Dials::new();
-    let options = options_of(alloc, seed)?;
+// A run of a seed.
+fn run_of<'a>(
+    alloc: Global,
+    seed: u64,
+    options: &Options,
+    dials: &'a Dials,
+) -> Result<Run<'a>, Memory>
+    requires { IsInRange options.now }
+{
     let mut dice = Dice::new(seed);
     let folder = MemFolder::new(alloc, Vec::new(alloc), dice.faults(alloc)?)?;
-    let floor = floor_of(alloc, &options, folder, &dials)?;
-    let mut run = Run {
+    let floor = floor_of(alloc, options, folder, dials)?;
+    Ok(Run {
         alloc,
-        bench: Bench::new(alloc, floor, &dials),
+        bench: Bench::new(alloc, floor, dials),
         dice,
         reading: 0,
         sides: [side_of(1), side_of(2), side_of(3)],
         sent: Vec::new(alloc),
         stopped: false,
-    };
+    })
+}
+
+// What is wrong with a seed's turns, as text; nothing where they are right.
+fn put_wrong_in(alloc: Global, text: &mut Vec<u8>, seed: u64) -> Result<(), Memory> {
+    let dials = Dials::new();
+    let options = options_of(alloc, seed)?;
+    let mut run = run_of(alloc, seed, &options, &dials)?;
     let right = turns_are_right(&mut run)?;
-    let Run {
-        alloc: _,
-        bench,
-        dice: _,
-        reading: _,
-        sides: _,
-        sent: _,
-        stopped: _,
-    } = run;
-    let (done, _, left) = bench.end(false);
-    judged(alloc, &options, right, &done, &left)
+    let (done, left) = run.end();
+    judge(alloc, text, &options, right, &done, &left)
 }
 
 fn turns_are_right(run: &mut Run) -> Result<bool, Memory> {
@@ -253,39 +326,48 @@ fn turns_are_right(run: &mut Run) -> Result<bool, Memory> {
 }
 
 // What is wrong with turns that were made.
-fn judged(
+fn judge(
     alloc: Global,
+    text: &mut Vec<u8>,
     options: &Options,
     right: bool,
     done: &[Done],
     left: &Left,
-) -> Result<Vec<u8>, Memory> {
-    let entries = left.journal.entries();
+) -> Result<(), Memory> {
     if !right {
-        return told(alloc, b"the last is answered wrongly", done, left);
+        return tell(text, b"the last is answered wrongly", done, left);
     }
+    if let Some(stray) = out_of_order(alloc, done, left)? {
+        put(text, b"not in order")?;
+        return put_line(text, stray, left);
+    }
+    if states_of(alloc, options, &[], left.journal.entries())?.is_empty() {
+        return tell(text, b"not legal", done, left);
+    }
+    Ok(())
+}
+
+// The first turn whose entries aren't in order.
+fn out_of_order<'a>(
+    alloc: Global,
+    done: &'a [Done],
+    left: &Left,
+) -> Result<Option<&'a Done>, Memory> {
     for one in done {
-        if !is_in_order(alloc, one, entries)? {
-            let mut text = Vec::new(alloc);
-            put(&mut text, b"not in order")?;
-            put_line(&mut text, one, left)?;
-            return Ok(text);
+        if !is_in_order(alloc, one, left.journal.entries())? {
+            return Ok(Some(one));
         }
     }
-    if states_of(alloc, options, &[], entries)?.is_empty() {
-        return told(alloc, b"not legal", done, left);
-    }
-    Ok(Vec::new(alloc))
+    Ok(None)
 }
 
 // What is said of turns, and the turns.
-fn told(alloc: Global, what: &[u8], done: &[Done], left: &Left) -> Result<Vec<u8>, Memory> {
-    let mut text = Vec::new(alloc);
-    put(&mut text, what)?;
+fn tell(text: &mut Vec<u8>, what: &[u8], done: &[Done], left: &Left) -> Result<(), Memory> {
+    put(text, what)?;
     for one in done {
-        put_line(&mut text, one, left)?;
+        put_line(text, one, left)?;
     }
-    Ok(text)
+    Ok(())
 }
 
 // A turn in a line of its own.
@@ -294,23 +376,26 @@ fn put_line(text: &mut Vec<u8>, one: &Done, left: &Left) -> Result<(), Memory> {
     put_number(text, u128::from(one.at))?;
     put(text, b": ")?;
     put_number(text, u128::from(one.number))?;
-    put(text, b" ")?;
-    put(text, one.call.as_bytes())?;
-    put(text, b" => ")?;
+    put_each(text, &[b" ", one.call.as_bytes(), b" => "])?;
     put_turn(text, one, left.journal.entries())
 }
 
 // What is wrong with the first seed that is, as text.
-fn wrong(alloc: Global) -> Result<String, Memory> {
-    for i in 0..SEEDS {
-        let mut wrong = wrong_in(alloc, i + 1)?;
+fn put_wrong(alloc: Global, wrong: &mut Vec<u8>) -> Result<(), Memory> {
+    for seed in 1..SEEDS + 1 {
+        put_wrong_in(alloc, wrong, seed)?;
         if !wrong.is_empty() {
-            put(&mut wrong, b"\nseed ")?;
-            put_number(&mut wrong, u128::from(i + 1))?;
-            return Ok(String::from_utf8_lossy(alloc, &wrong)?);
+            put(wrong, b"\nseed ")?;
+            return put_number(wrong, u128::from(seed));
         }
     }
-    Ok(String::new(alloc))
+    Ok(())
+}
+
+fn wrong(alloc: Global) -> Result<String, Memory> {
+    let mut wrong = Vec::new(alloc);
+    put_wrong(alloc, &mut wrong)?;
+    Ok(String::from_utf8_lossy(alloc, &wrong)?)
 }
 
 #[test]

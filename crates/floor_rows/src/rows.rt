@@ -6,7 +6,7 @@ ghost use Rattle.nsq_base.specs.Options.{IsInRange};
 use crate::plain::{File, states_of};
 use crate::script::{Bench, Dials, Done, Left, behind_number, floor_of, is_in_order, put_turn};
 use crate::tables::tables;
-use crate::texts::put;
+use crate::texts::{put_each, same};
 use nsq_base::{Memory, Options};
 use nsq_fakes::{Failing, MemFolder};
 use std::alloc::Global;
@@ -73,12 +73,22 @@ fn options_of(alloc: Global, start: Start) -> Result<Options, Memory>
 }
 
 fn folder_of(alloc: Global, row: &Row) -> Result<MemFolder, Memory> {
+    let fails = Vec::from_slice(alloc, row.fails)?;
     let mut files = Vec::new(alloc);
-    for (name, bytes) in row.start.files {
+    add_files(alloc, &mut files, row.start.files)?;
+    MemFolder::new(alloc, files, fails)
+}
+
+fn add_files(
+    alloc: Global,
+    files: &mut Vec<(String, Vec<u8>)>,
+    further: &[File],
+) -> Result<(), Memory> {
+    for (name, bytes) in further {
         let name = String::from_str(alloc, name)?;
         files.push((name, Vec::from_slice(alloc, bytes)?))?;
     }
-    MemFolder::new(alloc, files, Vec::from_slice(alloc, row.fails)?)
+    Ok(())
 }
 
 // What differs in a row.
@@ -98,17 +108,16 @@ fn differs(alloc: Global, row: &Row) -> Result<Difference, Memory> {
     let mut bench = Bench::new(alloc, floor, &dials);
     let stray = run(&mut bench, row.lines)?;
     let (done, written, left) = bench.end(row.flush.is_some());
-    let text = if let Some(line) = stray {
-        said(alloc, line, b"is no line")?
+    let faulted = left.folder.faults() != 0;
+    let mut text = Vec::new(alloc);
+    if let Some(line) = stray {
+        say(&mut text, line, b"is no line")?;
     } else if row.flush.is_some_and(|wanted| wanted != written) {
-        said(alloc, "the flush", b"ends otherwise")?
+        say(&mut text, "the flush", b"ends otherwise")?;
     } else {
-        compared(alloc, row, &options, &done, &left)?
-    };
-    Ok(Difference {
-        text,
-        faulted: left.folder.faults() != 0,
-    })
+        compare(alloc, &mut text, row, &options, &done, &left)?;
+    }
+    Ok(Difference { text, faulted })
 }
 
 // The first line that says nothing, if there is one.
@@ -123,79 +132,79 @@ fn run<'a>(bench: &mut Bench, lines: &'a str) -> Result<Option<&'a str>, Memory>
 }
 
 // What differs from the lines, then in what stands behind them.
-fn compared(
+fn compare(
     alloc: Global,
+    text: &mut Vec<u8>,
     row: &Row,
     options: &Options,
     done: &[Done],
     left: &Left,
-) -> Result<Vec<u8>, Memory> {
-    let differs = lines_differ(alloc, row.lines, done, left)?;
-    if !differs.is_empty() {
-        return Ok(differs);
+) -> Result<(), Memory> {
+    compare_lines(alloc, text, row.lines, done, left)?;
+    if !text.is_empty() {
+        return Ok(());
     }
     let entries = left.journal.entries();
     if states_of(alloc, options, row.start.files, entries)?.is_empty() {
-        return said(alloc, "", b"isn't legal");
+        return say(text, "", b"isn't legal");
     }
     for (name, bytes) in row.leaves {
         if left.folder.file(name) != *bytes {
-            return said(
-                alloc,
-                name,
-                left.folder.file(name).unwrap_or(b"isn't there"),
-            );
+            return say(text, name, left.folder.file(name).unwrap_or(b"isn't there"));
         }
     }
-    Ok(Vec::new(alloc))
+    Ok(())
 }
 
 // What differs from the lines that are turns.
-fn lines_differ(alloc: Global, lines: &str, done: &[Done], left: &Left) -> Result<Vec<u8>, Memory> {
+fn compare_lines(
+    alloc: Global,
+    text: &mut Vec<u8>,
+    lines: &str,
+    done: &[Done],
+    left: &Left,
+) -> Result<(), Memory> {
     let mut next: usize = 0;
     for line in lines.lines() {
         let line = line.trim();
         if line.is_empty() || line.starts_with("at ") {
             continue;
         }
-        let differs = line_differs(alloc, line, done.get(next), left)?;
-        if !differs.is_empty() {
-            return Ok(differs);
+        compare_line(alloc, text, line, done.get(next), left)?;
+        if !text.is_empty() {
+            return Ok(());
         }
         next = next.saturating_add(1);
     }
-    Ok(Vec::new(alloc))
+    Ok(())
 }
 
 // What differs from a line.
-fn line_differs(
+fn compare_line(
     alloc: Global,
+    text: &mut Vec<u8>,
     line: &str,
     done: Option<&Done>,
     left: &Left,
-) -> Result<Vec<u8>, Memory> {
+) -> Result<(), Memory> {
     let Some(done) = done else {
-        return said(alloc, line, b"wasn't made");
+        return say(text, line, b"wasn't made");
     };
     let mut told = Vec::new(alloc);
     put_turn(&mut told, done, left.journal.entries())?;
     let (_, wanted) = behind_number(line);
-    if told.as_slice() != wanted.as_bytes() {
-        return said(alloc, line, &told);
+    if !same(&told, wanted.as_bytes()) {
+        return say(text, line, &told);
     }
     if !is_in_order(alloc, done, left.journal.entries())? {
-        return said(alloc, line, b"isn't in order");
+        return say(text, line, b"isn't in order");
     }
-    Ok(Vec::new(alloc))
+    Ok(())
 }
 
-// What is said of a line.
-fn said(alloc: Global, line: &str, what: &[u8]) -> Result<Vec<u8>, Memory> {
-    let mut text = Vec::new(alloc);
-    put(&mut text, line.as_bytes())?;
-    put(&mut text, b": ")?;
-    put(&mut text, what)?;
-    Ok(text)
+// Says this of a line.
+fn say(text: &mut Vec<u8>, line: &str, what: &[u8]) -> Result<(), Memory> {
+    put_each(text, &[line.as_bytes(), b": ", what])
 }
 
 // What differs in a row. One that ends for want of memory outside of its turns, or in which the folder found none, begins once more; so the rows hold
@@ -232,10 +241,7 @@ fn put_wrong(alloc: Global, wrong: &mut Vec<u8>, row: &Row) -> Result<(), Memory
     if differs.is_empty() {
         return Ok(());
     }
-    put(wrong, b"\n")?;
-    put(wrong, row.name.as_bytes())?;
-    put(wrong, b"\n  ")?;
-    put(wrong, &differs)
+    put_each(wrong, &[b"\n", row.name.as_bytes(), b"\n  ", &differs])
 }
 
 #[test]

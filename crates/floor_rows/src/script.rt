@@ -11,12 +11,12 @@ use crate::answers::{put_answer, put_told};
 use crate::calls::{call_of, parted};
 use crate::entries::{is_move, is_of, put_entry};
 use crate::outside::{Counted, Shown};
-use crate::texts::{put, put_count, put_flag, put_names, put_number};
+use crate::texts::{look_up, put, put_count, put_each, put_flag, put_names, put_number, same};
 use backlog::Flushed;
 use broker_floor::Floor;
 use broker_history::Entry;
 use desk::{Call, Turned};
-use names_file::KeptTopic;
+use names_file::{KeptChannel, KeptTopic};
 use nsq_base::{Memory, Options};
 use nsq_fakes::MemFolder;
 use nsq_outside::{End, Kit};
@@ -30,6 +30,26 @@ const FEW: usize = 10;
 
 // The latest moment.
 const LATEST: u64 = 1 << 62;
+
+// Another call of a floor than a turn.
+#[derive(Clone, Copy)]
+enum Asked {
+    Changed,
+    Saved,
+    Kept,
+    Names,
+    Epoch,
+    Began,
+}
+
+static ASKED: [(&[u8], Asked); 6] = [
+    (b"changed", Asked::Changed),
+    (b"saved", Asked::Saved),
+    (b"kept", Asked::Kept),
+    (b"names", Asked::Names),
+    (b"epoch", Asked::Epoch),
+    (b"began", Asked::Began),
+];
 
 /// A floor in memory.
 pub type MemFloor<'a> = Floor<MemFolder, Shown<'a>, Counted<'a>>;
@@ -131,19 +151,25 @@ impl<'a> Bench<'a> {
     /// Makes a turn. Where memory was wanting for it, it is made once more. Whether the text is a call's.
     pub fn turn(&mut self, number: u64, text: &str) -> Result<bool, Memory> {
         let before = self.dials.noted();
-        let Some(first) = self.answer(number, text)? else {
-            return Ok(false);
-        };
+        let first = self.answer(number, text)?;
         let between = self.dials.noted();
-        let answer = match first {
-            Turned::Memory => self.answer(number, text)?,
-            answer => Some(answer),
-        };
-        let Some(answer) = answer else {
-            return Ok(false);
-        };
-        self.keep(number, text, &answer, before, between)?;
-        Ok(true)
+        match self.at_last(first, number, text)? {
+            Some(answer) => self.keep(number, text, &answer, before, between),
+            None => Ok(false),
+        }
+    }
+
+    // What a turn answers at last whose first answer is this.
+    fn at_last(
+        &mut self,
+        first: Option<Turned>,
+        number: u64,
+        text: &str,
+    ) -> Result<Option<Turned>, Memory> {
+        match first {
+            Some(Turned::Memory) => self.answer(number, text),
+            first => Ok(first),
+        }
     }
 
     // What a turn answers.
@@ -156,7 +182,7 @@ impl<'a> Bench<'a> {
         Ok(Some(self.floor.turn(self.alloc, number, call)))
     }
 
-    // Keeps what a turn did.
+    // Keeps what a turn did. It's true.
     fn keep(
         &mut self,
         number: u64,
@@ -164,72 +190,73 @@ impl<'a> Bench<'a> {
         answer: &Turned,
         before: usize,
         between: usize,
-    ) -> Result<(), Memory> {
+    ) -> Result<bool, Memory> {
         let mut told = Vec::new(self.alloc);
         put_answer(self.alloc, &mut told, answer)?;
+        let call = String::from_str(self.alloc, text)?;
+        self.push(number, call, told, before, between)
+    }
+
+    // One more that was made. It's true.
+    fn push(
+        &mut self,
+        number: u64,
+        call: String,
+        answer: Vec<u8>,
+        before: usize,
+        between: usize,
+    ) -> Result<bool, Memory> {
         self.done.push(Done {
             number,
-            call: String::from_str(self.alloc, text)?,
+            call,
             at: self.moment,
-            answer: told,
+            answer,
             before,
             between,
             after: self.dials.noted(),
         })?;
-        Ok(())
+        Ok(true)
     }
 
     /// Makes what a line says. Whether it says something.
     pub fn line(&mut self, line: &str) -> Result<bool, Memory> {
         let (first, rest) = parted(line);
-        match first.as_bytes() {
-            b"at" => return Ok(self.set_clock(rest)),
-            b"floor" => return self.ask(behind_number(line).0),
-            _ => {}
+        if first == "at" {
+            return Ok(self.set_clock(rest));
         }
         let (call, _) = behind_number(line);
         match first.parse::<u64>() {
             Ok(number) => self.turn(number, call),
-            Err(_) => Ok(false),
+            Err(_) => self.ask(first, call),
         }
     }
 
     // Makes another call of the floor than a turn. Whether there is such a call.
-    fn ask(&mut self, call: &str) -> Result<bool, Memory> {
-        let mut told = Vec::new(self.alloc);
-        if !self.put_told(&mut told, call)? {
+    fn ask(&mut self, first: &str, call: &str) -> Result<bool, Memory> {
+        let Some(asked) = asked_by(first, call) else {
             return Ok(false);
-        }
+        };
+        let mut told = Vec::new(self.alloc);
+        self.put_told(&mut told, asked)?;
         let noted = self.dials.noted();
-        self.done.push(Done {
-            number: 0,
-            call: String::new(self.alloc),
-            at: self.moment,
-            answer: told,
-            before: noted,
-            between: noted,
-            after: noted,
-        })?;
-        Ok(true)
+        self.push(0, String::new(self.alloc), told, noted, noted)
     }
 
-    fn put_told(&mut self, told: &mut Vec<u8>, call: &str) -> Result<bool, Memory> {
-        match call.as_bytes() {
-            b"changed" => put(told, if self.floor.changed() { b"yes" } else { b"no" })?,
-            b"saved" => {
+    fn put_told(&mut self, told: &mut Vec<u8>, asked: Asked) -> Result<(), Memory> {
+        match asked {
+            Asked::Changed => put(told, if self.floor.changed() { b"yes" } else { b"no" }),
+            Asked::Saved => {
                 self.floor.saved();
-                put(told, b"done")?;
+                put(told, b"done")
             }
-            b"kept" => put_kept(told, &self.floor.kept(self.alloc)?)?,
-            b"names" => {
+            Asked::Kept => put_kept(told, &self.floor.kept(self.alloc)?),
+            Asked::Names => {
                 put(told, b"names")?;
-                put_names(told, &self.floor.names(self.alloc)?)?;
+                put_names(told, &self.floor.names(self.alloc)?)
             }
-            b"epoch" => put_number(told, u128::from(self.floor.epoch()))?,
-            b"began" => put_number(told, u128::from(self.floor.began()))?,
-            _ => return Ok(false),
+            Asked::Epoch => put_number(told, u128::from(self.floor.epoch())),
+            Asked::Began => put_number(told, u128::from(self.floor.began())),
         }
-        Ok(true)
     }
 
     fn set_clock(&mut self, moment: &str) -> bool {
@@ -262,6 +289,15 @@ impl<'a> Bench<'a> {
         } = self;
         let written = !flushes || matches!(floor.flush(), Flushed::Done);
         (done, written, floor.end())
+    }
+}
+
+// The call of the floor that a line asks, if it does.
+fn asked_by(first: &str, call: &str) -> Option<Asked> {
+    if first == "floor" {
+        look_up(&ASKED, call.as_bytes())
+    } else {
+        None
     }
 }
 
@@ -320,12 +356,11 @@ fn are_at(entries: &[(Entry, End)], at: u64) -> bool {
 // Whether the last entry tells the answer. Where there is none, the turn was answered that it is strange, or that the daemon stops.
 fn is_told(alloc: Global, entries: &[(Entry, End)], done: &Done) -> Result<bool, Memory> {
     let Some((entry, end)) = entries.last() else {
-        let answer = done.answer.as_slice();
-        return Ok(answer == b"strange".as_slice() || answer == b"stopping".as_slice());
+        return Ok(same(&done.answer, b"strange") || same(&done.answer, b"stopping"));
     };
     let mut told = Vec::new(alloc);
     put_told(&mut told, &entry.act, entry.at, *end)?;
-    Ok(told.as_slice() == done.answer.as_slice())
+    Ok(same(&told, &done.answer))
 }
 
 /// The answer of a turn and its entries, as they stand behind a line's arrow. Of many moves their number stands there.
@@ -367,16 +402,18 @@ fn done_moves(entries: &[(Entry, End)]) -> usize {
 fn put_kept(out: &mut Vec<u8>, kept: &[KeptTopic]) -> Result<(), Memory> {
     put(out, b"kept")?;
     for topic in kept {
-        put(out, b" ")?;
-        put(out, topic.topic.bytes())?;
+        put_each(out, &[b" ", topic.topic.bytes()])?;
         put_flag(out, b"paused", topic.paused)?;
-        put(out, b" [")?;
-        for channel in &topic.channels {
-            put(out, b" ")?;
-            put(out, channel.channel.bytes())?;
-            put_flag(out, b"paused", channel.paused)?;
-        }
-        put(out, b" ]")?;
+        put_kept_channels(out, &topic.channels)?;
     }
     Ok(())
+}
+
+fn put_kept_channels(out: &mut Vec<u8>, channels: &[KeptChannel]) -> Result<(), Memory> {
+    put(out, b" [")?;
+    for channel in channels {
+        put_each(out, &[b" ", channel.channel.bytes()])?;
+        put_flag(out, b"paused", channel.paused)?;
+    }
+    put(out, b" ]")
 }

@@ -54,20 +54,35 @@ fn put_answer(
     behind: &[u8],
 ) -> Result<(), Memory> {
     let rest = body.len().saturating_add(behind.len());
-    put(out, b"HTTP/1.1 ")?;
-    put(out, status)?;
-    put(out, b"\r\nContent-Type: ")?;
-    put(out, kind)?;
-    put(out, b"; charset=utf-8\r\nContent-Length: ")?;
-    put_number(out, before.len().saturating_add(rest))?;
-    put(out, b"\r\nConnection: close\r\n\r\n")?;
-    put(out, before)?;
-    put(out, body)?;
-    put(out, behind)
+    let mut digits = Buffer::new();
+    let length = digits.format(before.len().saturating_add(rest)).as_bytes();
+    put_each(
+        out,
+        &[
+            b"HTTP/1.1 ",
+            status,
+            b"\r\nContent-Type: ",
+            kind,
+            b"; charset=utf-8\r\nContent-Length: ",
+            length,
+            b"\r\nConnection: close\r\n\r\n",
+            before,
+            body,
+            behind,
+        ],
+    )
 }
 
 pub fn put(out: &mut Vec<u8>, bytes: &[u8]) -> Result<(), Memory> {
     out.extend_from_slice(bytes)?;
+    Ok(())
+}
+
+/// Adds texts, one behind another.
+pub fn put_each(out: &mut Vec<u8>, texts: &[&[u8]]) -> Result<(), Memory> {
+    for text in texts {
+        put(out, text)?;
+    }
     Ok(())
 }
 

@@ -1,6 +1,6 @@
 //! What goes otherwise than a row says, and the test over all tables.
 
-use crate::answers::{Gets, put, put_gets, put_number};
+use crate::answers::{Gets, put, put_each, put_gets, put_number};
 use crate::bench::{Bench, bench_of};
 use crate::conn::SlowConn;
 use crate::steps::{CALLER, Caller, Row, Step};
@@ -9,7 +9,7 @@ use desk::Call;
 use http_exchange::EndedHttp;
 use nsq_base::{Body, Memory};
 use nsq_fakes::{MemConn, Piece};
-use session_scripts::spread;
+use session_scripts::{Runs, spread};
 use std::alloc::Global;
 use std::sync::Wait;
 use std::sync::atomic::AtomicU64;
@@ -30,8 +30,14 @@ fn add_pieces(
     if bytes.is_empty() {
         pieces.push(Piece::Nothing)?;
     }
-    for piece in bytes.chunks(size.max(1)) {
+    let mut rest = bytes;
+    for _ in 0..bytes.len() {
+        if rest.is_empty() {
+            break;
+        }
+        let (piece, after) = rest.split_at(size.max(1).min(rest.len()));
         pieces.push(Piece::Bytes(Body::copy(alloc, piece)?))?;
+        rest = after;
     }
     Ok(())
 }
@@ -39,10 +45,20 @@ fn add_pieces(
 // The pieces of a caller.
 fn pieces_of(alloc: Global, caller: &Caller, size: usize) -> Result<Vec<Piece>, Memory> {
     let mut pieces = Vec::new(alloc);
-    for runs in caller.sends {
-        add_pieces(alloc, &mut pieces, &spread(alloc, runs)?, size)?;
-    }
+    add_all_pieces(alloc, &mut pieces, caller.sends, size)?;
     Ok(pieces)
+}
+
+fn add_all_pieces(
+    alloc: Global,
+    pieces: &mut Vec<Piece>,
+    sends: &[Runs],
+    size: usize,
+) -> Result<(), Memory> {
+    for runs in sends {
+        add_pieces(alloc, pieces, &spread(alloc, runs)?, size)?;
+    }
+    Ok(())
 }
 
 // The pieces of a request that is cut in two before the byte of this number; of none before the first one.
@@ -78,13 +94,17 @@ fn is_served<R: Wait>(
     pieces: Vec<Piece>,
     got: &mut Vec<u8>,
 ) -> Result<bool, Memory> {
-    let mut wanted = Vec::new(alloc);
-    put_gets(&mut wanted, caller.gets)?;
     let mut conn = conn_of(alloc, caller, pieces)?;
     let ended = bench.serve(rt, &mut conn)?;
     got.clear();
     put(got, conn.written())?;
-    Ok(ended == caller.ended && got.as_slice() == wanted.as_slice())
+    Ok(ended == caller.ended && is_wanted(alloc, caller.gets, got)?)
+}
+
+fn is_wanted(alloc: Global, gets: Gets, got: &[u8]) -> Result<bool, Memory> {
+    let mut wanted = Vec::new(alloc);
+    put_gets(&mut wanted, gets)?;
+    Ok(got == wanted.as_slice())
 }
 
 // Whether a client may send all this; then it is sent what it may get.
@@ -236,12 +256,9 @@ fn put_wrong<R: Wait>(
     let Some(step) = wrong_at_last(rt, alloc, row, size, &mut got)? else {
         return Ok(());
     };
-    put(wrong, b"\n")?;
-    put(wrong, row.name.as_bytes())?;
-    put(wrong, b", step ")?;
+    put_each(wrong, &[b"\n", row.name.as_bytes(), b", step "])?;
     put_number(wrong, step)?;
-    put(wrong, b":\n")?;
-    put(wrong, &got)
+    put_each(wrong, &[b":\n", &got])
 }
 
 fn put_wrongs<R: Wait>(
@@ -251,8 +268,8 @@ fn put_wrongs<R: Wait>(
     rows: &[Row],
 ) -> Result<(), Memory> {
     for row in rows {
-        for size in SIZES {
-            put_wrong(rt, alloc, wrong, row, size)?;
+        for size in &SIZES {
+            put_wrong(rt, alloc, wrong, row, *size)?;
         }
     }
     Ok(())

@@ -2,6 +2,7 @@
 
 ghost use Rattle.std.specs.Prelude.{◌≤◌, ◌<◌};
 
+use crate::texts::put_each;
 use nsq_base::{Body, Memory};
 use nsq_fakes::{Failing, FolderCall, Piece};
 use std::alloc::Global;
@@ -126,6 +127,12 @@ impl Dice {
     /// What a client sends in the run of this epoch, as bytes.
     pub fn stream(&mut self, alloc: Global, epoch: u64) -> Result<Vec<u8>, Memory> {
         let mut bytes = Vec::from_slice(alloc, b"  V2")?;
+        self.add_stream(&mut bytes, epoch)?;
+        Ok(bytes)
+    }
+
+    // What stands behind the first four bytes.
+    fn add_stream(&mut self, bytes: &mut Vec<u8>, epoch: u64) -> Result<(), Memory> {
         if self.below(16) == 0 {
             bytes.push(b'x')?;
         }
@@ -133,9 +140,9 @@ impl Dice {
             bytes.extend_from_slice(self.text(&BEGINNINGS))?;
         }
         for _ in 0..3 + self.below(10) {
-            self.add_command(&mut bytes, epoch)?;
+            self.add_command(bytes, epoch)?;
         }
-        Ok(bytes)
+        Ok(())
     }
 
     /// What a caller of HTTP sends, as bytes.
@@ -158,15 +165,13 @@ impl Dice {
         let at = self.below(HANDLINGS.len() as u64) as usize;
         let digit = self.below(8) as usize;
         let (before, behind) = HANDLINGS[at];
-        bytes.extend_from_slice(before)?;
-        bytes.extend_from_slice(if epoch == 1 {
+        let run: &[u8] = if epoch == 1 {
             b"000001000000000"
         } else {
             b"000002000000000"
-        })?;
-        bytes.push(DIGITS[digit])?;
-        bytes.extend_from_slice(behind)?;
-        Ok(())
+        };
+        let digit = [DIGITS[digit]];
+        put_each(bytes, &[before, run, &digit, behind])
     }
 
     /// These bytes, cut anywhere, with nothing between some pieces.

@@ -6,11 +6,12 @@ ghost use Rattle.http_wire.specs.Answer.{IsStatus};
 ghost use Rattle.http_calls.specs.Calls.{HasStatus};
 
 use crate::hosts::Outcome;
+use crate::texts::same;
 use broker_history::{Act, Ask, Entry, Said};
 use http_calls::{HttpAnswer, HttpCall, Refusal, answer_to, call_of, publishes, stop_answer};
 use http_plain::{Plain, request_of};
 use http_wire::write_answer;
-use nsq_base::{Memory, Options};
+use nsq_base::{Chan, Memory, Options, Topic};
 use nsq_fakes::MemConn;
 use nsq_outside::End;
 use std::alloc::Global;
@@ -29,26 +30,45 @@ pub fn is_exchange(
     requires { IsInRange options.now }
 {
     let own = own_of(alloc, outcome.entries(), number)?;
-    let out = conn.bytes_written();
-    let bytes = joined(alloc, conn.pieces_read())?;
-    match request_of(alloc, options.max_body_size, &bytes)? {
-        Plain::Unfinished => Ok(own.is_none() && out.is_empty()),
-        Plain::BadHead => is_refused(alloc, Refusal::BadRequest, &own, out),
-        Plain::NoLength => is_refused(alloc, Refusal::LengthRequired, &own, out),
-        Plain::TooBig => is_refused(alloc, Refusal::BodyTooBig, &own, out),
-        Plain::Whole(request) => {
-            let call = call_of(alloc, options, began, request)?;
-            is_call(alloc, began, call, &own, out)
-        }
-    }
+    let read = read_by(alloc, options, conn)?;
+    is_handled(alloc, options, began, read, &own, conn.bytes_written())
 }
 
-fn joined(alloc: Global, pieces: &[Vec<u8>]) -> Result<Vec<u8>, Memory> {
+// What a connection read.
+fn read_by(alloc: Global, options: &Options, conn: &MemConn) -> Result<Plain, Memory> {
     let mut bytes = Vec::new(alloc);
+    join(&mut bytes, conn.pieces_read())?;
+    request_of(alloc, options.max_body_size, &bytes)
+}
+
+fn join(bytes: &mut Vec<u8>, pieces: &[Vec<u8>]) -> Result<(), Memory> {
     for piece in pieces {
         bytes.extend_from_slice(piece)?;
     }
-    Ok(bytes)
+    Ok(())
+}
+
+// Whether what was read has these entries, and is answered so.
+fn is_handled(
+    alloc: Global,
+    options: &Options,
+    began: u64,
+    read: Plain,
+    own: &Own<'_>,
+    out: &[u8],
+) -> Result<bool, Memory>
+    requires { IsInRange options.now }
+{
+    match read {
+        Plain::Unfinished => Ok(own.is_none() && out.is_empty()),
+        Plain::BadHead => is_refused(alloc, Refusal::BadRequest, own, out),
+        Plain::NoLength => is_refused(alloc, Refusal::LengthRequired, own, out),
+        Plain::TooBig => is_refused(alloc, Refusal::BodyTooBig, own, out),
+        Plain::Whole(request) => {
+            let call = call_of(alloc, options, began, request)?;
+            is_call(alloc, began, call, own, out)
+        }
+    }
 }
 
 // The entries of a connection.
@@ -66,12 +86,22 @@ impl Own<'_> {
     }
 
     fn are(&self, letters: &[u8]) -> bool {
-        self.letters.as_slice() == letters
+        same(&self.letters, letters)
     }
 }
 
 fn own_of<'a>(alloc: Global, entries: &'a [(Entry, End)], number: u64) -> Result<Own<'a>, Memory> {
     let mut letters = Vec::new(alloc);
+    let last = put_letters(&mut letters, entries, number)?;
+    Ok(Own { letters, last })
+}
+
+// Adds the letters of a connection's entries. The last of these.
+fn put_letters<'a>(
+    letters: &mut Vec<u8>,
+    entries: &'a [(Entry, End)],
+    number: u64,
+) -> Result<Option<&'a (Entry, End)>, Memory> {
     let mut last = None;
     let mut stopped = false;
     for entry in entries {
@@ -81,7 +111,7 @@ fn own_of<'a>(alloc: Global, entries: &'a [(Entry, End)], number: u64) -> Result
             last = Some(entry);
         }
     }
-    Ok(Own { letters, last })
+    Ok(last)
 }
 
 fn is_stop(act: &Act) -> bool {
@@ -180,13 +210,18 @@ fn is_same(a: &Ask, b: &Ask) -> bool {
     match (a, b) {
         (Ask::Publish(a, c, e), Ask::Publish(b, d, f)) => a == b && c == d && e == f,
         (Ask::Stats(a, c), Ask::Stats(b, d)) => a == b && c == d,
-        (Ask::Create(a, c), Ask::Create(b, d)) => a == b && c == d,
-        (Ask::Delete(a, c), Ask::Delete(b, d)) => a == b && c == d,
-        (Ask::Empty(a, c), Ask::Empty(b, d)) => a == b && c == d,
-        (Ask::Pause(a, c), Ask::Pause(b, d)) => a == b && c == d,
-        (Ask::Unpause(a, c), Ask::Unpause(b, d)) => a == b && c == d,
+        (Ask::Create(a, c), Ask::Create(b, d)) => is_place(a, c, b, d),
+        (Ask::Delete(a, c), Ask::Delete(b, d)) => is_place(a, c, b, d),
+        (Ask::Empty(a, c), Ask::Empty(b, d)) => is_place(a, c, b, d),
+        (Ask::Pause(a, c), Ask::Pause(b, d)) => is_place(a, c, b, d),
+        (Ask::Unpause(a, c), Ask::Unpause(b, d)) => is_place(a, c, b, d),
         _ => false,
     }
+}
+
+// Whether a topic and a channel of it, or none, are those.
+fn is_place(a: &Topic, c: &Option<Chan>, b: &Topic, d: &Option<Chan>) -> bool {
+    a == b && c == d
 }
 
 // Whether these bytes are an answer's, or a part of them from the front.

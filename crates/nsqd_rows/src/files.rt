@@ -1,5 +1,6 @@
 //! A folder's files as a list, and folders in memory that have them.
 
+use crate::texts::same;
 use nsq_base::{Body, Memory};
 use nsq_fakes::{Failing, MemFolder};
 use nsq_outside::{Folder, Listing};
@@ -16,11 +17,20 @@ pub fn folder_of(
     fails: Vec<Failing>,
 ) -> Result<MemFolder, Memory> {
     let mut given = Vec::new(alloc);
+    give(alloc, &mut given, files)?;
+    MemFolder::new(alloc, given, fails)
+}
+
+fn give(
+    alloc: Global,
+    given: &mut Vec<(String, Vec<u8>)>,
+    files: &[NamedFile],
+) -> Result<(), Memory> {
     for file in files {
         let name = String::from_utf8_lossy(alloc, file.name.bytes())?;
         given.push((name, Vec::from_slice(alloc, file.bytes.bytes())?))?;
     }
-    MemFolder::new(alloc, given, fails)
+    Ok(())
 }
 
 /// Adds files to a list.
@@ -36,10 +46,9 @@ pub fn add_files(
 }
 
 fn named(alloc: Global, name: &str, bytes: &[u8]) -> Result<NamedFile, Memory> {
-    Ok(NamedFile {
-        name: Body::copy(alloc, name.as_bytes())?,
-        bytes: Body::copy(alloc, bytes)?,
-    })
+    let name = Body::copy(alloc, name.as_bytes())?;
+    let bytes = Body::copy(alloc, bytes)?;
+    Ok(NamedFile { name, bytes })
 }
 
 /// The files of a folder. A listing that fails is tried again.
@@ -69,7 +78,7 @@ fn names_in(alloc: Global, folder: &mut MemFolder) -> Result<Vec<String>, Memory
 /// The bytes of a file, where there is one.
 pub fn bytes_of<'a>(files: &'a [NamedFile], name: &str) -> Option<&'a [u8]> {
     for file in files {
-        if file.name.bytes() == name.as_bytes() {
+        if same(file.name.bytes(), name.as_bytes()) {
             return Some(file.bytes.bytes());
         }
     }

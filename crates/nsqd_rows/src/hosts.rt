@@ -1,6 +1,6 @@
 //! A run over a host in memory, and what is seen of the host behind it.
 
-ghost use Rattle.std.specs.Prelude.{IsSome};
+ghost use Rattle.std.specs.Prelude.{IfOk, IsSome};
 ghost use Rattle.nsq_fakes.specs.MemHosts.{state_of};
 
 use crate::files::files_in;
@@ -60,15 +60,33 @@ pub fn run_with<R: Wait>(rt: &R, alloc: Global, given: Given) -> Result<Outcome,
         readings,
         fails,
     } = given;
-    let kit = Kit {
-        folder,
-        clock: MemClock::new(alloc, readings)?,
-        journal: MemJournal::new(alloc),
-    };
-    let mut host = MemHost::new(alloc, callers, Vec::new(alloc), kit, false)?;
-    fail(alloc, &mut host, fails)?;
+    let kit = kit_of(alloc, folder, readings)?;
+    let mut host = host_of(alloc, callers, kit, fails)?;
     let status = nsqd_run(rt, alloc, &words, &mut host);
     Ok(Outcome { status, host })
+}
+
+fn kit_of(alloc: Global, folder: MemFolder, readings: Vec<u64>) -> Result<MemKit, Memory> {
+    let clock = MemClock::new(alloc, readings)?;
+    Ok(Kit {
+        folder,
+        clock,
+        journal: MemJournal::new(alloc),
+    })
+}
+
+// A host over this kit, of which these calls fail.
+fn host_of(
+    alloc: Global,
+    callers: Vec<(Kind, MemConn)>,
+    kit: MemKit,
+    fails: HostFails,
+) -> Result<MemHost<Entry>, Memory>
+    ensures { IfOk result (λ host. IsSome (state_of host).kit) }
+{
+    let mut host = MemHost::new(alloc, callers, Vec::new(alloc), kit, false)?;
+    fail(alloc, &mut host, fails)?;
+    Ok(host)
 }
 
 // Has these calls of a host fail.

@@ -5,6 +5,7 @@ ghost use Rattle.nsq_base.specs.Options.{IsInRange};
 
 use crate::exchanges::is_exchange;
 use crate::hosts::Outcome;
+use crate::texts::same;
 use broker_files::{Finding, FoundNames, found, is_all_left, start};
 use broker_history::{Ended, Entry};
 use broker_state::State;
@@ -48,8 +49,9 @@ pub fn judge(
     files: &[NamedFile],
     outcome: &Outcome,
 ) -> Result<Judged, Memory> {
+    let rightly_shut = is_rightly_shut(alloc, files, outcome)?;
     let states = states_of(alloc, options, files, began, outcome.entries())?;
-    let wrong = if !is_rightly_shut(alloc, files, outcome)? {
+    let wrong = if !rightly_shut {
         Some("the refusal")
     } else if outcome.has_opened() && states.is_empty() {
         Some("the history isn't legal")
@@ -84,7 +86,7 @@ fn is_rightly_shut(alloc: Global, files: &[NamedFile], outcome: &Outcome) -> Res
 // Whether an opening of these files may be refused with this line.
 fn may_refuse(alloc: Global, files: &[NamedFile], line: &[u8]) -> Result<bool, Memory> {
     let finding = found(alloc, files)?;
-    Ok(line == DISK_FAULT || line == refusal(&finding))
+    Ok(same(line, DISK_FAULT) || same(line, refusal(&finding)))
 }
 
 // The line with which what was found is refused: that of a folder that failed, where nothing else is wrong with it.
@@ -129,9 +131,19 @@ fn begun(
 fn is_kept(alloc: Global, states: &[State], files: &[NamedFile]) -> Result<bool, Memory> {
     match found(alloc, files)? {
         Finding::Names(names) => one_leaves(alloc, states, &names),
-        Finding::EpochSpent => Ok(states.iter().all(|state| state.epoch == LAST_EPOCH)),
+        Finding::EpochSpent => Ok(are_last(states)),
         Finding::BadData => Ok(false),
     }
+}
+
+// Whether each state is of the last epoch.
+fn are_last(states: &[State]) -> bool {
+    for state in states {
+        if state.epoch != LAST_EPOCH {
+            return false;
+        }
+    }
+    true
 }
 
 fn one_leaves(alloc: Global, states: &[State], names: &FoundNames) -> Result<bool, Memory> {
@@ -176,10 +188,22 @@ fn is_talk(
     endings: &[Ended],
 ) -> Result<bool, Memory> {
     let pieces = pieces_of(alloc, conn)?;
+    has_ended(alloc, outcome, number, conn, &pieces, endings)
+}
+
+// The same, where these pieces were read.
+fn has_ended(
+    alloc: Global,
+    outcome: &Outcome,
+    number: u64,
+    conn: &MemConn,
+    pieces: &[Body],
+    endings: &[Ended],
+) -> Result<bool, Memory> {
+    let entries = outcome.entries();
+    let out = conn.bytes_written();
     for ended in endings {
-        let entries = outcome.entries();
-        let out = conn.bytes_written();
-        if is_talk_in(alloc, LIMITS, number, entries, 0, &pieces, out, *ended)? {
+        if is_talk_in(alloc, LIMITS, number, entries, 0, pieces, out, *ended)? {
             return Ok(true);
         }
     }

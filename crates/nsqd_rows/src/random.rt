@@ -11,7 +11,7 @@ use crate::judged::{Judged, is_served, judge};
 use crate::setting::{DEFAULTS, SECOND, Setting, options_of, words_of};
 use broker_history::{Act, Ended, Entry};
 use nsq_base::{Memory, Options};
-use nsq_fakes::MemConn;
+use nsq_fakes::{MemConn, MemFolder, Piece};
 use nsq_outside::{End, Kind};
 use queue_plain::NamedFile;
 use std::alloc::Global;
@@ -74,11 +74,16 @@ fn caller_of(alloc: Global, dice: &mut Dice, epoch: u64) -> Result<(Kind, MemCon
     } else {
         Kind::Tcp
     };
-    let bytes = bytes_of(alloc, dice, kind, epoch)?;
-    let pieces = dice.pieces(alloc, &bytes)?;
+    let pieces = pieces_of(alloc, dice, kind, epoch)?;
     let reads = dice.failing(alloc)?;
     let writes = dice.failing(alloc)?;
     Ok((kind, MemConn::new(alloc, pieces, reads, writes)?))
+}
+
+// What comes from a caller of this kind.
+fn pieces_of(alloc: Global, dice: &mut Dice, kind: Kind, epoch: u64) -> Result<Vec<Piece>, Memory> {
+    let bytes = bytes_of(alloc, dice, kind, epoch)?;
+    dice.pieces(alloc, &bytes)
 }
 
 // What a caller of this kind sends.
@@ -91,10 +96,20 @@ fn bytes_of(alloc: Global, dice: &mut Dice, kind: Kind, epoch: u64) -> Result<Ve
 
 fn callers_of(alloc: Global, dice: &mut Dice, epoch: u64) -> Result<Vec<(Kind, MemConn)>, Memory> {
     let mut callers = Vec::new(alloc);
+    add_callers(alloc, &mut callers, dice, epoch)?;
+    Ok(callers)
+}
+
+fn add_callers(
+    alloc: Global,
+    callers: &mut Vec<(Kind, MemConn)>,
+    dice: &mut Dice,
+    epoch: u64,
+) -> Result<(), Memory> {
     for _ in 0..CALLERS {
         callers.push(caller_of(alloc, dice, epoch)?)?;
     }
-    Ok(callers)
+    Ok(())
 }
 
 fn given_by(
@@ -104,18 +119,26 @@ fn given_by(
     files: &[NamedFile],
 ) -> Result<Given, Memory> {
     let callers = callers_of(alloc, &mut seed.dice, epoch)?;
+    let folder = seed_folder(alloc, seed, files)?;
+    let readings = seed.dice.readings(alloc)?;
+    let words = words_of(alloc, seed.setting.words)?;
+    Ok(Given {
+        words,
+        callers,
+        folder,
+        readings,
+        fails: NONE_FAILS,
+    })
+}
+
+// A folder with these files, which fails where a seed's does.
+fn seed_folder(alloc: Global, seed: &mut Seed, files: &[NamedFile]) -> Result<MemFolder, Memory> {
     let fails = if seed.fails {
         seed.dice.faults(alloc)?
     } else {
         Vec::new(alloc)
     };
-    Ok(Given {
-        words: words_of(alloc, seed.setting.words)?,
-        callers,
-        folder: folder_of(alloc, files, fails)?,
-        readings: seed.dice.readings(alloc)?,
-        fails: NONE_FAILS,
-    })
+    folder_of(alloc, files, fails)
 }
 
 // What is wrong with a run of a seed over these files. Then they are those that it left.
@@ -140,14 +163,26 @@ fn outcome_wrong(
     files: &mut Vec<NamedFile>,
     outcome: Outcome,
 ) -> Result<Option<&'static str>, Memory> {
-    let options = options_of(alloc, seed.setting)?;
-    let shown = shown_wrong(alloc, &options, seed, began, &outcome)?;
-    let judged = judge(alloc, &options, began, files, &outcome)?;
+    let (shown, judged) = seen(alloc, seed, began, files, &outcome)?;
     *files = outcome.leave(alloc)?;
     if shown.is_some() {
         return Ok(shown);
     }
     left_wrong(alloc, &judged, files)
+}
+
+// What is wrong with what a run of a seed over these files showed, and what it noted, as it is judged.
+fn seen(
+    alloc: Global,
+    seed: &Seed,
+    began: u64,
+    files: &[NamedFile],
+    outcome: &Outcome,
+) -> Result<(Option<&'static str>, Judged), Memory> {
+    let options = options_of(alloc, seed.setting)?;
+    let shown = shown_wrong(alloc, &options, seed, began, outcome)?;
+    let judged = judge(alloc, &options, began, files, outcome)?;
+    Ok((shown, judged))
 }
 
 // What is wrong with the status of a run of a seed, or with its callers.
@@ -213,8 +248,18 @@ fn left_wrong(
 fn seed_wrong<R: Wait>(rt: &R, alloc: Global, number: u64) -> Result<Option<&'static str>, Memory> {
     let mut seed = seed_of(number);
     let mut files = Vec::new(alloc);
+    runs_wrong(rt, alloc, &mut seed, &mut files)
+}
+
+// What is wrong with the runs of a seed over these files, one after another.
+fn runs_wrong<R: Wait>(
+    rt: &R,
+    alloc: Global,
+    seed: &mut Seed,
+    files: &mut Vec<NamedFile>,
+) -> Result<Option<&'static str>, Memory> {
     for epoch in 1..3 {
-        let wrong = run_wrong(rt, alloc, &mut seed, epoch, &mut files)?;
+        let wrong = run_wrong(rt, alloc, seed, epoch, files)?;
         if wrong.is_some() {
             return Ok(wrong);
         }

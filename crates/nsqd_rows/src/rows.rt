@@ -7,6 +7,7 @@ use crate::hosts::{Given, HostFails, NONE_FAILS, Outcome, run_with};
 use crate::judged::{Judged, is_served, judge};
 use crate::setting::{DEFAULTS, Setting, options_of, words_of};
 use crate::tables::tables;
+use crate::texts::same;
 use broker_history::Ended;
 use nsq_base::{Body, Memory, Options};
 use nsq_fakes::{Failing, MemConn, Piece};
@@ -110,14 +111,18 @@ pub struct Row {
 fn readings_of(alloc: Global, clock: Shows) -> Result<Vec<u64>, Memory> {
     let mut readings = Vec::new(alloc);
     match clock {
-        Shows::These(moments) => {
-            for (moment, count) in moments {
-                add_readings(&mut readings, *moment, 0, u64::from(*count))?;
-            }
-        }
+        Shows::These(moments) => add_moments(&mut readings, moments)?,
         Shows::Rises(step) => add_readings(&mut readings, 0, step, READINGS)?,
     }
     Ok(readings)
+}
+
+// Adds each of these moments so many times.
+fn add_moments(readings: &mut Vec<u64>, moments: &[(u64, u32)]) -> Result<(), Memory> {
+    for (moment, count) in moments {
+        add_readings(readings, *moment, 0, u64::from(*count))?;
+    }
+    Ok(())
 }
 
 // Adds so many readings, the first of this moment, each so much later than the last.
@@ -130,19 +135,35 @@ fn add_readings(readings: &mut Vec<u64>, moment: u64, step: u64, count: u64) -> 
 
 fn callers_of(alloc: Global, run: &Run) -> Result<Vec<(Kind, MemConn)>, Memory> {
     let mut callers = Vec::new(alloc);
-    for caller in run.callers {
-        callers.push((caller.kind, conn_of(alloc, caller.sends, run.size)?))?;
-    }
+    add_callers(alloc, &mut callers, run)?;
     Ok(callers)
+}
+
+fn add_callers(alloc: Global, callers: &mut Vec<(Kind, MemConn)>, run: &Run) -> Result<(), Memory> {
+    for caller in run.callers {
+        let conn = conn_of(alloc, caller.sends, run.size)?;
+        callers.push((caller.kind, conn))?;
+    }
+    Ok(())
 }
 
 // A connection from which this comes, so many bytes at a time.
 fn conn_of(alloc: Global, sends: &[&[u8]], size: usize) -> Result<MemConn, Memory> {
     let mut pieces = Vec::new(alloc);
-    for bytes in sends {
-        add_pieces(alloc, &mut pieces, bytes, size)?;
-    }
+    add_all_pieces(alloc, &mut pieces, sends, size)?;
     MemConn::new(alloc, pieces, Vec::new(alloc), Vec::new(alloc))
+}
+
+fn add_all_pieces(
+    alloc: Global,
+    pieces: &mut Vec<Piece>,
+    sends: &[&[u8]],
+    size: usize,
+) -> Result<(), Memory> {
+    for bytes in sends {
+        add_pieces(alloc, pieces, bytes, size)?;
+    }
+    Ok(())
 }
 
 fn add_pieces(
@@ -154,18 +175,28 @@ fn add_pieces(
     if bytes.is_empty() {
         pieces.push(Piece::Nothing)?;
     }
-    for piece in bytes.chunks(size.max(1)) {
+    let mut rest = bytes;
+    for _ in 0..bytes.len() {
+        if rest.is_empty() {
+            break;
+        }
+        let (piece, after) = rest.split_at(size.max(1).min(rest.len()));
         pieces.push(Piece::Bytes(Body::copy(alloc, piece)?))?;
+        rest = after;
     }
     Ok(())
 }
 
 fn given_by(alloc: Global, run: &Run, files: &[NamedFile]) -> Result<Given, Memory> {
+    let folder = folder_of(alloc, files, Vec::from_slice(alloc, run.fails)?)?;
+    let callers = callers_of(alloc, run)?;
+    let readings = readings_of(alloc, run.clock)?;
+    let words = words_of(alloc, run.setting.words)?;
     Ok(Given {
-        words: words_of(alloc, run.setting.words)?,
-        callers: callers_of(alloc, run)?,
-        folder: folder_of(alloc, files, Vec::from_slice(alloc, run.fails)?)?,
-        readings: readings_of(alloc, run.clock)?,
+        words,
+        callers,
+        folder,
+        readings,
         fails: run.host_fails,
     })
 }
@@ -173,8 +204,18 @@ fn given_by(alloc: Global, run: &Run, files: &[NamedFile]) -> Result<Given, Memo
 // What differs in a row; nothing where it holds.
 fn differs<R: Wait>(rt: &R, alloc: Global, row: &Row) -> Result<Option<&'static str>, Memory> {
     let mut files = Vec::new(alloc);
-    for run in row.runs {
-        let wrong = run_differs(rt, alloc, run, &mut files)?;
+    runs_differ(rt, alloc, row.runs, &mut files)
+}
+
+// What differs in runs over these files, one after another.
+fn runs_differ<R: Wait>(
+    rt: &R,
+    alloc: Global,
+    runs: &[Run],
+    files: &mut Vec<NamedFile>,
+) -> Result<Option<&'static str>, Memory> {
+    for run in runs {
+        let wrong = run_differs(rt, alloc, run, files)?;
         if wrong.is_some() {
             return Ok(wrong);
         }
@@ -202,14 +243,25 @@ fn outcome_differs(
     files: &mut Vec<NamedFile>,
     outcome: Outcome,
 ) -> Result<Option<&'static str>, Memory> {
-    let options = options_of(alloc, run.setting)?;
-    let shown = shown_differs(alloc, &options, run, &outcome)?;
-    let judged = judge(alloc, &options, began(run.clock), files, &outcome)?;
+    let (shown, judged) = seen(alloc, run, files, &outcome)?;
     *files = outcome.leave(alloc)?;
     if shown.is_some() {
         return Ok(shown);
     }
     left_differs(alloc, run, &judged, files)
+}
+
+// What differs in what a run over these files showed, and what it noted, as it is judged.
+fn seen(
+    alloc: Global,
+    run: &Run,
+    files: &[NamedFile],
+    outcome: &Outcome,
+) -> Result<(Option<&'static str>, Judged), Memory> {
+    let options = options_of(alloc, run.setting)?;
+    let shown = shown_differs(alloc, &options, run, outcome)?;
+    let judged = judge(alloc, &options, began(run.clock), files, outcome)?;
+    Ok((shown, judged))
 }
 
 // What differs in what a run showed.
@@ -224,10 +276,10 @@ fn shown_differs(
     if outcome.status != run.status {
         return Ok(Some("the status"));
     }
-    if outcome.line() != run.line || outcome.lines() != usize::from(!run.line.is_empty()) {
+    if !same(outcome.line(), run.line) || outcome.lines() != usize::from(!run.line.is_empty()) {
         return Ok(Some("the line"));
     }
-    if outcome.printed() != run.printed {
+    if !same(outcome.printed(), run.printed) {
         return Ok(Some("what is printed"));
     }
     let count = run.callers.len().saturating_sub(run.behind);

@@ -1,6 +1,6 @@
 //! Answers as text. Of statistics what is 0, empty or no isn't said, and neither are clients.
 
-use crate::texts::{put, put_count, put_flag, put_message, put_names};
+use crate::texts::{put, put_counts, put_each, put_flag, put_message, put_names};
 use broker_history::{ChannelStats, Said, Stats, TopicStats};
 use desk::Turned;
 use nsq_base::Memory;
@@ -57,11 +57,13 @@ fn put_stats(out: &mut Vec<u8>, stats: &Stats) -> Result<(), Memory> {
 }
 
 fn put_topic(out: &mut Vec<u8>, topic: &TopicStats) -> Result<(), Memory> {
-    put(out, b" ")?;
-    put(out, topic.topic_name.bytes())?;
-    put_count(out, b"depth", topic.depth)?;
-    put_count(out, b"disk", topic.backend_depth)?;
-    put_count(out, b"messages", topic.message_count.into())?;
+    put_each(out, &[b" ", topic.topic_name.bytes()])?;
+    let counts: [(&[u8], u128); 3] = [
+        (b"depth", topic.depth),
+        (b"disk", topic.backend_depth),
+        (b"messages", topic.message_count.into()),
+    ];
+    put_counts(out, &counts)?;
     put_flag(out, b"paused", topic.paused)?;
     put(out, b" [")?;
     for channel in topic.channels.as_slice() {
@@ -71,12 +73,14 @@ fn put_topic(out: &mut Vec<u8>, topic: &TopicStats) -> Result<(), Memory> {
 }
 
 fn put_channel(out: &mut Vec<u8>, channel: &ChannelStats) -> Result<(), Memory> {
-    put(out, b" ")?;
-    put(out, channel.channel_name.bytes())?;
-    put_count(out, b"depth", channel.depth)?;
-    put_count(out, b"disk", channel.backend_depth)?;
-    put_count(out, b"deferred", channel.deferred_count.into())?;
-    put_count(out, b"flying", channel.in_flight_count.into())?;
-    put_count(out, b"messages", channel.message_count.into())?;
+    put_each(out, &[b" ", channel.channel_name.bytes()])?;
+    let counts: [(&[u8], u128); 5] = [
+        (b"depth", channel.depth),
+        (b"disk", channel.backend_depth),
+        (b"deferred", channel.deferred_count.into()),
+        (b"flying", channel.in_flight_count.into()),
+        (b"messages", channel.message_count.into()),
+    ];
+    put_counts(out, &counts)?;
     put_flag(out, b"paused", channel.paused)
 }

@@ -48,15 +48,20 @@ pub fn open_folder(
 ) -> Result<Opened, Memory>
     requires { IsInRange options.now }
 {
+    let clock = clock_of(alloc, readings)?;
     let kit = Kit {
         folder,
-        clock: MemClock::new(alloc, Vec::from_slice(alloc, readings)?)?,
+        clock,
         journal: Noted::new(alloc),
     };
     match open(alloc, kit, options) {
         Ok(floor) => Ok(Opened::Open(Bench { alloc, floor })),
         Err(Refused { why, kit }) => Ok(Opened::Refused(why, folder_in(kit))),
     }
+}
+
+fn clock_of(alloc: Global, readings: &[u64]) -> Result<MemClock, Memory> {
+    MemClock::new(alloc, Vec::from_slice(alloc, readings)?)
 }
 
 /// The folder of what is left.
@@ -96,13 +101,22 @@ impl Bench {
 
     fn ask(&mut self, text: &str) -> Result<Option<Vec<u8>>, Memory> {
         let mut told = Vec::new(self.alloc);
-        match text.as_bytes() {
-            b"save" => put(&mut told, saved_text(self.save()))?,
-            b"changed" => put(&mut told, flag_text(self.floor.changed()))?,
-            b"epoch" => put_number(&mut told, u128::from(self.floor.epoch()))?,
-            _ => return Ok(None),
+        if self.put_told(&mut told, text)? {
+            Ok(Some(told))
+        } else {
+            Ok(None)
         }
-        Ok(Some(told))
+    }
+
+    // Whether it is another call than a turn.
+    fn put_told(&mut self, told: &mut Vec<u8>, text: &str) -> Result<bool, Memory> {
+        match text {
+            "save" => put(told, saved_text(self.save()))?,
+            "changed" => put(told, flag_text(self.floor.changed()))?,
+            "epoch" => put_number(told, u128::from(self.floor.epoch()))?,
+            _ => return Ok(false),
+        }
+        Ok(true)
     }
 
     // Saves the names.

@@ -4,7 +4,7 @@
 ghost use Rattle.std.specs.Prelude.{IfOk, IfSome};
 ghost use Rattle.desk.specs.Calls.{CanAsk, CanCall};
 
-use crate::texts::{FIRST_IDS, put};
+use crate::texts::{FIRST_IDS, look_up, put, put_each};
 use broker_history::Ask;
 use desk::Call;
 use nsq_base::{Chan, Memory, Topic};
@@ -15,6 +15,60 @@ const LIMITS: Limits = Limits {
     msg: 1_048_576,
     body: 5_242_880,
 };
+
+// A call that is one word.
+#[derive(Clone, Copy)]
+enum Word {
+    Begin,
+    Next,
+    Gone,
+    Names,
+    Tick,
+    Stop,
+}
+
+static WORDS: [(&[u8], Word); 6] = [
+    (b"begin", Word::Begin),
+    (b"next", Word::Next),
+    (b"gone", Word::Gone),
+    (b"names", Word::Names),
+    (b"tick", Word::Tick),
+    (b"stop", Word::Stop),
+];
+
+// What is asked of a topic or a channel.
+#[derive(Clone, Copy)]
+enum Asking {
+    Stats,
+    Create,
+    Pause,
+    Unpause,
+}
+
+static ASKINGS: [(&[u8], Asking); 4] = [
+    (b"stats", Asking::Stats),
+    (b"create", Asking::Create),
+    (b"pause", Asking::Pause),
+    (b"unpause", Asking::Unpause),
+];
+
+// What stands behind a command's word.
+#[derive(Clone, Copy)]
+enum Form {
+    Topic,
+    List,
+    Delayed,
+    Id,
+}
+
+// The commands that are more than a line of their words.
+static FORMS: [(&[u8], Form); 5] = [
+    (b"PUB", Form::Topic),
+    (b"MPUB", Form::List),
+    (b"DPUB", Form::Delayed),
+    (b"FIN", Form::Id),
+    (b"REQ", Form::Id),
+];
 
 /// The first word of a text, and what stands behind it.
 pub fn parted(text: &str) -> (&str, &str) {
@@ -28,14 +82,14 @@ pub fn parted(text: &str) -> (&str, &str) {
 pub fn call_of(alloc: Global, text: &str) -> Result<Option<Call>, Memory>
     ensures { IfOk result (λ call. IfSome call CanCall) }
 {
-    match text.as_bytes() {
-        b"begin" => Ok(Some(Call::Begin)),
-        b"next" => Ok(Some(Call::Next)),
-        b"gone" => Ok(Some(Call::Gone)),
-        b"names" => Ok(Some(Call::Names)),
-        b"tick" => Ok(Some(Call::Tick)),
-        b"stop" => Ok(Some(Call::Stop)),
-        _ => asked_or_sent(alloc, text),
+    match look_up(&WORDS, text.as_bytes()) {
+        Some(Word::Begin) => Ok(Some(Call::Begin)),
+        Some(Word::Next) => Ok(Some(Call::Next)),
+        Some(Word::Gone) => Ok(Some(Call::Gone)),
+        Some(Word::Names) => Ok(Some(Call::Names)),
+        Some(Word::Tick) => Ok(Some(Call::Tick)),
+        Some(Word::Stop) => Ok(Some(Call::Stop)),
+        None => asked_or_sent(alloc, text),
     }
 }
 
@@ -43,7 +97,7 @@ fn asked_or_sent(alloc: Global, text: &str) -> Result<Option<Call>, Memory>
     ensures { IfOk result (λ call. IfSome call CanCall) }
 {
     let (word, rest) = parted(text);
-    let Some(asking) = asking_of(word) else {
+    let Some(asking) = look_up(&ASKINGS, word.as_bytes()) else {
         return sent(alloc, text);
     };
     let (topic, channel) = parted(rest);
@@ -54,25 +108,6 @@ fn asked_or_sent(alloc: Global, text: &str) -> Result<Option<Call>, Memory>
     ) {
         Some(ask) => Ok(Some(Call::Ask(ask))),
         None => Ok(None),
-    }
-}
-
-// What is asked of a topic or a channel.
-#[derive(Clone, Copy)]
-enum Asking {
-    Stats,
-    Create,
-    Pause,
-    Unpause,
-}
-
-fn asking_of(word: &str) -> Option<Asking> {
-    match word.as_bytes() {
-        b"stats" => Some(Asking::Stats),
-        b"create" => Some(Asking::Create),
-        b"pause" => Some(Asking::Pause),
-        b"unpause" => Some(Asking::Unpause),
-        _ => None,
     }
 }
 
@@ -95,9 +130,17 @@ fn ask_of(asking: Asking, topic: Option<Topic>, channel: Option<Chan>) -> Option
 fn sent(alloc: Global, text: &str) -> Result<Option<Call>, Memory>
     ensures { IfOk result (λ call. IfSome call CanCall) }
 {
+    let mut bytes = Vec::from_slice(alloc, b"  V2")?;
+    put_command(alloc, &mut bytes, text)?;
+    read(alloc, &bytes)
+}
+
+// The call of a client's bytes from its first one on.
+fn read(alloc: Global, bytes: &[u8]) -> Result<Option<Call>, Memory>
+    ensures { IfOk result (λ call. IfSome call CanCall) }
+{
     let mut reader = Reader::new(alloc, LIMITS)?;
-    reader.feed(b"  V2")?;
-    reader.feed(&bytes_of(alloc, text)?)?;
+    reader.feed(bytes)?;
     match reader.next() {
         Got::Whole(command) => Ok(Some(Call::Command(command))),
         Got::Fault(_) | Got::More => Ok(None),
@@ -106,25 +149,15 @@ fn sent(alloc: Global, text: &str) -> Result<Option<Call>, Memory>
 }
 
 // The bytes of a command.
-fn bytes_of(alloc: Global, text: &str) -> Result<Vec<u8>, Memory> {
-    let mut bytes = Vec::new(alloc);
+fn put_command(alloc: Global, bytes: &mut Vec<u8>, text: &str) -> Result<(), Memory> {
     let (word, rest) = parted(text);
-    match word.as_bytes() {
-        b"PUB" => put_published(&mut bytes, "PUB ", rest)?,
-        b"MPUB" => put_listed(alloc, &mut bytes, rest)?,
-        b"DPUB" => put_delayed(&mut bytes, rest)?,
-        b"FIN" | b"REQ" => put_of_id(&mut bytes, word, rest)?,
-        _ => put_line(&mut bytes, text, "", "")?,
+    match look_up(&FORMS, word.as_bytes()) {
+        Some(Form::Topic) => put_published(bytes, rest),
+        Some(Form::List) => put_listed(alloc, bytes, rest),
+        Some(Form::Delayed) => put_delayed(bytes, rest),
+        Some(Form::Id) => put_of_id(bytes, word, rest),
+        None => put_each(bytes, &[text.as_bytes(), b"\n"]),
     }
-    Ok(bytes)
-}
-
-// A line of these words.
-fn put_line(bytes: &mut Vec<u8>, word: &str, second: &str, third: &str) -> Result<(), Memory> {
-    put(bytes, word.as_bytes())?;
-    put(bytes, second.as_bytes())?;
-    put(bytes, third.as_bytes())?;
-    put(bytes, b"\n")
 }
 
 // A size, and so many bytes.
@@ -138,10 +171,10 @@ fn put_size(bytes: &mut Vec<u8>, size: usize) -> Result<(), Memory> {
     put(bytes, &size.to_be_bytes())
 }
 
-// A command of a topic and a body.
-fn put_published(bytes: &mut Vec<u8>, word: &str, rest: &str) -> Result<(), Memory> {
+// A PUB of a topic and a body.
+fn put_published(bytes: &mut Vec<u8>, rest: &str) -> Result<(), Memory> {
     let (topic, body) = parted(rest);
-    put_line(bytes, word, topic, "")?;
+    put_each(bytes, &[b"PUB ", topic.as_bytes(), b"\n"])?;
     put_sized(bytes, body.as_bytes())
 }
 
@@ -149,21 +182,19 @@ fn put_published(bytes: &mut Vec<u8>, word: &str, rest: &str) -> Result<(), Memo
 fn put_delayed(bytes: &mut Vec<u8>, rest: &str) -> Result<(), Memory> {
     let (topic, rest) = parted(rest);
     let (delay, body) = parted(rest);
-    put(bytes, b"DPUB ")?;
-    put_line(bytes, topic, " ", delay)?;
+    put_each(
+        bytes,
+        &[b"DPUB ", topic.as_bytes(), b" ", delay.as_bytes(), b"\n"],
+    )?;
     put_sized(bytes, body.as_bytes())
 }
 
 // A line that names a message.
 fn put_of_id(bytes: &mut Vec<u8>, word: &str, rest: &str) -> Result<(), Memory> {
-    put(bytes, word.as_bytes())?;
-    put(bytes, b" ")?;
+    put_each(bytes, &[word.as_bytes(), b" "])?;
     match rest.strip_prefix("i") {
-        Some(digit) => {
-            put(bytes, FIRST_IDS)?;
-            put_line(bytes, digit, "", "")
-        }
-        None => put_line(bytes, rest, "", ""),
+        Some(digit) => put_each(bytes, &[FIRST_IDS, digit.as_bytes(), b"\n"]),
+        None => put_each(bytes, &[rest.as_bytes(), b"\n"]),
     }
 }
 
@@ -171,13 +202,19 @@ fn put_of_id(bytes: &mut Vec<u8>, word: &str, rest: &str) -> Result<(), Memory> 
 fn put_listed(alloc: Global, bytes: &mut Vec<u8>, rest: &str) -> Result<(), Memory> {
     let (topic, list) = parted(rest);
     let mut bodies = Vec::new(alloc);
-    let mut count: usize = 0;
-    for body in list.split(" ") {
-        put_sized(&mut bodies, body.as_bytes())?;
-        count = count.saturating_add(1);
-    }
-    put_line(bytes, "MPUB ", topic, "")?;
+    let count = put_bodies(&mut bodies, list)?;
+    put_each(bytes, &[b"MPUB ", topic.as_bytes(), b"\n"])?;
     put_size(bytes, bodies.len().saturating_add(4))?;
     put_size(bytes, count)?;
     put(bytes, &bodies)
+}
+
+// Messages, each with its size. How many they are.
+fn put_bodies(bytes: &mut Vec<u8>, list: &str) -> Result<usize, Memory> {
+    let mut count: usize = 0;
+    for body in list.split(" ") {
+        put_sized(bytes, body.as_bytes())?;
+        count = count.saturating_add(1);
+    }
+    Ok(count)
 }

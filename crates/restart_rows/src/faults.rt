@@ -3,10 +3,10 @@
 
 use crate::bench::{Bench, Opened, folder_in, open_folder};
 use crate::calls::parted;
-use crate::files::{NAMES, bytes_of, files_in, folder_of, with_file};
+use crate::files::{NAMES, bytes_of, files_left, folder_of, same_file, with_file};
 use crate::findings::{Listing, listing_of};
 use crate::setting::{DEFAULTS, Setting, options_of};
-use crate::texts::{put, put_number};
+use crate::texts::{put, put_each, put_number, same};
 use nsq_base::Memory;
 use nsq_fakes::{Failing, FolderCall, MemFolder};
 use path_closing::ShutEnd;
@@ -124,54 +124,85 @@ fn failing(call: u64, count: u64) -> [Failing; 1] {
     }]
 }
 
+// Opens a folder with these files, of which these calls fail.
+fn opened(alloc: Global, files: &[NamedFile], fails: &[Failing]) -> Result<Opened, Memory> {
+    let options = options_of(alloc, SETTING)?;
+    let folder = folder_of(alloc, files, fails)?;
+    open_folder(alloc, folder, &options, SETTING.clock)
+}
+
 // All topics, filled, over an empty folder of which these calls fail; none where that is refused.
 fn filled(alloc: Global, fails: &[Failing]) -> Result<Option<Bench>, Memory> {
-    let options = options_of(alloc, SETTING)?;
-    let folder = folder_of(alloc, &[], fails)?;
-    match open_folder(alloc, folder, &options, SETTING.clock)? {
+    match opened(alloc, &[], fails)? {
         Opened::Open(bench) => filling(alloc, bench),
         Opened::Refused(_, _) => Ok(None),
     }
 }
 
 fn filling(alloc: Global, mut bench: Bench) -> Result<Option<Bench>, Memory> {
-    for topic in 0..TOPICS {
-        fill(alloc, &mut bench, topic)?;
-    }
+    fill_all(alloc, &mut bench)?;
     Ok(Some(bench))
 }
 
-// Makes the turns of a topic.
-fn fill(alloc: Global, bench: &mut Bench, topic: usize) -> Result<(), Memory> {
-    for turn in TURNS {
-        let (number, text) = parted(turn);
-        let number = if number == "0" {
-            0
-        } else {
-            topic.saturating_add(1)
-        };
-        let call = match text.split_once("@") {
-            Some((before, behind)) => format!(in alloc; "{number} {before}t{topic}{behind}")?,
-            None => format!(in alloc; "{number} {text}")?,
-        };
-        bench.answer(call.as_str())?;
+fn fill_all(alloc: Global, bench: &mut Bench) -> Result<(), Memory> {
+    for topic in 0..TOPICS {
+        fill(alloc, bench, topic)?;
     }
     Ok(())
 }
 
+// Makes the turns of a topic.
+fn fill(alloc: Global, bench: &mut Bench, topic: usize) -> Result<(), Memory> {
+    for turn in &TURNS {
+        take_turn(alloc, bench, turn, topic)?;
+    }
+    Ok(())
+}
+
+fn take_turn(alloc: Global, bench: &mut Bench, turn: &str, topic: usize) -> Result<(), Memory> {
+    let call = call_text(alloc, turn, topic)?;
+    bench.answer(call.as_str())?;
+    Ok(())
+}
+
+// A turn of a topic, as a line has it.
+fn call_text(alloc: Global, turn: &str, topic: usize) -> Result<String, Memory> {
+    let (number, text) = parted(turn);
+    let number = match number {
+        "0" => 0,
+        _ => topic.saturating_add(1),
+    };
+    let call = match text.split_once("@") {
+        Some((before, behind)) => format!(in alloc; "{number} {before}t{topic}{behind}")?,
+        None => format!(in alloc; "{number} {text}")?,
+    };
+    Ok(call)
+}
+
 // What is left of all topics where no call fails; none where that isn't what was filled in.
 fn make_base(alloc: Global) -> Result<Option<Base>, Memory> {
-    let (Some((calls, names)), Some(files)) = (early(alloc)?, late(alloc)?) else {
+    let Some((files, listing)) = filled_files(alloc)? else {
         return Ok(None);
     };
-    let files = with_file(alloc, &files, UNLISTED, b"x")?;
-    match listing_of(alloc, &files)? {
-        Some(listing) if is_filled(alloc, &listing)? => Ok(Some(Base {
+    match early(alloc)? {
+        Some((calls, names)) => Ok(Some(Base {
             calls,
             names,
             files,
             listing,
         })),
+        None => Ok(None),
+    }
+}
+
+// The files that are left of all topics and one that none has, and what is found in them; none where that isn't what was filled in.
+fn filled_files(alloc: Global) -> Result<Option<(Vec<NamedFile>, Listing)>, Memory> {
+    let Some(files) = late(alloc)? else {
+        return Ok(None);
+    };
+    let files = with_file(alloc, &files, UNLISTED, b"x")?;
+    match listing_of(alloc, &files)? {
+        Some(listing) if is_filled(alloc, &listing)? => Ok(Some((files, listing))),
         _ => Ok(None),
     }
 }
@@ -192,31 +223,35 @@ fn late(alloc: Global) -> Result<Option<Vec<NamedFile>>, Memory> {
         return Ok(None);
     };
     let (end, left) = bench.shut();
-    if end != ShutEnd::Clean {
-        return Ok(None);
+    let files = files_left(alloc, folder_in(left))?;
+    match end {
+        ShutEnd::Clean => Ok(Some(files)),
+        ShutEnd::Fault | ShutEnd::Memory => Ok(None),
     }
-    Ok(Some(files_in(alloc, &mut folder_in(left))?))
 }
 
 // Whether this is found of all topics.
 fn is_filled(alloc: Global, listing: &Listing) -> Result<bool, Memory> {
     let mut text = Vec::from_slice(alloc, b"stats")?;
+    put_filled(&mut text)?;
+    Ok(listing.epoch == 1 && same(&listing.stats, &text))
+}
+
+fn put_filled(text: &mut Vec<u8>) -> Result<(), Memory> {
     for topic in 0..TOPICS {
-        put(&mut text, b" t")?;
-        put_number(&mut text, topic as u128)?;
+        put(text, b" t")?;
+        put_number(text, topic as u128)?;
         put(
-            &mut text,
+            text,
             b" depth 1 disk 1 paused [ a depth 4 disk 4 b depth 4 disk 4 ]",
         )?;
     }
-    Ok(listing.epoch == 1 && listing.stats.as_slice() == text.as_slice())
+    Ok(())
 }
 
 // Whether an opening of these files without failures finds what is listed, in the next epoch.
 fn reopens(alloc: Global, files: &[NamedFile], listing: &Listing) -> Result<bool, Memory> {
-    let options = options_of(alloc, SETTING)?;
-    let folder = folder_of(alloc, files, &[])?;
-    match open_folder(alloc, folder, &options, SETTING.clock)? {
+    match opened(alloc, files, &[])? {
         Opened::Open(mut bench) => shows(alloc, &mut bench, listing),
         Opened::Refused(_, _) => Ok(false),
     }
@@ -231,23 +266,21 @@ fn shows(alloc: Global, bench: &mut Bench, listing: &Listing) -> Result<bool, Me
 // Whether a call is answered so.
 fn answers(bench: &mut Bench, call: &str, wanted: &[u8]) -> Result<bool, Memory> {
     match bench.answer(call)? {
-        Some(answer) => Ok(answer.as_slice() == wanted),
+        Some(answer) => Ok(same(&answer, wanted)),
         None => Ok(false),
     }
 }
 
 // An opening of which this call fails.
 fn opening(alloc: Global, base: &Base, call: u64) -> Result<Tried, Memory> {
-    let options = options_of(alloc, SETTING)?;
-    let folder = folder_of(alloc, &base.files, &failing(call, 1))?;
-    match open_folder(alloc, folder, &options, SETTING.clock)? {
-        Opened::Open(bench) => Ok(passed(folder_in(bench.leave()), call)),
+    match opened(alloc, &base.files, &failing(call, 1))? {
+        Opened::Open(bench) => Ok(passed(&folder_in(bench.leave()), call)),
         Opened::Refused(why, folder) => refusal(alloc, base, why, folder),
     }
 }
 
 // What it is that all went well in a run of which a call was to fail.
-fn passed(folder: MemFolder, call: u64) -> Tried {
+fn passed(folder: &MemFolder, call: u64) -> Tried {
     if (folder.called().len() as u64) <= call {
         Tried::Unreached
     } else {
@@ -256,19 +289,28 @@ fn passed(folder: MemFolder, call: u64) -> Tried {
 }
 
 // Behind a refused opening the same messages are found, with the same epoch or the next.
-fn refusal(alloc: Global, base: &Base, why: Why, mut folder: MemFolder) -> Result<Tried, Memory> {
+fn refusal(alloc: Global, base: &Base, why: Why, folder: MemFolder) -> Result<Tried, Memory> {
+    let files = files_left(alloc, folder)?;
     if why != Why::Fault {
         return Ok(Tried::Wrong("it is refused for another cause"));
     }
-    let files = files_in(alloc, &mut folder)?;
-    let Some(listing) = listing_of(alloc, &files)? else {
-        return Ok(Tried::Wrong("nothing is found any longer"));
-    };
+    match listing_of(alloc, &files)? {
+        Some(listing) => found_again(alloc, base, &files, &listing),
+        None => Ok(Tried::Wrong("nothing is found any longer")),
+    }
+}
+
+fn found_again(
+    alloc: Global,
+    base: &Base,
+    files: &[NamedFile],
+    listing: &Listing,
+) -> Result<Tried, Memory> {
     let raised = listing.epoch.wrapping_sub(base.listing.epoch);
-    if raised > 1 || listing.differences(&base.listing) != Some(0) {
+    if raised > 1 || !matches!(listing.differences(&base.listing), Some(0)) {
         return Ok(Tried::Wrong("something else is found"));
     }
-    if !reopens(alloc, &files, &listing)? {
+    if !reopens(alloc, files, listing)? {
         return Ok(Tried::Wrong("a second opening finds something else"));
     }
     Ok(Tried::Right)
@@ -287,16 +329,27 @@ fn saved_once(alloc: Global, base: &Base, call: u64) -> Result<Tried, Memory> {
     let Some(mut bench) = filled(alloc, &failing(call, 1))? else {
         return Ok(Tried::Wrong("it isn't opened"));
     };
-    if answers(&mut bench, "save", b"done")? {
-        return Ok(passed(folder_in(bench.leave()), call));
+    let saved = save(&mut bench)?;
+    let folder = folder_in(bench.leave());
+    Ok(match saved {
+        Tried::Unreached => passed(&folder, call),
+        Tried::Right if !has_names(base, folder.file(NAMES)) => {
+            Tried::Wrong("the file of names is another")
+        }
+        saved => saved,
+    })
+}
+
+// Whether saving that fails leaves something to be saved; unreached where it doesn't fail.
+fn save(bench: &mut Bench) -> Result<Tried, Memory> {
+    if answers(bench, "save", b"done")? {
+        return Ok(Tried::Unreached);
     }
-    if !answers(&mut bench, "changed", b"yes")? {
-        return Ok(Tried::Wrong("nothing is to be saved any longer"));
+    if answers(bench, "changed", b"yes")? {
+        Ok(Tried::Right)
+    } else {
+        Ok(Tried::Wrong("nothing is to be saved any longer"))
     }
-    if has_names(base, folder_in(bench.leave()).file(NAMES)) {
-        return Ok(Tried::Right);
-    }
-    Ok(Tried::Wrong("the file of names is another"))
 }
 
 // Saving that failed is made once more, and all is saved.
@@ -304,13 +357,15 @@ fn saved_again(alloc: Global, base: &Base, call: u64) -> Result<Tried, Memory> {
     let Some(mut bench) = filled(alloc, &failing(call, 1))? else {
         return Ok(Tried::Wrong("it isn't opened"));
     };
-    if !saves_then(&mut bench)? {
-        return Ok(Tried::Wrong("it can't be saved again"));
-    }
-    if folder_in(bench.leave()).file(NAMES) != bytes_of(&base.files, NAMES) {
-        return Ok(Tried::Wrong("something else is saved"));
-    }
-    Ok(Tried::Right)
+    let saves = saves_then(&mut bench)?;
+    let folder = folder_in(bench.leave());
+    Ok(if !saves {
+        Tried::Wrong("it can't be saved again")
+    } else if same_file(folder.file(NAMES), bytes_of(&base.files, NAMES)) {
+        Tried::Right
+    } else {
+        Tried::Wrong("something else is saved")
+    })
 }
 
 // Whether saving fails, and is done as it is made once more.
@@ -324,7 +379,7 @@ fn saves_then(bench: &mut Bench) -> Result<bool, Memory> {
 
 // Whether the file of names is the old or the new one.
 fn has_names(base: &Base, names: Option<&[u8]>) -> bool {
-    names == Some(base.names.as_slice()) || names == bytes_of(&base.files, NAMES)
+    same_file(names, Some(&base.names)) || same_file(names, bytes_of(&base.files, NAMES))
 }
 
 // Shutting of which this call fails. Behind that no more than one queue was missed.
@@ -345,7 +400,7 @@ fn breaking(alloc: Global, base: &Base, call: u64) -> Result<Tried, Memory> {
     };
     match shut_fails(alloc, base, call, bench)? {
         Ok(files) => {
-            let new_names = bytes_of(&files, NAMES) == bytes_of(&base.files, NAMES);
+            let new_names = same_file(bytes_of(&files, NAMES), bytes_of(&base.files, NAMES));
             shut_left(alloc, base, &files, if new_names { 0 } else { ALL })
         }
         Err(tried) => Ok(tried),
@@ -360,13 +415,20 @@ fn shut_fails(
     bench: Bench,
 ) -> Result<Result<Vec<NamedFile>, Tried>, Memory> {
     let (end, left) = bench.shut();
-    let mut folder = folder_in(left);
+    let folder = folder_in(left);
     match end {
-        ShutEnd::Clean => return Ok(Err(passed(folder, call))),
-        ShutEnd::Memory => return Ok(Err(Tried::Wrong("it ends for want of memory"))),
-        ShutEnd::Fault => {}
+        ShutEnd::Clean => Ok(Err(passed(&folder, call))),
+        ShutEnd::Memory => Ok(Err(Tried::Wrong("it ends for want of memory"))),
+        ShutEnd::Fault => fault_left(alloc, base, folder),
     }
-    let files = files_in(alloc, &mut folder)?;
+}
+
+fn fault_left(
+    alloc: Global,
+    base: &Base,
+    folder: MemFolder,
+) -> Result<Result<Vec<NamedFile>, Tried>, Memory> {
+    let files = files_left(alloc, folder)?;
     if has_names(base, bytes_of(&files, NAMES)) {
         return Ok(Ok(files));
     }
@@ -380,20 +442,30 @@ fn shut_left(
     files: &[NamedFile],
     most: usize,
 ) -> Result<Tried, Memory> {
-    let new_names = bytes_of(&base.files, NAMES).unwrap_or(b"");
-    let whole = with_file(alloc, files, NAMES, new_names)?;
-    let (Some(listing), Some(found)) = (listing_of(alloc, &whole)?, listing_of(alloc, files)?)
-    else {
+    match kept(alloc, base, files, most)? {
+        Tried::Right => {}
+        other => return Ok(other),
+    }
+    let Some(found) = listing_of(alloc, files)? else {
         return Ok(Tried::Wrong("nothing is found any longer"));
     };
-    match listing.differences(&base.listing) {
-        Some(missed) if missed <= most => {}
-        _ => return Ok(Tried::Wrong("too many queues were missed")),
-    }
     if !reopens(alloc, files, &found)? {
         return Ok(Tried::Wrong("a second opening finds something else"));
     }
     Ok(Tried::Right)
+}
+
+// By the new file of names all queues but so many at most have their messages.
+fn kept(alloc: Global, base: &Base, files: &[NamedFile], most: usize) -> Result<Tried, Memory> {
+    let new_names = bytes_of(&base.files, NAMES).unwrap_or(b"");
+    let whole = with_file(alloc, files, NAMES, new_names)?;
+    let Some(listing) = listing_of(alloc, &whole)? else {
+        return Ok(Tried::Wrong("nothing is found any longer"));
+    };
+    match listing.differences(&base.listing) {
+        Some(missed) if missed <= most => Ok(Tried::Right),
+        _ => Ok(Tried::Wrong("too many queues were missed")),
+    }
 }
 
 // What becomes of a trial in which this call fails.
@@ -427,21 +499,24 @@ fn counted(alloc: Global, base: &Base, trial: Trial) -> Result<(u64, &'static st
     Ok((MOST_CALLS, "it doesn't end"))
 }
 
-// What differs in a row, as text; nothing where it holds. One that ends for want of memory begins once more.
+// What differs in a row, as text; nothing where it holds.
 fn differs(alloc: Global, row: &Row) -> Result<Vec<u8>, Memory> {
+    let mut text = Vec::new(alloc);
+    put_difference(alloc, &mut text, row)?;
+    Ok(text)
+}
+
+fn put_difference(alloc: Global, text: &mut Vec<u8>, row: &Row) -> Result<(), Memory> {
     let Some(base) = make_base(alloc)? else {
-        return Vec::from_slice(alloc, b": the topics aren't filled").map_err(Memory::from);
+        return put(text, b": the topics aren't filled");
     };
     let (count, what) = counted(alloc, &base, row.trial)?;
-    let mut text = Vec::new(alloc);
     if what.is_empty() && count >= row.least {
-        return Ok(text);
+        return Ok(());
     }
-    put(&mut text, b": at call ")?;
-    put_number(&mut text, u128::from(count))?;
-    put(&mut text, b" ")?;
-    put(&mut text, what.as_bytes())?;
-    Ok(text)
+    put(text, b": at call ")?;
+    put_number(text, u128::from(count))?;
+    put_each(text, &[b" ", what.as_bytes()])
 }
 
 // The names of the rows that don't hold, each with what differs in it.
@@ -453,6 +528,7 @@ fn wrong(alloc: Global) -> Result<String, Memory> {
     Ok(String::from_utf8_lossy(alloc, &wrong)?)
 }
 
+// What differs in a row beside its name. One that ends for want of memory begins once more.
 fn put_wrong(alloc: Global, wrong: &mut Vec<u8>, row: &Row) -> Result<(), Memory> {
     let differs = match differs(alloc, row) {
         Ok(differs) if differs.is_empty() => return Ok(()),
@@ -461,9 +537,7 @@ fn put_wrong(alloc: Global, wrong: &mut Vec<u8>, row: &Row) -> Result<(), Memory
     if differs.is_empty() {
         return Ok(());
     }
-    put(wrong, b"\n")?;
-    put(wrong, row.name.as_bytes())?;
-    put(wrong, &differs)
+    put_each(wrong, &[b"\n", row.name.as_bytes(), &differs])
 }
 
 #[test]

@@ -1,7 +1,7 @@
 //! What is found in files, as text.
 
 use crate::judged::names_found;
-use crate::texts::{put, put_count, put_flag, put_message};
+use crate::texts::{put, put_count, put_each, put_flag, put_message, same};
 use broker_files::{FoundNames, FoundTopic};
 use nsq_base::Memory;
 use queue_plain::NamedFile;
@@ -25,15 +25,21 @@ pub fn listing_of(alloc: Global, files: &[NamedFile]) -> Result<Option<Listing>,
 }
 
 fn listed(alloc: Global, names: &FoundNames) -> Result<Listing, Memory> {
+    let stats = Vec::from_slice(alloc, b"stats")?;
     let mut listing = Listing {
         epoch: names.epoch,
         queues: Vec::new(alloc),
-        stats: Vec::from_slice(alloc, b"stats")?,
+        stats,
     };
-    for topic in &names.topics {
-        list_topic(alloc, &mut listing, topic)?;
-    }
+    list_topics(alloc, &mut listing, &names.topics)?;
     Ok(listing)
+}
+
+fn list_topics(alloc: Global, listing: &mut Listing, topics: &[FoundTopic]) -> Result<(), Memory> {
+    for topic in topics {
+        list_topic(alloc, listing, topic)?;
+    }
+    Ok(())
 }
 
 fn list_topic(alloc: Global, listing: &mut Listing, topic: &FoundTopic) -> Result<(), Memory> {
@@ -56,19 +62,23 @@ fn list_queue(
 ) -> Result<(), Memory> {
     listing.queues.push(line_of(alloc, name, messages)?)?;
     let count = messages.len() as u128;
-    put(&mut listing.stats, b" ")?;
-    put(&mut listing.stats, name)?;
+    put_each(&mut listing.stats, &[b" ", name])?;
     put_count(&mut listing.stats, b"depth", count)?;
     put_count(&mut listing.stats, b"disk", count)
 }
 
 fn line_of(alloc: Global, name: &[u8], messages: &[Message]) -> Result<Vec<u8>, Memory> {
     let mut line = Vec::from_slice(alloc, name)?;
-    for message in messages {
-        put(&mut line, b"; ")?;
-        put_message(&mut line, message)?;
-    }
+    put_messages(&mut line, messages)?;
     Ok(line)
+}
+
+fn put_messages(line: &mut Vec<u8>, messages: &[Message]) -> Result<(), Memory> {
+    for message in messages {
+        put(line, b"; ")?;
+        put_message(line, message)?;
+    }
+    Ok(())
 }
 
 impl Listing {
@@ -78,11 +88,19 @@ impl Listing {
             return None;
         }
         let mut count: usize = 0;
-        for (ours, theirs) in self.queues.iter().zip(&other.queues) {
-            if ours.as_slice() != theirs.as_slice() {
+        for (place, line) in self.queues.iter().enumerate() {
+            if !other.is_line(place, line) {
                 count = count.saturating_add(1);
             }
         }
         Some(count)
+    }
+
+    // Whether this is the line of the queue at this place.
+    fn is_line(&self, place: usize, line: &[u8]) -> bool {
+        match self.queues.get(place) {
+            Some(own) => same(own, line),
+            None => false,
+        }
     }
 }

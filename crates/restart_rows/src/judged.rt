@@ -64,9 +64,19 @@ fn begun(
 pub fn is_kept(alloc: Global, states: &[State], files: &[NamedFile]) -> Result<bool, Memory> {
     match found(alloc, files)? {
         Finding::Names(names) => one_leaves(alloc, states, &names),
-        Finding::EpochSpent => Ok(states.iter().all(|state| state.epoch == LAST_EPOCH)),
+        Finding::EpochSpent => Ok(are_last(states)),
         Finding::BadData => Ok(false),
     }
+}
+
+// Whether each state is of the last epoch.
+fn are_last(states: &[State]) -> bool {
+    for state in states {
+        if state.epoch != LAST_EPOCH {
+            return false;
+        }
+    }
+    true
 }
 
 fn one_leaves(alloc: Global, states: &[State], names: &FoundNames) -> Result<bool, Memory> {

@@ -3,11 +3,11 @@
 //! A line `NUMBER CALL => ANSWER` is a turn of this number; `save`, `changed` and `epoch` without a number are other calls of an open path.
 
 use crate::bench::{Bench, Left, Opened, open_folder};
-use crate::files::{File, bytes_of, files_in, folder_of, named};
+use crate::files::{File, bytes_of, files_in, files_left, folder_of, named, same_file};
 use crate::judged::{is_kept, may_refuse, states_of};
 use crate::setting::{DEFAULTS, Setting, options_of};
 use crate::tables::tables;
-use crate::texts::{put, put_id};
+use crate::texts::{put, put_each, put_id, same};
 use broker_history::{Act, Entry};
 use nsq_base::{Memory, Options};
 use nsq_fakes::{Failing, MemFolder};
@@ -64,90 +64,110 @@ pub const ROW: Row = Row {
     runs: &[],
 };
 
-// What a run did: its options, its opening moment, how it was shut, what its floor left, and its files behind it.
-#[derive(Drop)]
-struct Ran {
-    options: Options,
+// What a run did: its opening moment, how it was shut, what its floor left, and its files behind it.
+#[derive(Clone, Copy)]
+struct Ran<'a> {
     began: u64,
     end: Option<ShutEnd>,
-    left: Left,
-    after: Vec<NamedFile>,
+    left: &'a Left,
+    after: &'a [NamedFile],
 }
 
 // What differs in a row, as text; nothing where it holds.
 fn differs(alloc: Global, row: &Row) -> Result<Vec<u8>, Memory> {
+    let mut text = Vec::new(alloc);
     let mut files = named(alloc, row.files, row.padded)?;
-    for run in row.runs {
-        let wrong = run_differs(alloc, run, &mut files)?;
-        if !wrong.is_empty() {
-            return Ok(wrong);
+    make_all(alloc, &mut text, row.runs, &mut files)?;
+    Ok(text)
+}
+
+// What differs in runs over these files, one after another.
+fn make_all(
+    alloc: Global,
+    text: &mut Vec<u8>,
+    runs: &[Run],
+    files: &mut Vec<NamedFile>,
+) -> Result<(), Memory> {
+    for run in runs {
+        make(alloc, text, run, files)?;
+        if !text.is_empty() {
+            return Ok(());
         }
     }
-    Ok(Vec::new(alloc))
+    Ok(())
 }
 
 // What differs in a run over these files. Then they are those that it left.
-fn run_differs(alloc: Global, run: &Run, files: &mut Vec<NamedFile>) -> Result<Vec<u8>, Memory> {
+fn make(
+    alloc: Global,
+    text: &mut Vec<u8>,
+    run: &Run,
+    files: &mut Vec<NamedFile>,
+) -> Result<(), Memory> {
     let options = options_of(alloc, run.setting)?;
     let folder = folder_of(alloc, files, run.fails)?;
     match open_folder(alloc, folder, &options, run.setting.clock)? {
-        Opened::Refused(why, folder) => refusal_differs(alloc, run, files, why, folder),
-        Opened::Open(bench) => service_differs(alloc, run, files, options, bench),
+        Opened::Refused(why, folder) => refuse(alloc, text, run, files, why, folder),
+        Opened::Open(bench) => serve(alloc, text, run, files, &options, bench),
     }
 }
 
-fn refusal_differs(
+// What differs in a run that was refused.
+fn refuse(
     alloc: Global,
+    text: &mut Vec<u8>,
     run: &Run,
     files: &mut Vec<NamedFile>,
     why: Why,
-    mut folder: MemFolder,
-) -> Result<Vec<u8>, Memory> {
+    folder: MemFolder,
+) -> Result<(), Memory> {
     if run.refused != Some(why) || !may_refuse(alloc, files, why)? {
-        return said(alloc, "the opening", b"is refused for that");
+        return say(text, "the opening", b"is refused for that");
     }
-    *files = files_in(alloc, &mut folder)?;
-    files_differ(alloc, run, files)
+    *files = files_left(alloc, folder)?;
+    compare_files(text, run, files)
 }
 
 // What differs in a run that was opened.
-fn service_differs(
+fn serve(
     alloc: Global,
+    text: &mut Vec<u8>,
     run: &Run,
     files: &mut Vec<NamedFile>,
-    options: Options,
+    options: &Options,
     mut bench: Bench,
-) -> Result<Vec<u8>, Memory> {
-    let wrong = start_differs(alloc, run, &mut bench)?;
-    if !wrong.is_empty() {
-        return Ok(wrong);
-    }
-    let ran = finish(alloc, run, options, bench)?;
-    let wrong = end_differs(alloc, run, files, &ran)?;
-    *files = ran.after;
-    Ok(wrong)
-}
-
-// What differs until a run is shut.
-fn start_differs(alloc: Global, run: &Run, bench: &mut Bench) -> Result<Vec<u8>, Memory> {
+) -> Result<(), Memory> {
     if run.refused.is_some() {
-        return said(alloc, "the opening", b"isn't refused");
+        return say(text, "the opening", b"isn't refused");
     }
-    lines_differ(alloc, bench, run.lines)
+    compare_lines(text, &mut bench, run.lines)?;
+    if !text.is_empty() {
+        return Ok(());
+    }
+    finish(alloc, text, run, files, options, bench)
 }
 
-// Ends a run.
-fn finish(alloc: Global, run: &Run, options: Options, bench: Bench) -> Result<Ran, Memory> {
+// What differs in the end of a run. Then the files are those that it left.
+fn finish(
+    alloc: Global,
+    text: &mut Vec<u8>,
+    run: &Run,
+    files: &mut Vec<NamedFile>,
+    options: &Options,
+    bench: Bench,
+) -> Result<(), Memory> {
     let began = bench.began();
     let (end, mut left) = ended(run, bench);
     let after = files_in(alloc, &mut left.folder)?;
-    Ok(Ran {
-        options,
+    let ran = Ran {
         began,
         end,
-        left,
-        after,
-    })
+        left: &left,
+        after: &after,
+    };
+    compare_end(alloc, text, run, options, files, ran)?;
+    *files = after;
+    Ok(())
 }
 
 // Shuts a floor, or lets it go where the run says so.
@@ -160,66 +180,81 @@ fn ended(run: &Run, bench: Bench) -> (Option<ShutEnd>, Left) {
 }
 
 // What differs from the lines of a run.
-fn lines_differ(alloc: Global, bench: &mut Bench, lines: &str) -> Result<Vec<u8>, Memory> {
+fn compare_lines(text: &mut Vec<u8>, bench: &mut Bench, lines: &str) -> Result<(), Memory> {
     for line in lines.lines() {
         let line = line.trim();
         if line.is_empty() {
             continue;
         }
-        let wrong = line_differs(alloc, bench, line)?;
-        if !wrong.is_empty() {
-            return Ok(wrong);
+        compare_line(text, bench, line)?;
+        if !text.is_empty() {
+            return Ok(());
         }
     }
-    Ok(Vec::new(alloc))
+    Ok(())
 }
 
-fn line_differs(alloc: Global, bench: &mut Bench, line: &str) -> Result<Vec<u8>, Memory> {
+fn compare_line(text: &mut Vec<u8>, bench: &mut Bench, line: &str) -> Result<(), Memory> {
     let Some((call, wanted)) = line.split_once(" => ") else {
-        return said(alloc, line, b"is no line");
+        return say(text, line, b"is no line");
     };
     let Some(told) = bench.answer(call)? else {
-        return said(alloc, line, b"is no call");
+        return say(text, line, b"is no call");
     };
-    if told.as_slice() == wanted.as_bytes() {
-        return Ok(Vec::new(alloc));
+    if same(&told, wanted.as_bytes()) {
+        return Ok(());
     }
-    said(alloc, line, &told)
+    say(text, line, &told)
 }
 
 // What differs in what a run over these files noted and left.
-fn end_differs(
+fn compare_end(
     alloc: Global,
+    text: &mut Vec<u8>,
     run: &Run,
+    options: &Options,
     before: &[NamedFile],
-    ran: &Ran,
-) -> Result<Vec<u8>, Memory> {
+    ran: Ran<'_>,
+) -> Result<(), Memory> {
     if ran.end != run.end {
-        return said(alloc, "the end", b"is another");
+        return say(text, "the end", b"is another");
     }
     let entries = ran.left.journal.entries();
-    let states = states_of(alloc, &ran.options, before, ran.began, entries)?;
+    let states = states_of(alloc, options, before, ran.began, entries)?;
     if states.is_empty() {
-        return said(alloc, "the history", b"isn't legal");
+        return say(text, "the history", b"isn't legal");
     }
-    if ran.end == Some(ShutEnd::Clean) && !is_kept(alloc, &states, &ran.after)? {
-        return said(alloc, "the end", b"keeps something else");
+    if matches!(ran.end, Some(ShutEnd::Clean)) && !is_kept(alloc, &states, ran.after)? {
+        return say(text, "the end", b"keeps something else");
     }
-    let held = held_back(alloc, entries)?;
-    if held.as_slice() != run.held.as_bytes() {
-        return said(alloc, "held back", &held);
+    compare_held(alloc, text, run, entries)?;
+    if !text.is_empty() {
+        return Ok(());
     }
-    files_differ(alloc, run, &ran.after)
+    compare_files(text, run, ran.after)
 }
 
-fn files_differ(alloc: Global, run: &Run, files: &[NamedFile]) -> Result<Vec<u8>, Memory> {
+fn compare_held(
+    alloc: Global,
+    text: &mut Vec<u8>,
+    run: &Run,
+    entries: &[(Entry, End)],
+) -> Result<(), Memory> {
+    let held = held_back(alloc, entries)?;
+    if same(&held, run.held.as_bytes()) {
+        return Ok(());
+    }
+    say(text, "held back", &held)
+}
+
+fn compare_files(text: &mut Vec<u8>, run: &Run, files: &[NamedFile]) -> Result<(), Memory> {
     for (name, bytes) in run.leaves {
         let left = bytes_of(files, name);
-        if left != *bytes {
-            return said(alloc, name, left.unwrap_or(b"isn't there"));
+        if !same_file(left, *bytes) {
+            return say(text, name, left.unwrap_or(b"isn't there"));
         }
     }
-    Ok(Vec::new(alloc))
+    Ok(())
 }
 
 // The copies that were held back, in order: the topic, the channel and the id of each.
@@ -238,20 +273,13 @@ fn put_held(text: &mut Vec<u8>, act: &Act) -> Result<(), Memory> {
     if !text.is_empty() {
         put(text, b"; ")?;
     }
-    put(text, topic.bytes())?;
-    put(text, b" ")?;
-    put(text, channel.bytes())?;
-    put(text, b" ")?;
+    put_each(text, &[topic.bytes(), b" ", channel.bytes(), b" "])?;
     put_id(text, id)
 }
 
-// What is said of a line, or of something else.
-fn said(alloc: Global, line: &str, what: &[u8]) -> Result<Vec<u8>, Memory> {
-    let mut text = Vec::new(alloc);
-    put(&mut text, line.as_bytes())?;
-    put(&mut text, b": ")?;
-    put(&mut text, what)?;
-    Ok(text)
+// Says this of a line, or of something else.
+fn say(text: &mut Vec<u8>, line: &str, what: &[u8]) -> Result<(), Memory> {
+    put_each(text, &[line.as_bytes(), b": ", what])
 }
 
 // What differs in a row. One that ends for want of memory, or in which the folder found none, begins once more; so the rows hold too where one
@@ -286,10 +314,7 @@ fn put_wrong(alloc: Global, wrong: &mut Vec<u8>, row: &Row) -> Result<(), Memory
     if differs.is_empty() {
         return Ok(());
     }
-    put(wrong, b"\n")?;
-    put(wrong, row.name.as_bytes())?;
-    put(wrong, b"\n  ")?;
-    put(wrong, &differs)
+    put_each(wrong, &[b"\n", row.name.as_bytes(), b"\n  ", &differs])
 }
 
 #[test]

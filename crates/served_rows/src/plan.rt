@@ -109,6 +109,23 @@ impl Plan {
         Ok(())
     }
 
+    // All steps of the client of this number, and the read behind them.
+    fn add_all(
+        &mut self,
+        alloc: Global,
+        client: &Client,
+        number: usize,
+        cut: Cut,
+    ) -> Result<(), Memory> {
+        for (at, step) in client.steps.iter().enumerate() {
+            self.add(alloc, step, place_in(cut, number, at))?;
+        }
+        match client.ended {
+            Ended::EndOfInput => self.mark(),
+            _ => Ok(()),
+        }
+    }
+
     // One more step.
     fn add(&mut self, alloc: Global, step: &Step, place: usize) -> Result<(), Memory> {
         self.mark()?;
@@ -139,13 +156,6 @@ fn place_in(cut: Cut, client: usize, step: usize) -> usize {
 /// What the client of this number sends, counted from 0, and what must be seen of it. One that ends by itself is read once more.
 pub fn plan_of(alloc: Global, client: &Client, number: usize, cut: Cut) -> Result<Plan, Memory> {
     let mut plan = Plan::new(alloc, client.ended);
-    let mut at = 0usize;
-    for step in client.steps {
-        plan.add(alloc, step, place_in(cut, number, at))?;
-        at = at.saturating_add(1);
-    }
-    if client.ended == Ended::EndOfInput {
-        plan.mark()?;
-    }
+    plan.add_all(alloc, client, number, cut)?;
     Ok(plan)
 }

@@ -32,8 +32,11 @@ fn only_piece(client: &Client) -> Option<(usize, usize)> {
     found
 }
 
-// The first place at which the one piece of the last client may not be cut in two.
+// The first place at which the one piece of the last client may not be cut in two; 0 where the row doesn't hold whole.
 fn wrong_cut<R: Wait>(rt: &R, alloc: Global, row: &Row) -> Result<Option<usize>, Memory> {
+    if !holds_at_last(rt, alloc, row, WHOLE)? {
+        return Ok(Some(0));
+    }
     let Some(client) = row.clients.last() else {
         return Ok(None);
     };
@@ -57,8 +60,6 @@ fn wrong_cut<R: Wait>(rt: &R, alloc: Global, row: &Row) -> Result<Option<usize>,
 fn rows(rt: HostRuntime) -> Result<(), Fail> {
     for table in &tables() {
         for row in *table {
-            let holds = holds_at_last(&rt, rt.alloc(), row, WHOLE)?;
-            assert!(rt; holds, "{}", row.name);
             let wrong = wrong_cut(&rt, rt.alloc(), row)?;
             assert!(rt; wrong.is_none(), "{}, cut before {:?}", row.name, wrong);
         }

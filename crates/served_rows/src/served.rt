@@ -62,9 +62,13 @@ fn conn_of(alloc: Global, pieces: &[Vec<u8>]) -> Result<MemConn, Memory> {
     MemConn::new(alloc, pieces, Vec::new(alloc), Vec::new(alloc))
 }
 
+fn same(one: &[u8], other: &[u8]) -> bool {
+    one == other
+}
+
 // Whether what was written to a connection, and how much before each read, is as planned.
 fn is_seen(conn: &TimedConn<'_>, plan: &Plan) -> bool {
-    conn.written() == plan.written.as_slice() && conn.marks() == plan.marks.as_slice()
+    same(conn.written(), &plan.written) && conn.marks() == plan.marks.as_slice()
 }
 
 // Whether a client is served as planned, under this number.
@@ -121,8 +125,9 @@ fn all_go<R: Wait>(
 // Whether these files are there.
 fn are_there(folder: &MemFolder, files: &[File]) -> bool {
     for (name, bytes) in files {
-        if folder.file(name) != Some(*bytes) {
-            return false;
+        match folder.file(name) {
+            Some(found) if same(found, bytes) => {}
+            _ => return false,
         }
     }
     true

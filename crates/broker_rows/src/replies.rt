@@ -591,11 +591,12 @@ fn is_nothing(gets: Gets) -> bool {
 }
 
 fn is_frame(kind: FrameKind, text: &[u8], gets: Gets) -> bool {
-    match gets {
-        Gets::Nothing => false,
-        Gets::Response(expected) => kind == FrameKind::Response && text == expected,
-        Gets::Error(expected) => kind == FrameKind::Error && text == expected,
-    }
+    let (expected_kind, expected) = match gets {
+        Gets::Nothing => return false,
+        Gets::Response(expected) => (FrameKind::Response, expected),
+        Gets::Error(expected) => (FrameKind::Error, expected),
+    };
+    kind == expected_kind && text == expected
 }
 
 fn holds(alloc: Global, row: &Row) -> Result<bool, Memory> {
@@ -618,47 +619,64 @@ fn identifies(alloc: Global, body: &'static str, gets: Gets) -> Result<bool, Mem
     holds(alloc, &row)
 }
 
-#[test]
-fn bodies_that_are_refused(rt: HostRuntime) -> Result<(), Memory> {
-    for body in BAD_BODIES {
-        let holds = identifies(rt.alloc(), body, BAD_JSON)?;
-        assert!(rt; holds, "{}", body);
+// The first of these bodies with which a fresh client's IDENTIFY isn't answered so, if there is one.
+fn wrong_body(
+    alloc: Global,
+    bodies: &'static [&'static str],
+    gets: Gets,
+) -> Result<Option<&'static str>, Memory> {
+    for body in bodies {
+        if !identifies(alloc, body, gets)? {
+            return Ok(Some(*body));
+        }
     }
+    Ok(None)
+}
+
+// The first body of all that isn't answered as it must be, if there is one.
+fn wrong_of_all(alloc: Global) -> Result<Option<&'static str>, Memory> {
+    let wrong = wrong_body(alloc, &BAD_BODIES, BAD_JSON)?;
+    if wrong.is_some() {
+        return Ok(wrong);
+    }
+    wrong_body(alloc, &GOOD_BODIES, OK)
+}
+
+// The name of the first row of these tables that doesn't hold, if there is one.
+fn wrong(alloc: Global, tables: &[&'static [Row]]) -> Result<Option<&'static str>, Memory> {
+    for rows in tables {
+        for row in *rows {
+            if !holds(alloc, row)? {
+                return Ok(Some(row.name));
+            }
+        }
+    }
+    Ok(None)
+}
+
+fn publishes() -> &'static [Row] {
+    &PUBLISHES
+}
+
+fn readies() -> &'static [Row] {
+    &READIES
+}
+
+fn flights() -> &'static [Row] {
+    &FLIGHTS
+}
+
+#[test]
+fn bodies_of_identify(rt: HostRuntime) -> Result<(), Memory> {
+    let wrong = wrong_of_all(rt.alloc())?;
+    assert!(rt; wrong.is_none(), "{}", wrong.unwrap_or(""));
     Ok(())
 }
 
 #[test]
-fn bodies_that_are_accepted(rt: HostRuntime) -> Result<(), Memory> {
-    for body in GOOD_BODIES {
-        let holds = identifies(rt.alloc(), body, OK)?;
-        assert!(rt; holds, "{}", body);
-    }
-    Ok(())
-}
-
-#[test]
-fn publishes(rt: HostRuntime) -> Result<(), Memory> {
-    for row in &PUBLISHES {
-        let holds = holds(rt.alloc(), row)?;
-        assert!(rt; holds, "{}", row.name);
-    }
-    Ok(())
-}
-
-#[test]
-fn readies(rt: HostRuntime) -> Result<(), Memory> {
-    for row in &READIES {
-        let holds = holds(rt.alloc(), row)?;
-        assert!(rt; holds, "{}", row.name);
-    }
-    Ok(())
-}
-
-#[test]
-fn flights(rt: HostRuntime) -> Result<(), Memory> {
-    for row in &FLIGHTS {
-        let holds = holds(rt.alloc(), row)?;
-        assert!(rt; holds, "{}", row.name);
-    }
+fn rows(rt: HostRuntime) -> Result<(), Memory> {
+    let tables = [publishes(), readies(), flights()];
+    let wrong = wrong(rt.alloc(), &tables)?;
+    assert!(rt; wrong.is_none(), "{}", wrong.unwrap_or(""));
     Ok(())
 }

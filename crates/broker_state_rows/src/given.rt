@@ -70,20 +70,17 @@ pub fn message(alloc: Global, sent: Sent) -> Result<Message, Memory> {
     })
 }
 
+/// Whether these are the same bytes.
+pub fn same(one: &[u8], other: &[u8]) -> bool {
+    one == other
+}
+
 /// The state, without what is no name.
 pub fn state(alloc: Global, given: &Given) -> Result<State, Memory> {
+    let clients = clients(alloc, given.clients)?;
+    let topics = topics(alloc, given.topics)?;
     let mut options = Options::defaults(alloc)?;
     options.mem_queue_size = given.mem_queue_size;
-    let mut clients = Vec::new(alloc);
-    for one in given.clients {
-        clients.push(client(alloc, one)?)?;
-    }
-    let mut topics = Vec::new(alloc);
-    for one in given.topics {
-        if let Some(name) = Topic::read(one.name) {
-            topics.push(topic(alloc, name, one)?)?;
-        }
-    }
     Ok(State {
         options,
         epoch: given.epoch.min(255),
@@ -96,25 +93,50 @@ pub fn state(alloc: Global, given: &Given) -> Result<State, Memory> {
     })
 }
 
+fn clients(alloc: Global, given: &[GivenClient]) -> Result<Vec<Client>, Memory> {
+    let mut clients = Vec::new(alloc);
+    for one in given {
+        clients.push(client(alloc, one)?)?;
+    }
+    Ok(clients)
+}
+
+fn topics(alloc: Global, given: &[GivenTopic]) -> Result<Vec<TopicState>, Memory> {
+    let mut topics = Vec::new(alloc);
+    for one in given {
+        if let Some(name) = Topic::read(one.name) {
+            topics.push(topic(alloc, name, one)?)?;
+        }
+    }
+    Ok(topics)
+}
+
 fn client(alloc: Global, given: &GivenClient) -> Result<Client, Memory> {
-    let [finish_count, message_count, requeue_count] = given.counts;
     let [client_id, hostname, user_agent] = given.texts;
-    Ok(Client {
+    let client_id = Body::copy(alloc, client_id)?;
+    let hostname = Body::copy(alloc, hostname)?;
+    let user_agent = Body::copy(alloc, user_agent)?;
+    Ok(client_with(given, client_id, hostname, user_agent))
+}
+
+fn client_with(given: &GivenClient, client_id: Body, hostname: Body, user_agent: Body) -> Client {
+    let [finish_count, message_count, requeue_count] = given.counts;
+    Client {
         number: given.number,
         phase: given.phase,
         route: route(given.topic, given.channel),
         ready: given.ready,
         heartbeat: None,
         timeout: 60_000_000_000,
-        client_id: Body::copy(alloc, client_id)?,
-        hostname: Body::copy(alloc, hostname)?,
-        user_agent: Body::copy(alloc, user_agent)?,
+        client_id,
+        hostname,
+        user_agent,
         last_command: 0,
         beat_from: 0,
         finish_count,
         message_count,
         requeue_count,
-    })
+    }
 }
 
 fn route(topic: &'static [u8], channel: &'static [u8]) -> Option<Route> {
@@ -124,28 +146,39 @@ fn route(topic: &'static [u8], channel: &'static [u8]) -> Option<Route> {
 }
 
 fn topic(alloc: Global, name: Topic, given: &GivenTopic) -> Result<TopicState, Memory> {
+    let waiting = waiting(alloc, given.waiting)?;
+    let channels = channels(alloc, given.channels)?;
+    let taken = taken(alloc, given.taken)?;
+    Ok(TopicState {
+        name,
+        paused: given.paused,
+        message_count: given.count,
+        waiting,
+        taken,
+        channels,
+    })
+}
+
+fn waiting(alloc: Global, given: &[Sent]) -> Result<Vec<Waiting>, Memory> {
     let mut waiting = Vec::new(alloc);
-    for sent in given.waiting {
+    for sent in given {
         let message = message(alloc, *sent)?;
         waiting.push(Waiting {
             message,
             loose: false,
         })?;
     }
+    Ok(waiting)
+}
+
+fn channels(alloc: Global, given: &[GivenChannel]) -> Result<Vec<ChannelState>, Memory> {
     let mut channels = Vec::new(alloc);
-    for one in given.channels {
+    for one in given {
         if let Some(name) = Chan::read(one.name) {
             channels.push(channel(alloc, name, one)?)?;
         }
     }
-    Ok(TopicState {
-        name,
-        paused: given.paused,
-        message_count: given.count,
-        waiting,
-        taken: taken(alloc, given.taken)?,
-        channels,
-    })
+    Ok(channels)
 }
 
 fn taken(alloc: Global, taken: &[Sent]) -> Result<Option<TakenMessage>, Memory> {

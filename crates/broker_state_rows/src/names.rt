@@ -1,6 +1,6 @@
 //! The text of the file of names, to the byte: what it keeps of a state, and that it is read as it was written.
 
-use crate::given::{Given, GivenChannel, GivenTopic, state};
+use crate::given::{Given, GivenChannel, GivenTopic, same, state};
 use broker_files::{kept_names, names_text, read_names};
 use nsq_base::Memory;
 use std::alloc::Global;
@@ -106,7 +106,7 @@ static ROWS: [Row; 3] = [
 /// Whether the text, as it is read, would be written so again.
 fn stays(alloc: Global, text: &[u8]) -> Result<bool, Memory> {
     match read_names(alloc, text)? {
-        Some(kept) => Ok(names_text(alloc, &kept)?.as_slice() == text),
+        Some(kept) => Ok(same(&names_text(alloc, &kept)?, text)),
         None => Ok(false),
     }
 }
@@ -114,7 +114,7 @@ fn stays(alloc: Global, text: &[u8]) -> Result<bool, Memory> {
 fn holds(alloc: Global, row: &Row) -> Result<bool, Memory> {
     let kept = kept_names(alloc, &state(alloc, &row.given)?)?;
     let text = names_text(alloc, &kept)?;
-    Ok(text.as_slice() == row.text && stays(alloc, row.text)?)
+    Ok(same(&text, row.text) && stays(alloc, row.text)?)
 }
 
 #[test]

@@ -47,11 +47,24 @@ struct Row {
 /// A record of a queue: its size, and the message.
 fn add_record(bytes: &mut Vec<u8>, sent: Sent) -> Result<(), Memory> {
     let size = sent.body.len().min(1 << 20) as u32 + 26;
-    bytes.extend_from_slice(&size.to_be_bytes())?;
-    bytes.extend_from_slice(&[0; 8])?;
-    bytes.extend_from_slice(&sent.attempts.to_be_bytes())?;
-    bytes.extend_from_slice(MsgId::make(1, sent.number.min(255)).bytes())?;
-    bytes.extend_from_slice(sent.body)?;
+    let id = MsgId::make(1, sent.number.min(255));
+    add_each(
+        bytes,
+        &[
+            &size.to_be_bytes(),
+            &[0; 8],
+            &sent.attempts.to_be_bytes(),
+            id.bytes(),
+            sent.body,
+        ],
+    )
+}
+
+/// Adds these parts, one behind the other.
+fn add_each(bytes: &mut Vec<u8>, parts: &[&[u8]]) -> Result<(), Memory> {
+    for part in parts {
+        bytes.extend_from_slice(part)?;
+    }
     Ok(())
 }
 
@@ -68,6 +81,28 @@ fn add_file(
     Ok(())
 }
 
+/// Adds a file of a queue.
+fn add_part(
+    alloc: Global,
+    files: &mut Vec<NamedFile>,
+    queue: &[u8],
+    part: &[u8],
+    bytes: &[u8],
+) -> Result<(), Memory> {
+    let mut name = Vec::new(alloc);
+    add_each(&mut name, &[queue, part])?;
+    add_file(alloc, files, &name, bytes)
+}
+
+/// The records of these messages.
+fn records_of(alloc: Global, messages: &[Sent]) -> Result<Vec<u8>, Memory> {
+    let mut bytes = Vec::new(alloc);
+    for sent in messages {
+        add_record(&mut bytes, *sent)?;
+    }
+    Ok(bytes)
+}
+
 /// Adds the files of a queue of these messages, all of them in the first data file.
 fn add_queue(
     alloc: Global,
@@ -75,17 +110,18 @@ fn add_queue(
     name: &[u8],
     messages: &[Sent],
 ) -> Result<(), Memory> {
-    let mut bytes = Vec::new(alloc);
-    for sent in messages {
-        add_record(&mut bytes, *sent)?;
-    }
-    let mut data = Vec::from_slice(alloc, name)?;
-    data.extend_from_slice(b".diskqueue.000000.dat")?;
-    add_file(alloc, files, &data, &bytes)?;
-    let mut meta = Vec::from_slice(alloc, name)?;
-    meta.extend_from_slice(b".diskqueue.meta.dat")?;
-    let positions = format!(in alloc; "{}\n0,0\n0,{}\n", messages.len(), bytes.len())?;
-    add_file(alloc, files, &meta, positions.as_bytes())
+    let bytes = records_of(alloc, messages)?;
+    add_part(alloc, files, name, b".diskqueue.000000.dat", &bytes)?;
+    let size = bytes.len();
+    drop(bytes);
+    let positions = format!(in alloc; "{}\n0,0\n0,{}\n", messages.len(), size)?;
+    add_part(
+        alloc,
+        files,
+        name,
+        b".diskqueue.meta.dat",
+        positions.as_bytes(),
+    )
 }
 
 /// The folder's files.
@@ -105,16 +141,18 @@ fn files_of(
 /// Whether the run left these names, and the next run, which has the next epoch, starts with all of them.
 fn goes_on(alloc: Global, given: &Given, names: &FoundNames) -> Result<bool, Memory> {
     let before = state(alloc, given)?;
-    if !is_all_left(alloc, &before, names)? {
-        return Ok(false);
-    }
+    Ok(is_all_left(alloc, &before, names)? && follows(alloc, before.epoch, names)?)
+}
+
+/// Whether the run that starts with these names has the epoch behind this one, and all of them.
+fn follows(alloc: Global, epoch: u32, names: &FoundNames) -> Result<bool, Memory> {
     if names.epoch >= 16_777_215 {
         return Ok(false);
     }
     let options = Options::defaults(alloc)?;
     let next = start(alloc, names, &options, 5)?;
     Ok(
-        next.epoch == before.epoch.saturating_add(1)
+        next.epoch == epoch.saturating_add(1)
             && next.ids_used == 0
             && next.moment == 5
             && next.topics.len() == names.topics.len(),

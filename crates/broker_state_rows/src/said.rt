@@ -62,7 +62,7 @@ const TOPIC: GivenTopic = GivenTopic {
     channels: &[CHANNEL],
 };
 
-const GIVEN: Given = Given {
+static GIVEN: Given = Given {
     epoch: 1,
     ids_used: 0,
     mem_queue_size: 10000,
@@ -255,8 +255,8 @@ fn holds(alloc: Global, row: &Row) -> Result<bool, Memory> {
     let Some(ask) = ask_of(alloc, row.asks)? else {
         return Ok(false);
     };
-    for word in WORDS {
-        if may_say(&state, &ask, &said_of(word)) != (word == row.said) {
+    for word in &WORDS {
+        if may_say(&state, &ask, &said_of(*word)) != (*word == row.said) {
             return Ok(false);
         }
     }

@@ -7,7 +7,6 @@ use broker_said::may_say;
 use broker_state::Place;
 use nsq_base::{Body, Chan, Memory, Topic};
 use std::alloc::Global;
-use std::test::Fail;
 
 mod rows;
 
@@ -210,7 +209,7 @@ const CLOSING: GivenClient = GivenClient {
     texts: [b"nine", b"h", b"u"],
 };
 
-const GIVEN: Given = Given {
+static GIVEN: Given = Given {
     epoch: 1,
     ids_used: 20,
     mem_queue_size: 1,
@@ -218,7 +217,7 @@ const GIVEN: Given = Given {
     topics: &[TOPIC, EPHEMERAL_TOPIC],
 };
 
-const TOLD_SEVENTH: ToldClient = ToldClient {
+static TOLD_SEVENTH: ToldClient = ToldClient {
     client_id: b"seven",
     finish: 2,
     in_flight: 1,
@@ -227,7 +226,7 @@ const TOLD_SEVENTH: ToldClient = ToldClient {
     requeue: 1,
 };
 
-const TOLD_LOST: ToldClient = ToldClient {
+static TOLD_LOST: ToldClient = ToldClient {
     client_id: b"eight",
     finish: 0,
     in_flight: 0,
@@ -236,7 +235,7 @@ const TOLD_LOST: ToldClient = ToldClient {
     requeue: 0,
 };
 
-const TOLD_CLOSING: ToldClient = ToldClient {
+static TOLD_CLOSING: ToldClient = ToldClient {
     client_id: b"nine",
     finish: 0,
     in_flight: 1,
@@ -245,7 +244,7 @@ const TOLD_CLOSING: ToldClient = ToldClient {
     requeue: 0,
 };
 
-const TOLD_BUSY: ToldChannel = ToldChannel {
+static TOLD_BUSY: ToldChannel = ToldChannel {
     name: b"busy",
     backend: 1,
     deferred: 1,
@@ -351,34 +350,60 @@ fn seventh(change: Change) -> ToldClient {
 }
 
 fn client_stats(alloc: Global, told: ToldClient) -> Result<ClientStats, Memory> {
-    Ok(ClientStats {
-        client_id: Body::copy(alloc, told.client_id)?,
+    let client_id = Body::copy(alloc, told.client_id)?;
+    let hostname = Body::copy(alloc, b"h")?;
+    let user_agent = Body::copy(alloc, b"u")?;
+    Ok(stats_with(told, client_id, hostname, user_agent))
+}
+
+fn stats_with(told: ToldClient, client_id: Body, hostname: Body, user_agent: Body) -> ClientStats {
+    ClientStats {
+        client_id,
         finish_count: told.finish,
-        hostname: Body::copy(alloc, b"h")?,
+        hostname,
         in_flight_count: told.in_flight,
         message_count: told.message,
         ready_count: told.ready,
         requeue_count: told.requeue,
-        user_agent: Body::copy(alloc, b"u")?,
-    })
+        user_agent,
+    }
 }
 
-/// The clients of the busy channel.
-fn clients(alloc: Global, change: Change) -> Result<Items<ClientStats>, Memory> {
-    let mut clients = Items::new(alloc);
+fn add_client(
+    alloc: Global,
+    clients: &mut Items<ClientStats>,
+    told: ToldClient,
+) -> Result<(), Memory> {
+    clients.push(client_stats(alloc, told)?)
+}
+
+/// Adds the clients of the busy channel.
+fn add_clients(
+    alloc: Global,
+    clients: &mut Items<ClientStats>,
+    change: Change,
+) -> Result<(), Memory> {
     if let Change::Swapped = change {
-        clients.push(client_stats(alloc, TOLD_CLOSING)?)?;
+        add_client(alloc, clients, TOLD_CLOSING)?;
     }
-    clients.push(client_stats(alloc, seventh(change))?)?;
-    if let Change::WithLost = change {
-        clients.push(client_stats(alloc, TOLD_LOST)?)?;
-    }
+    add_client(alloc, clients, seventh(change))?;
     match change {
-        Change::Swapped => {}
-        Change::WithoutClosing => {}
-        _ => clients.push(client_stats(alloc, TOLD_CLOSING)?)?,
+        Change::Swapped | Change::WithoutClosing => return Ok(()),
+        Change::WithLost => add_client(alloc, clients, TOLD_LOST)?,
+        _ => {}
     }
-    Ok(clients)
+    add_client(alloc, clients, TOLD_CLOSING)
+}
+
+/// Adds the busy channel with its clients.
+fn add_busy(
+    alloc: Global,
+    channels: &mut Items<ChannelStats>,
+    change: Change,
+) -> Result<(), Memory> {
+    let mut clients = Items::new(alloc);
+    add_clients(alloc, &mut clients, change)?;
+    add_channel(channels, busy(change), clients)
 }
 
 /// Adds a channel with these clients.
@@ -423,25 +448,32 @@ fn add_topic(
     })
 }
 
-/// Adds the first topic.
-fn add_first(alloc: Global, topics: &mut Items<TopicStats>, row: &Row) -> Result<(), Memory> {
-    let mut channels = Items::new(alloc);
+/// Adds the channels of the first topic.
+fn add_channels(
+    alloc: Global,
+    channels: &mut Items<ChannelStats>,
+    row: &Row,
+) -> Result<(), Memory> {
     match row.shows {
-        Shows::FirstWithout => {}
-        Shows::FirstWithBusy | Shows::BothWithBusy => {
-            add_channel(&mut channels, busy(row.change), clients(alloc, row.change)?)?;
-        }
-        _ => {
-            add_channel(&mut channels, busy(row.change), clients(alloc, row.change)?)?;
-            add_channel(&mut channels, quiet(b"empty", 0, true), Items::new(alloc))?;
-        }
+        Shows::FirstWithout => return Ok(()),
+        _ => add_busy(alloc, channels, row.change)?,
+    }
+    match row.shows {
+        Shows::FirstWithBusy | Shows::BothWithBusy => return Ok(()),
+        _ => add_channel(channels, quiet(b"empty", 0, true), Items::new(alloc))?,
     }
     match row.shows {
         Shows::All | Shows::Swapped | Shows::First => {
-            add_channel(&mut channels, ephemeral(row.change), Items::new(alloc))?;
+            add_channel(channels, ephemeral(row.change), Items::new(alloc))
         }
-        _ => {}
+        _ => Ok(()),
     }
+}
+
+/// Adds the first topic.
+fn add_first(alloc: Global, topics: &mut Items<TopicStats>, row: &Row) -> Result<(), Memory> {
+    let mut channels = Items::new(alloc);
+    add_channels(alloc, &mut channels, row)?;
     add_topic(topics, first_topic(row.change), channels)
 }
 
@@ -478,4 +510,16 @@ fn holds(alloc: Global, row: &Row) -> Result<bool, Memory> {
     let ask = Ask::Stats(Topic::read(row.topic), Chan::read(row.channel));
     let said = Said::Stats(stats(alloc, row)?);
     Ok(may_say(&state, &ask, &said) == row.is)
+}
+
+/// The name of the first row of these tables that doesn't hold, if there is one.
+fn wrong(alloc: Global, tables: &[&'static [Row]]) -> Result<Option<&'static str>, Memory> {
+    for rows in tables {
+        for row in *rows {
+            if !holds(alloc, row)? {
+                return Ok(Some(row.name));
+            }
+        }
+    }
+    Ok(None)
 }

@@ -114,23 +114,15 @@ pub enum Line {
 /// The number of the first message of a second run.
 pub const SECOND_RUN: u64 = 1_000;
 
-/// The entries that the lines make, behind those that are there.
-pub fn tell(
-    alloc: Global,
-    mut entries: Vec<(Entry, End)>,
-    lines: &[Line],
-) -> Result<Vec<(Entry, End)>, Memory> {
+/// Adds the entries that the lines make.
+pub fn tell(alloc: Global, entries: &mut Vec<(Entry, End)>, lines: &[Line]) -> Result<(), Memory> {
     for line in lines {
-        entries = tell_line(alloc, entries, *line)?;
+        tell_line(alloc, entries, *line)?;
     }
-    Ok(entries)
+    Ok(())
 }
 
-fn tell_line(
-    alloc: Global,
-    entries: Vec<(Entry, End)>,
-    line: Line,
-) -> Result<Vec<(Entry, End)>, Memory> {
+fn tell_line(alloc: Global, entries: &mut Vec<(Entry, End)>, line: Line) -> Result<(), Memory> {
     match line {
         Line::At(at, conn, what) => tell_one(alloc, entries, at, conn, what, End::Done),
         Line::Faulted(at, conn, what, count) => {
@@ -145,43 +137,43 @@ fn tell_line(
 // One entry more.
 fn tell_one(
     alloc: Global,
-    mut entries: Vec<(Entry, End)>,
+    entries: &mut Vec<(Entry, End)>,
     at: u64,
     conn: u64,
     what: What,
     end: End,
-) -> Result<Vec<(Entry, End)>, Memory> {
+) -> Result<(), Memory> {
     let act = act_of(alloc, what)?;
     entries.push((Entry { conn, at, act }, end))?;
-    Ok(entries)
+    Ok(())
 }
 
 // So many messages are taken and copied, one after another.
 fn tell_moves(
     alloc: Global,
-    mut entries: Vec<(Entry, End)>,
+    entries: &mut Vec<(Entry, End)>,
     at: u64,
     topic: &'static str,
     channels: &'static [&'static str; 1],
     first: u64,
     count: u64,
-) -> Result<Vec<(Entry, End)>, Memory> {
+) -> Result<(), Memory> {
     for i in 0..count {
-        entries = tell_move(alloc, entries, at, topic, channels, first.saturating_add(i))?;
+        tell_move(alloc, entries, at, topic, channels, first.saturating_add(i))?;
     }
-    Ok(entries)
+    Ok(())
 }
 
 fn tell_move(
     alloc: Global,
-    entries: Vec<(Entry, End)>,
+    entries: &mut Vec<(Entry, End)>,
     at: u64,
     topic: &'static str,
     channels: &'static [&'static str; 1],
     n: u64,
-) -> Result<Vec<(Entry, End)>, Memory> {
+) -> Result<(), Memory> {
     let took = What::Took(topic, n, 0, channels);
-    let entries = tell_one(alloc, entries, at, 0, took, End::Done)?;
+    tell_one(alloc, entries, at, 0, took, End::Done)?;
     let copied = What::Copied(topic, channels[0], n, 0);
     tell_one(alloc, entries, at, 0, copied, End::Done)
 }
@@ -203,10 +195,22 @@ fn act_of(alloc: Global, what: What) -> Result<Act, Memory> {
         What::Listed(names) => listed(alloc, names),
         What::Took(name, n, delay, channels) => took(alloc, name, n, delay, channels),
         What::Copied(name, to, n, delay) => copied(alloc, name, to, n, delay),
-        What::TimedOut(name, of, n) => Ok(Act::TimedOut(topic(name)?, channel(of)?, id(n))),
-        What::CameDue(name, of, n) => Ok(Act::CameDue(topic(name)?, channel(of)?, id(n))),
-        What::HeldBack(name, of, n) => Ok(Act::HeldBack(topic(name)?, channel(of)?, id(n))),
-        What::Stuck(name, of) => Ok(Act::Stuck(topic(name)?, some_channel(of)?)),
+        What::TimedOut(name, of, n) => {
+            let (name, of) = both(name, of)?;
+            Ok(Act::TimedOut(name, of, id(n)))
+        }
+        What::CameDue(name, of, n) => {
+            let (name, of) = both(name, of)?;
+            Ok(Act::CameDue(name, of, id(n)))
+        }
+        What::HeldBack(name, of, n) => {
+            let (name, of) = both(name, of)?;
+            Ok(Act::HeldBack(name, of, id(n)))
+        }
+        What::Stuck(name, of) => {
+            let (name, of) = with_some(name, of)?;
+            Ok(Act::Stuck(name, of))
+        }
         _ => command_act(alloc, what),
     }
 }
@@ -232,13 +236,14 @@ fn listed(alloc: Global, names: Option<(&str, &[&str])>) -> Result<Act, Memory> 
 }
 
 fn took(alloc: Global, name: &str, n: u64, delay: u64, channels: &[&str]) -> Result<Act, Memory> {
-    let names = names_of(alloc, Some((name, channels)))?;
+    let name_read = topic(name)?;
     let message = message(alloc, n, 0, delay)?;
-    Ok(Act::Took(topic(name)?, message, names))
+    let names = names_of(alloc, Some((name, channels)))?;
+    Ok(Act::Took(name_read, message, names))
 }
 
 fn copied(alloc: Global, name: &str, to: &str, n: u64, delay: u64) -> Result<Act, Memory> {
-    let (name, to) = (topic(name)?, channel(to)?);
+    let (name, to) = both(name, to)?;
     let message = message(alloc, n, 0, delay)?;
     Ok(Act::Copied(name, to, message))
 }
@@ -253,7 +258,10 @@ fn command_act(alloc: Global, what: What) -> Result<Act, Memory> {
 fn command_of(alloc: Global, what: What) -> Result<Command, Memory> {
     match what {
         What::Identify(text, _) => Ok(Command::Identify(Body::copy(alloc, text.as_bytes())?)),
-        What::Sub(name, of, _) => Ok(Command::Sub(topic(name)?, channel(of)?)),
+        What::Sub(name, of, _) => {
+            let (name, of) = both(name, of)?;
+            Ok(Command::Sub(name, of))
+        }
         What::Pub(name, n, _) => Ok(Command::Pub(topic(name)?, body(alloc, n)?)),
         What::Mpub(name, first, count, _) => {
             Ok(Command::Mpub(topic(name)?, bodies(alloc, first, count)?))
@@ -311,11 +319,26 @@ fn ask_of(alloc: Global, asks: Asks) -> Result<Ask, Memory> {
         Asks::Publish(name, delay, n) => {
             Ok(Ask::Publish(topic(name)?, delay, bodies(alloc, n, 1)?))
         }
-        Asks::Create(name, of) => Ok(Ask::Create(topic(name)?, some_channel(of)?)),
-        Asks::Delete(name, of) => Ok(Ask::Delete(topic(name)?, some_channel(of)?)),
-        Asks::Empty(name, of) => Ok(Ask::Empty(topic(name)?, some_channel(of)?)),
-        Asks::Pause(name, of) => Ok(Ask::Pause(topic(name)?, some_channel(of)?)),
-        Asks::Unpause(name, of) => Ok(Ask::Unpause(topic(name)?, some_channel(of)?)),
+        Asks::Create(name, of) => {
+            let (name, of) = with_some(name, of)?;
+            Ok(Ask::Create(name, of))
+        }
+        Asks::Delete(name, of) => {
+            let (name, of) = with_some(name, of)?;
+            Ok(Ask::Delete(name, of))
+        }
+        Asks::Empty(name, of) => {
+            let (name, of) = with_some(name, of)?;
+            Ok(Ask::Empty(name, of))
+        }
+        Asks::Pause(name, of) => {
+            let (name, of) = with_some(name, of)?;
+            Ok(Ask::Pause(name, of))
+        }
+        Asks::Unpause(name, of) => {
+            let (name, of) = with_some(name, of)?;
+            Ok(Ask::Unpause(name, of))
+        }
     }
 }
 
@@ -334,10 +357,8 @@ fn stats_of(
     joined: u64,
     channels: &[ToldChannel],
 ) -> Result<Stats, Memory> {
-    let mut told = Items::new(alloc);
-    for channel in channels {
-        told.push(channel_stats(alloc, *channel)?)?;
-    }
+    let topic_name = topic(name)?;
+    let told = channels_of(alloc, channels)?;
     let mut topics = Items::new(alloc);
     topics.push(TopicStats {
         backend_depth: 0,
@@ -345,19 +366,25 @@ fn stats_of(
         depth: 0,
         message_count: joined,
         paused: false,
-        topic_name: topic(name)?,
+        topic_name,
     })?;
     Ok(Stats { topics })
 }
 
-fn channel_stats(alloc: Global, told: ToldChannel) -> Result<ChannelStats, Memory> {
-    let mut clients = Items::new(alloc);
-    for client in told.clients {
-        clients.push(client_stats(alloc, *client)?)?;
+fn channels_of(alloc: Global, channels: &[ToldChannel]) -> Result<Items<ChannelStats>, Memory> {
+    let mut told = Items::new(alloc);
+    for channel in channels {
+        told.push(channel_stats(alloc, *channel)?)?;
     }
+    Ok(told)
+}
+
+fn channel_stats(alloc: Global, told: ToldChannel) -> Result<ChannelStats, Memory> {
+    let channel_name = channel(told.name)?;
+    let clients = clients_of(alloc, told.clients)?;
     Ok(ChannelStats {
         backend_depth: 0,
-        channel_name: channel(told.name)?,
+        channel_name,
         clients,
         deferred_count: told.deferred,
         depth: told.depth,
@@ -369,8 +396,16 @@ fn channel_stats(alloc: Global, told: ToldChannel) -> Result<ChannelStats, Memor
     })
 }
 
-fn client_stats(alloc: Global, told: ToldClient) -> Result<ClientStats, Memory> {
-    Ok(ClientStats {
+fn clients_of(alloc: Global, clients: &[ToldClient]) -> Result<Items<ClientStats>, Memory> {
+    let mut told = Items::new(alloc);
+    for client in clients {
+        told.push(client_stats(alloc, *client))?;
+    }
+    Ok(told)
+}
+
+fn client_stats(alloc: Global, told: ToldClient) -> ClientStats {
+    ClientStats {
         client_id: Body::of(Vec::new(alloc)),
         finish_count: told.finished,
         hostname: Body::of(Vec::new(alloc)),
@@ -379,7 +414,7 @@ fn client_stats(alloc: Global, told: ToldClient) -> Result<ClientStats, Memory> 
         ready_count: told.ready,
         requeue_count: told.given_back,
         user_agent: Body::of(Vec::new(alloc)),
-    })
+    }
 }
 
 // A text that is no name is an error of the row's, as want of memory is.
@@ -397,23 +432,34 @@ pub fn channel(name: &str) -> Result<Chan, Memory> {
     }
 }
 
-fn some_channel(name: Option<&str>) -> Result<Option<Chan>, Memory> {
-    match name {
-        Some(name) => Ok(Some(channel(name)?)),
-        None => Ok(None),
-    }
+/// The topic and the channel of these names.
+pub fn both(name: &str, of: &str) -> Result<(Topic, Chan), Memory> {
+    Ok((topic(name)?, channel(of)?))
+}
+
+// The same where a channel is named, and else the topic alone.
+fn with_some(name: &str, of: Option<&str>) -> Result<(Topic, Option<Chan>), Memory> {
+    let Some(of) = of else {
+        return Ok((topic(name)?, None));
+    };
+    let (name, of) = both(name, of)?;
+    Ok((name, Some(of)))
 }
 
 fn names_of(alloc: Global, listed: Option<(&str, &[&str])>) -> Result<Names, Memory> {
     let mut names = Names::new(alloc);
-    let Some((name, channels)) = listed else {
-        return Ok(names);
-    };
-    names.add(topic(name)?)?;
-    for of in channels {
-        names.add_channel(topic(name)?, channel(of)?)?;
+    if let Some((name, channels)) = listed {
+        add_names(&mut names, topic(name)?, channels)?;
     }
     Ok(names)
+}
+
+fn add_names(names: &mut Names, name: Topic, channels: &[&str]) -> Result<(), Memory> {
+    names.add(name)?;
+    for of in channels {
+        names.add_channel(name, channel(of)?)?;
+    }
+    Ok(())
 }
 
 fn id(n: u64) -> MsgId {

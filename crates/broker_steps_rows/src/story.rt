@@ -1,6 +1,6 @@
 //! Whether a row of a table of histories holds.
 
-use crate::lines::{Line, channel, message, tell, topic};
+use crate::lines::{Line, both, channel, message, tell, topic};
 use broker_history::Entry;
 use broker_state::{
     ChannelState, MessageCopy, Place, State, TopicState, deferred, in_flight, queued,
@@ -82,7 +82,7 @@ fn holds(alloc: Global, row: &Row) -> Result<bool, Memory> {
 fn story_of(alloc: Global, row: &Row) -> Result<Vec<(Entry, End)>, Memory> {
     let mut entries = Vec::new(alloc);
     for part in row.story {
-        entries = tell(alloc, entries, part)?;
+        tell(alloc, &mut entries, part)?;
     }
     Ok(entries)
 }
@@ -94,8 +94,8 @@ fn is_legal(alloc: Global, start: &State, row: &Row) -> Result<bool, Memory> {
 }
 
 fn leads_on(alloc: Global, start: &State, row: &Row) -> Result<bool, Memory> {
-    let story = story_of(alloc, row)?;
-    let entries = tell(alloc, story, row.then)?;
+    let mut entries = story_of(alloc, row)?;
+    tell(alloc, &mut entries, row.then)?;
     let states = led_to(alloc, start, &entries)?;
     leads_so(&states, row.leads)
 }
@@ -134,7 +134,7 @@ fn have_counts(
 }
 
 fn has_counts(state: &State, name: &str, of: &str, counts: [usize; 3]) -> Result<bool, Memory> {
-    let (name, of) = (topic(name)?, channel(of)?);
+    let (name, of) = both(name, of)?;
     let Some(channel) = state.channel_at(&name, &of) else {
         return Ok(false);
     };
@@ -147,10 +147,11 @@ fn has_counts(state: &State, name: &str, of: &str, counts: [usize; 3]) -> Result
 }
 
 fn start_of(alloc: Global, start: Start) -> Result<State, Memory> {
+    let topics = found_topics(alloc, start.found)?;
     let mut options = Options::defaults(alloc)?;
     options.mem_queue_size = start.mem;
     options.msg_timeout = start.msg_timeout;
-    let state = State {
+    Ok(State {
         options,
         epoch: start.epoch % 1_000,
         ids_used: start.ids_used,
@@ -158,13 +159,16 @@ fn start_of(alloc: Global, start: Start) -> Result<State, Memory> {
         stopped: false,
         began: Vec::new(alloc),
         clients: Vec::new(alloc),
-        topics: Vec::new(alloc),
-    };
-    if start.found.is_empty() {
-        return Ok(state);
+        topics,
+    })
+}
+
+fn found_topics(alloc: Global, found: &[(u64, u16)]) -> Result<Vec<TopicState>, Memory> {
+    let mut topics = Vec::new(alloc);
+    if !found.is_empty() {
+        topics.push(found_topic(alloc, found)?)?;
     }
-    let found = found_topic(alloc, start.found)?;
-    state.with_topic(alloc, found)
+    Ok(topics)
 }
 
 fn found_topic(alloc: Global, found_there: &[(u64, u16)]) -> Result<TopicState, Memory> {

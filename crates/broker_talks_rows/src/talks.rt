@@ -8,6 +8,7 @@ use broker_talks::{is_talk, is_talk_in};
 use nsq_base::{Bodies, Body, Chan, Memory, MsgId, Topic};
 use nsq_outside::End;
 use std::alloc::Global;
+use std::test::Fail;
 use v2_frame::{Command, Fault, FaultKind, Frame, FrameKind, Limits, Message};
 
 mod among;
@@ -261,12 +262,17 @@ fn frame(alloc: Global, kind: FrameKind, text: &[u8]) -> Result<Option<Frame>, M
 
 /// A command, answered by a response of this text.
 fn answered(alloc: Global, command: Command, text: &[u8]) -> Result<Act, Memory> {
-    Ok(Act::Did(command, frame(alloc, FrameKind::Response, text)?))
+    did(alloc, command, FrameKind::Response, text)
 }
 
 /// A command, answered by an error of this text.
 fn failed(alloc: Global, command: Command, text: &[u8]) -> Result<Act, Memory> {
-    Ok(Act::Did(command, frame(alloc, FrameKind::Error, text)?))
+    did(alloc, command, FrameKind::Error, text)
+}
+
+/// A command, answered by a frame of this kind and text.
+fn did(alloc: Global, command: Command, kind: FrameKind, text: &[u8]) -> Result<Act, Memory> {
+    Ok(Act::Did(command, frame(alloc, kind, text)?))
 }
 
 /// The refusal of a fault of this kind at this place.
@@ -289,25 +295,34 @@ fn sent(alloc: Global, number: u8, attempts: u16) -> Result<Act, Memory> {
     }))
 }
 
-/// An IDENTIFY of this body.
-fn identify(alloc: Global, body: &[u8]) -> Result<Command, Memory> {
-    Ok(Command::Identify(Body::copy(alloc, body)?))
+/// An IDENTIFY of this body, answered by a frame of this kind and text.
+fn identified(alloc: Global, body: &[u8], kind: FrameKind, text: &[u8]) -> Result<Act, Memory> {
+    let command = Command::Identify(Body::copy(alloc, body)?);
+    did(alloc, command, kind, text)
 }
 
-/// A publish that is delayed by so many milliseconds.
-fn delay(alloc: Global, names: &Names, delay: i64) -> Result<Command, Memory> {
-    Ok(Command::Dpub(names.topic, delay, Body::copy(alloc, b"d")?))
+/// A publish that is delayed by so many milliseconds, answered by a frame of this kind and text.
+fn delayed(
+    alloc: Global,
+    names: &Names,
+    delay: i64,
+    kind: FrameKind,
+    text: &[u8],
+) -> Result<Act, Memory> {
+    let command = Command::Dpub(names.topic, delay, Body::copy(alloc, b"d")?);
+    did(alloc, command, kind, text)
 }
 
 /// A publish, and one in a list.
-fn publish(alloc: Global, names: &Names) -> Result<Command, Memory> {
-    Ok(Command::Pub(names.topic, Body::copy(alloc, b"d")?))
+fn published(alloc: Global, names: &Names) -> Result<Act, Memory> {
+    let command = Command::Pub(names.topic, Body::copy(alloc, b"d")?);
+    answered(alloc, command, b"OK")
 }
 
-fn publish_list(alloc: Global, names: &Names) -> Result<Command, Memory> {
+fn published_list(alloc: Global, names: &Names) -> Result<Act, Memory> {
     let mut bodies = Bodies::new(alloc);
     bodies.push(Body::copy(alloc, b"d")?)?;
-    Ok(Command::Mpub(names.topic, bodies))
+    answered(alloc, Command::Mpub(names.topic, bodies), b"OK")
 }
 
 /// What an entry says, as its act.
@@ -347,25 +362,28 @@ fn act_of(alloc: Global, names: &Names, told: Told) -> Result<Act, Memory> {
 /// The same of what a client says of itself, of delays and of faults.
 fn other_act_of(alloc: Global, names: &Names, told: Told) -> Result<Act, Memory> {
     match told {
-        Told::Negotiated => answered(
+        Told::Negotiated => identified(
             alloc,
-            identify(alloc, br#"{"feature_negotiation":true}"#)?,
+            br#"{"feature_negotiation":true}"#,
+            FrameKind::Response,
             br#"{"auth_required":false,"deflate":false,"deflate_level":0,"max_deflate_level":0,"max_msg_timeout":900000,"max_rdy_count":2500,"msg_timeout":60000,"sample_rate":0,"snappy":false,"tls_v1":false,"version":"1.0.0"}"#,
         ),
-        Told::SaidNothing => answered(alloc, identify(alloc, b"{}")?, b"OK"),
-        Told::SaidArray => failed(alloc, identify(alloc, b"[]")?, b"E_BAD_BODY bad JSON"),
+        Told::SaidNothing => identified(alloc, b"{}", FrameKind::Response, b"OK"),
+        Told::SaidArray => identified(alloc, b"[]", FrameKind::Error, b"E_BAD_BODY bad JSON"),
         Told::Delayed | Told::DelayedOnFault => {
-            answered(alloc, delay(alloc, names, 1000)?, b"OK")
+            delayed(alloc, names, 1000, FrameKind::Response, b"OK")
         }
         Told::DelayedFails => {
-            failed(
+            delayed(
                 alloc,
-                delay(alloc, names, 3_600_001)?,
+                names,
+                3_600_001,
+                FrameKind::Error,
                 b"E_INVALID bad delay",
             )
         }
-        Told::PublishedOnFault => answered(alloc, publish(alloc, names)?, b"OK"),
-        Told::PublishedListOnFault => answered(alloc, publish_list(alloc, names)?, b"OK"),
+        Told::PublishedOnFault => published(alloc, names),
+        Told::PublishedListOnFault => published_list(alloc, names),
         Told::ReqOnFault => Ok(Act::Did(Command::Req(MsgId::make(1, 0), 0), None)),
         Told::BadMagic => refused(alloc, FaultKind::BadMagic, 0),
         Told::BadWord(at) => refused(alloc, FaultKind::BadWord, at),
@@ -392,47 +410,80 @@ fn times_of(told: Told) -> usize {
     }
 }
 
+/// Adds an entry of the connection of this number.
+fn add_entry(
+    alloc: Global,
+    names: &Names,
+    entries: &mut Vec<(Entry, End)>,
+    conn: u64,
+    told: Told,
+    end: End,
+) -> Result<(), Memory> {
+    let act = act_of(alloc, names, told)?;
+    entries.push((Entry { conn, at: 0, act }, end))?;
+    Ok(())
+}
+
+/// Adds an entry of the connection 1, as often as it stands in a row.
+fn add_entries(
+    alloc: Global,
+    names: &Names,
+    entries: &mut Vec<(Entry, End)>,
+    told: Told,
+) -> Result<(), Memory> {
+    for _ in 0..times_of(told) {
+        add_entry(alloc, names, entries, 1, told, end_of(told))?;
+    }
+    Ok(())
+}
+
 /// The entries of the connection 1.
 fn entries_of(alloc: Global, names: &Names, told: &[Told]) -> Result<Vec<(Entry, End)>, Memory> {
     let mut entries = Vec::new(alloc);
     for told in told {
-        for _ in 0..times_of(*told) {
-            let act = act_of(alloc, names, *told)?;
-            let entry = Entry {
-                conn: 1,
-                at: 0,
-                act,
-            };
-            entries.push((entry, end_of(*told)))?;
-        }
+        add_entries(alloc, names, &mut entries, *told)?;
     }
     Ok(entries)
+}
+
+/// The body of a piece.
+fn piece_of(alloc: Global, piece: Piece) -> Result<Body, Memory> {
+    match piece {
+        Piece::TooLong => Body::copy(alloc, &[b'N'; 16385]),
+        _ => Body::copy(alloc, piece_bytes(piece)),
+    }
 }
 
 /// The pieces that were sent.
 fn pieces_of(alloc: Global, sent: &[Piece]) -> Result<Vec<Body>, Memory> {
     let mut pieces = Vec::new(alloc);
     for piece in sent {
-        if let Piece::TooLong = piece {
-            pieces.push(Body::copy(alloc, &[b'N'; 16385])?)?;
-        } else {
-            pieces.push(Body::copy(alloc, piece_bytes(*piece))?)?;
-        }
+        pieces.push(piece_of(alloc, *piece)?)?;
     }
     Ok(pieces)
+}
+
+/// How often these bytes stand in a row.
+fn times_got(got: Got) -> usize {
+    match got {
+        Got::Heartbeats(count) => count,
+        _ => 1,
+    }
+}
+
+/// Adds the bytes of a frame, as often as they stand in a row.
+fn add_got(out: &mut Vec<u8>, got: Got) -> Result<(), Memory> {
+    for _ in 0..times_got(got) {
+        out.extend_from_slice(got_bytes(got))?;
+    }
+    Ok(())
 }
 
 /// All bytes that the client got.
 fn out_of(alloc: Global, got: &[Got]) -> Result<Vec<u8>, Memory> {
     let mut out = Vec::new(alloc);
     for got in got {
-        let times = match got {
-            Got::Heartbeats(count) => *count,
-            _ => 1,
-        };
-        for _ in 0..times {
-            out.extend_from_slice(got_bytes(*got))?;
-        }
+        add_got(&mut out, *got)?;
     }
     Ok(out)
 }
@@ -443,53 +494,54 @@ const LIMITS: Limits = Limits {
     body: 5_242_880,
 };
 
-/// A conversation.
-#[derive(Drop)]
-struct Talk {
-    pieces: Vec<Body>,
-    entries: Vec<(Entry, End)>,
-    out: Vec<u8>,
-    stopped: bool,
-    wanted: u64,
-}
-
-/// The row's conversation; None where a name is none.
-fn talk_of(alloc: Global, row: &Row) -> Result<Option<Talk>, Memory> {
-    let Some(names) = read_names() else {
-        return Ok(None);
-    };
-    Ok(Some(Talk {
-        pieces: pieces_of(alloc, row.sent)?,
-        entries: entries_of(alloc, &names, row.told)?,
-        out: out_of(alloc, row.got)?,
-        stopped: row.stopped,
-        wanted: row.wanted,
-    }))
-}
-
-/// Whether it is a conversation that ended so, or isn't.
-fn ends(alloc: Global, talk: &Talk, ended: Option<Ended>, expected: bool) -> Result<bool, Memory> {
+/// Whether these are the row's conversation, which ended so or didn't.
+fn ends(
+    alloc: Global,
+    row: &Row,
+    pieces: &[Body],
+    entries: &[(Entry, End)],
+    out: &[u8],
+    ended: Option<Ended>,
+    expected: bool,
+) -> Result<bool, Memory> {
     let Some(ended) = ended else {
         return Ok(true);
     };
     let is = is_talk(
         alloc,
         LIMITS,
-        talk.stopped,
-        talk.wanted,
-        &talk.pieces,
-        &talk.entries,
-        &talk.out,
+        row.stopped,
+        row.wanted,
+        pieces,
+        entries,
+        out,
         ended,
     )?;
     Ok(is == expected)
 }
 
+/// Whether these are a conversation that ended as the row says, and none that ended as it denies.
+fn ends_so(
+    alloc: Global,
+    row: &Row,
+    pieces: &[Body],
+    entries: &[(Entry, End)],
+    out: &[u8],
+) -> Result<bool, Memory> {
+    Ok(
+        ends(alloc, row, pieces, entries, out, row.is, true)?
+            && ends(alloc, row, pieces, entries, out, row.is_not, false)?,
+    )
+}
+
 fn holds(alloc: Global, row: &Row) -> Result<bool, Memory> {
-    let Some(talk) = talk_of(alloc, row)? else {
+    let Some(names) = read_names() else {
         return Ok(false);
     };
-    Ok(ends(alloc, &talk, row.is, true)? && ends(alloc, &talk, row.is_not, false)?)
+    let pieces = pieces_of(alloc, row.sent)?;
+    let entries = entries_of(alloc, &names, row.told)?;
+    let out = out_of(alloc, row.got)?;
+    ends_so(alloc, row, &pieces, &entries, &out)
 }
 
 /// The entries of a whole history, each with the number that it names.
@@ -500,13 +552,7 @@ fn history_of(
 ) -> Result<Vec<(Entry, End)>, Memory> {
     let mut entries = Vec::new(alloc);
     for (conn, told) in told {
-        let act = act_of(alloc, names, *told)?;
-        let entry = Entry {
-            conn: *conn,
-            at: 0,
-            act,
-        };
-        entries.push((entry, End::Done))?;
+        add_entry(alloc, names, &mut entries, *conn, *told, End::Done)?;
     }
     Ok(entries)
 }
@@ -527,4 +573,30 @@ fn ends_in(
     let pieces = pieces_of(alloc, sent)?;
     let out = out_of(alloc, got)?;
     is_talk_in(alloc, LIMITS, number, &history, 0, &pieces, &out, ended)
+}
+
+/// The name of the first row of these tables that doesn't hold, if there is one.
+fn wrong(alloc: Global, tables: &[&'static [Row]]) -> Result<Option<&'static str>, Memory> {
+    for rows in tables {
+        for row in *rows {
+            if !holds(alloc, row)? {
+                return Ok(Some(row.name));
+            }
+        }
+    }
+    Ok(None)
+}
+
+#[test]
+fn rows(rt: HostRuntime) -> Result<(), Fail> {
+    let tables = [
+        broken::rows(),
+        ended::rows(),
+        served::rows(),
+        served::faults(),
+        within::rows(),
+    ];
+    let wrong = wrong(rt.alloc(), &tables)?;
+    assert!(rt; wrong.is_none(), "{}", wrong.unwrap_or(""));
+    Ok(())
 }

@@ -68,23 +68,15 @@ pub enum Line {
     Moved(&'static [&'static str; 1], &'static [Msg]),
 }
 
-/// The entries that the lines make, behind those that are there.
-pub fn tell(
-    alloc: Global,
-    mut entries: Vec<(Entry, End)>,
-    lines: &[Line],
-) -> Result<Vec<(Entry, End)>, Memory> {
+/// Adds the entries that the lines make.
+pub fn tell(alloc: Global, entries: &mut Vec<(Entry, End)>, lines: &[Line]) -> Result<(), Memory> {
     for line in lines {
-        entries = tell_line(alloc, entries, *line)?;
+        tell_line(alloc, entries, *line)?;
     }
-    Ok(entries)
+    Ok(())
 }
 
-fn tell_line(
-    alloc: Global,
-    entries: Vec<(Entry, End)>,
-    line: Line,
-) -> Result<Vec<(Entry, End)>, Memory> {
+fn tell_line(alloc: Global, entries: &mut Vec<(Entry, End)>, line: Line) -> Result<(), Memory> {
     match line {
         Line::At(at, conn, what) => tell_one(alloc, entries, at, conn, what, End::Done),
         Line::Faulted(at, conn, what) => tell_one(alloc, entries, at, conn, what, End::Faulted(0)),
@@ -95,43 +87,37 @@ fn tell_line(
 // One entry more.
 fn tell_one(
     alloc: Global,
-    mut entries: Vec<(Entry, End)>,
+    entries: &mut Vec<(Entry, End)>,
     at: u64,
     conn: u64,
     what: What,
     end: End,
-) -> Result<Vec<(Entry, End)>, Memory> {
+) -> Result<(), Memory> {
     let act = act_of(alloc, what)?;
     entries.push((Entry { conn, at, act }, end))?;
-    Ok(entries)
+    Ok(())
 }
 
 fn tell_moves(
     alloc: Global,
-    mut entries: Vec<(Entry, End)>,
+    entries: &mut Vec<(Entry, End)>,
     channels: &'static [&'static str; 1],
     messages: &[Msg],
-) -> Result<Vec<(Entry, End)>, Memory> {
+) -> Result<(), Memory> {
     for message in messages {
-        entries = tell_move(alloc, entries, channels, *message)?;
+        tell_move(alloc, entries, channels, *message)?;
     }
-    Ok(entries)
+    Ok(())
 }
 
 fn tell_move(
     alloc: Global,
-    entries: Vec<(Entry, End)>,
+    entries: &mut Vec<(Entry, End)>,
     channels: &'static [&'static str; 1],
     msg: Msg,
-) -> Result<Vec<(Entry, End)>, Memory> {
-    let entries = tell_one(
-        alloc,
-        entries,
-        0,
-        0,
-        What::Took(msg, 0, channels),
-        End::Done,
-    )?;
+) -> Result<(), Memory> {
+    let took = What::Took(msg, 0, channels);
+    tell_one(alloc, entries, 0, 0, took, End::Done)?;
     let copied = What::Copied(channels[0], msg, 0);
     tell_one(alloc, entries, 0, 0, copied, End::Done)
 }
@@ -147,21 +133,38 @@ fn act_of(alloc: Global, what: What) -> Result<Act, Memory> {
         What::Stop => Ok(Act::Stop),
         What::Did(word, got) => did(alloc, word, got),
         What::Sent(msg, attempts) => Ok(Act::Sent(message(alloc, msg, attempts, 0)?)),
-        What::Create(of) => Ok(Act::Asked(Ask::Create(topic()?, some_channel(of)?), Said::Done)),
-        What::Delete(of) => Ok(Act::Asked(Ask::Delete(topic()?, Some(channel(of)?)), Said::Done)),
+        What::Create(of) => created(of),
+        What::Delete(of) => {
+            let (name, of) = both(of)?;
+            Ok(Act::Asked(Ask::Delete(name, Some(of)), Said::Done))
+        }
         What::Told(joined, channels) => told(alloc, joined, channels),
         What::Took(msg, delay, channels) => took(alloc, msg, delay, channels),
         What::Copied(to, msg, delay) => copied(alloc, to, msg, delay),
-        What::TimedOut(msg) => Ok(Act::TimedOut(topic()?, channel("c")?, id(msg))),
-        What::CameDue(msg) => Ok(Act::CameDue(topic()?, channel("c")?, id(msg))),
+        What::TimedOut(msg) => {
+            let (name, of) = both("c")?;
+            Ok(Act::TimedOut(name, of, id(msg)))
+        }
+        What::CameDue(msg) => {
+            let (name, of) = both("c")?;
+            Ok(Act::CameDue(name, of, id(msg)))
+        }
     }
+}
+
+// The topic is made, or a channel of it.
+fn created(of: Option<&str>) -> Result<Act, Memory> {
+    let ask = match of {
+        Some(of) => Ask::Create(topic()?, Some(channel(of)?)),
+        None => Ask::Create(topic()?, None),
+    };
+    Ok(Act::Asked(ask, Said::Done))
 }
 
 // The command that the bytes of a word spell, with its answer.
 fn did(alloc: Global, word: Word, got: Got) -> Result<Act, Memory> {
-    let reply = reply_of(alloc, got)?;
     let command = command_of(alloc, word)?;
-    Ok(Act::Did(command, reply))
+    Ok(Act::Did(command, reply_of(alloc, got)?))
 }
 
 // A word that is no command is an error of the row's, as want of memory is.
@@ -179,24 +182,30 @@ fn told(alloc: Global, joined: u64, channels: &[ToldChannel]) -> Result<Act, Mem
 }
 
 fn took(alloc: Global, msg: Msg, delay: u64, channels: &[&str]) -> Result<Act, Memory> {
-    let names = names_of(alloc, channels)?;
+    let name = topic()?;
     let message = message(alloc, msg, 0, delay)?;
-    Ok(Act::Took(topic()?, message, names))
+    let names = names_of(alloc, name, channels)?;
+    Ok(Act::Took(name, message, names))
 }
 
 fn copied(alloc: Global, to: &str, msg: Msg, delay: u64) -> Result<Act, Memory> {
-    let (name, to) = (topic()?, channel(to)?);
+    let (name, to) = both(to)?;
     let message = message(alloc, msg, 0, delay)?;
     Ok(Act::Copied(name, to, message))
 }
 
-fn names_of(alloc: Global, channels: &[&str]) -> Result<Names, Memory> {
+fn names_of(alloc: Global, name: Topic, channels: &[&str]) -> Result<Names, Memory> {
     let mut names = Names::new(alloc);
-    names.add(topic()?)?;
-    for of in channels {
-        names.add_channel(topic()?, channel(of)?)?;
-    }
+    add_names(&mut names, name, channels)?;
     Ok(names)
+}
+
+fn add_names(names: &mut Names, name: Topic, channels: &[&str]) -> Result<(), Memory> {
+    names.add(name)?;
+    for of in channels {
+        names.add_channel(name, channel(of)?)?;
+    }
+    Ok(())
 }
 
 /// The topic. A text that is no name is an error of the row's, as want of memory is.
@@ -215,11 +224,9 @@ pub fn channel(name: &str) -> Result<Chan, Memory> {
     }
 }
 
-fn some_channel(name: Option<&str>) -> Result<Option<Chan>, Memory> {
-    match name {
-        Some(name) => Ok(Some(channel(name)?)),
-        None => Ok(None),
-    }
+// The topic, and the channel of this name.
+fn both(of: &str) -> Result<(Topic, Chan), Memory> {
+    Ok((topic()?, channel(of)?))
 }
 
 fn id(msg: Msg) -> MsgId {

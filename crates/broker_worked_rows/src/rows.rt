@@ -81,12 +81,17 @@ fn wrong(alloc: Global, tables: &[&'static [Row]]) -> Result<Option<&'static str
 }
 
 fn holds(alloc: Global, row: &Row) -> Result<bool, Memory> {
-    let story = story_of(alloc, row)?;
-    if !is_legal(alloc, row.start, &story, &[])? {
+    let mut entries = story_of(alloc, row)?;
+    goes_on(alloc, row, &mut entries)
+}
+
+// Whether the row's story is legal, and what happens then is what it says.
+fn goes_on(alloc: Global, row: &Row, entries: &mut Vec<(Entry, End)>) -> Result<bool, Memory> {
+    if !is_legal(alloc, row.start, entries, &[])? {
         return Ok(false);
     }
-    let entries = tell(alloc, story, row.then)?;
-    is_as_told(alloc, row, &entries)
+    tell(alloc, entries, row.then)?;
+    is_as_told(alloc, row, entries)
 }
 
 // Whether the row's entries are what it says.
@@ -102,7 +107,7 @@ fn is_as_told(alloc: Global, row: &Row, entries: &[(Entry, End)]) -> Result<bool
 fn story_of(alloc: Global, row: &Row) -> Result<Vec<(Entry, End)>, Memory> {
     let mut entries = Vec::new(alloc);
     for part in row.story {
-        entries = tell(alloc, entries, part)?;
+        tell(alloc, &mut entries, part)?;
     }
     Ok(entries)
 }

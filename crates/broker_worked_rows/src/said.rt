@@ -27,10 +27,8 @@ pub struct ToldClient {
 
 /// The statistics of the topic, into which so many messages were put, and of these channels.
 pub fn stats_of(alloc: Global, joined: u64, channels: &[ToldChannel]) -> Result<Stats, Memory> {
-    let mut told = Items::new(alloc);
-    for channel in channels {
-        told.push(channel_stats(alloc, *channel)?)?;
-    }
+    let topic_name = topic()?;
+    let told = channels_of(alloc, channels)?;
     let mut topics = Items::new(alloc);
     topics.push(TopicStats {
         backend_depth: 0,
@@ -38,19 +36,25 @@ pub fn stats_of(alloc: Global, joined: u64, channels: &[ToldChannel]) -> Result<
         depth: 0,
         message_count: joined,
         paused: false,
-        topic_name: topic()?,
+        topic_name,
     })?;
     Ok(Stats { topics })
 }
 
-fn channel_stats(alloc: Global, told: ToldChannel) -> Result<ChannelStats, Memory> {
-    let mut clients = Items::new(alloc);
-    for client in told.clients {
-        clients.push(client_stats(alloc, *client)?)?;
+fn channels_of(alloc: Global, channels: &[ToldChannel]) -> Result<Items<ChannelStats>, Memory> {
+    let mut told = Items::new(alloc);
+    for channel in channels {
+        told.push(channel_stats(alloc, *channel)?)?;
     }
+    Ok(told)
+}
+
+fn channel_stats(alloc: Global, told: ToldChannel) -> Result<ChannelStats, Memory> {
+    let channel_name = channel(told.name)?;
+    let clients = clients_of(alloc, told.clients)?;
     Ok(ChannelStats {
         backend_depth: told.backend,
-        channel_name: channel(told.name)?,
+        channel_name,
         clients,
         deferred_count: told.deferred,
         depth: told.depth,
@@ -62,8 +66,16 @@ fn channel_stats(alloc: Global, told: ToldChannel) -> Result<ChannelStats, Memor
     })
 }
 
-fn client_stats(alloc: Global, told: ToldClient) -> Result<ClientStats, Memory> {
-    Ok(ClientStats {
+fn clients_of(alloc: Global, clients: &[ToldClient]) -> Result<Items<ClientStats>, Memory> {
+    let mut told = Items::new(alloc);
+    for client in clients {
+        told.push(client_stats(alloc, *client))?;
+    }
+    Ok(told)
+}
+
+fn client_stats(alloc: Global, told: ToldClient) -> ClientStats {
+    ClientStats {
         client_id: Body::of(Vec::new(alloc)),
         finish_count: 0,
         hostname: Body::of(Vec::new(alloc)),
@@ -72,5 +84,5 @@ fn client_stats(alloc: Global, told: ToldClient) -> Result<ClientStats, Memory> 
         ready_count: 0,
         requeue_count: told.given_back,
         user_agent: Body::of(Vec::new(alloc)),
-    })
+    }
 }

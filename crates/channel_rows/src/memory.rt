@@ -109,6 +109,9 @@ fn gets<L: Ledger>(
     same && give(channel, folder, scratch, Who::First, 0, then, steps) == given
 }
 
+// How many queued copies the channels keep in memory.
+static ROOMS: [u64; 3] = [0, 1, 3];
+
 // Whether the calls of a channel hold that keeps so many queued copies in memory.
 fn holds<L: Ledger>(
     alloc: Global,
@@ -138,36 +141,39 @@ fn calls_hold<L: Ledger>(
 {
     let sent = Given::Send(0, b'm', 1);
     ready(channel, Who::First, 3);
-    if !joins(alloc, channel, folder, scratch, 0, 0, steps)? {
-        return Ok(false);
-    }
-    if !joins(alloc, channel, folder, scratch, 1, MINUTE, steps)? {
-        return Ok(false);
-    }
-    if !gets(channel, folder, scratch, Then::Undo, sent, steps) {
-        return Ok(false);
-    }
-    if !gets(channel, folder, scratch, Then::Settle, sent, steps) {
-        return Ok(false);
-    }
-    if !joins(alloc, channel, folder, scratch, 0, 0, steps)? {
-        return Ok(false);
-    }
-    if !gets(
+    Ok(
+        joins(alloc, channel, folder, scratch, 0, 0, steps)?
+            && joins(alloc, channel, folder, scratch, 1, MINUTE, steps)?
+            && gets(channel, folder, scratch, Then::Undo, sent, steps)
+            && gets(channel, folder, scratch, Then::Settle, sent, steps)
+            && joins(alloc, channel, folder, scratch, 0, 0, steps)?
+            && are_held(channel, folder, scratch, steps),
+    )
+}
+
+// Whether the second copy is held back; then the first one is finished, and nothing else was counted.
+fn are_held<L: Ledger>(
+    channel: &mut Channel,
+    folder: &mut MemFolder,
+    scratch: &mut [u8],
+    steps: &mut Steps<L>,
+) -> bool
+    requires served { IsServed channel.old }
+    requires scratch { 16777242 ≤ length scratch.old }
+{
+    let held = gets(
         channel,
         folder,
         scratch,
         Then::Settle,
         Given::Held(0),
         steps,
-    ) {
-        return Ok(false);
-    }
-    if !finish(channel, Who::First, 0, steps) {
-        return Ok(false);
+    );
+    if !held || !finish(channel, Who::First, 0, steps) {
+        return false;
     }
     let counts = channel.counts();
-    Ok(places(counts) == (0, 0, 0, 2) && events(counts) == (3, 0, 0))
+    places(counts) == (0, 0, 0, 2) && events(counts) == (3, 0, 0)
 }
 
 // Whether all holds. What wants memory before the calls or between them ends it.
@@ -180,8 +186,14 @@ fn all_hold<L: Ledger>(alloc: Global, blank: Blank) -> bool
         return true;
     };
     let mut steps: Steps<L> = Steps::new(blank);
-    for memory in [0, 1, 3] {
-        match holds(alloc, &mut scratch, memory, &mut steps) {
+    each_holds(alloc, &mut scratch, &mut steps)
+}
+
+fn each_holds<L: Ledger>(alloc: Global, scratch: &mut [u8], steps: &mut Steps<L>) -> bool
+    requires { 16777242 ≤ length scratch.old }
+{
+    for memory in &ROOMS {
+        match holds(alloc, scratch, *memory, steps) {
             Ok(true) => {}
             Ok(false) => return false,
             Err(Memory) => return true,

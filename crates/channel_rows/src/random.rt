@@ -304,13 +304,7 @@ impl Pair {
             now,
             steps,
         );
-        let right = match came {
-            Came::TimedOut(number) => self.plain.time_out(number, now)?,
-            Came::CameDue(number) => self.plain.come_due(number, now)?,
-            Came::Fault(number) => self.fails && self.plain.stay_due(number, now)?,
-            Came::Nothing => self.plain.first_due(now).is_none(),
-            Came::Other => false,
-        };
+        let right = came_so(&mut self.plain, self.fails, now, came)?;
         Ok(told && right)
     }
 
@@ -437,20 +431,22 @@ impl Pair {
 
     // Whether it tells of each client and each copy what the list says.
     fn looks_agree(&self) -> bool {
-        for who in [Who::First, Who::Second] {
-            if calls::in_flight(&self.channel, who) != self.plain.flying(who) {
-                return false;
-            }
-        }
-        for number in 0..NUMBERS {
-            for who in [Who::First, Who::Second] {
-                if calls::look(&self.channel, who, number) != self.plain.look(who, number) {
-                    return false;
-                }
-            }
-        }
-        true
+        agrees_on(&self.channel, &self.plain, Who::First)
+            && agrees_on(&self.channel, &self.plain, Who::Second)
     }
+}
+
+// Whether the channel tells of this client and each copy what the list says.
+fn agrees_on(channel: &Channel, plain: &Plain, who: Who) -> bool {
+    if calls::in_flight(channel, who) != plain.flying(who) {
+        return false;
+    }
+    for number in 0..NUMBERS {
+        if calls::look(channel, who, number) != plain.look(who, number) {
+            return false;
+        }
+    }
+    true
 }
 
 // Whether the list says what was given.
@@ -480,6 +476,17 @@ fn was_given(
         Given::Fault => Ok(fails && credit && !paused && queued != 0 && !plain.ephemeral),
         Given::Memory => Err(Memory),
         Given::Send(_, _, _) | Given::Other => Ok(false),
+    }
+}
+
+// Whether the list says what came due.
+fn came_so(plain: &mut Plain, fails: bool, now: u64, came: Came) -> Result<bool, Memory> {
+    match came {
+        Came::TimedOut(number) => plain.time_out(number, now),
+        Came::CameDue(number) => plain.come_due(number, now),
+        Came::Fault(number) => Ok(fails && plain.stay_due(number, now)?),
+        Came::Nothing => Ok(plain.first_due(now).is_none()),
+        Came::Other => Ok(false),
     }
 }
 

@@ -285,7 +285,7 @@ fn is_made_of(bytes: &[u8], pieces: &[&[u8]]) -> bool {
 fn first_wrong<L: Ledger>(
     alloc: Global,
     scratch: &mut [u8],
-    scripts: &[Script],
+    scripts: &'static [Script],
     steps: &mut Steps<L>,
 ) -> Result<Option<&'static str>, Memory>
     requires { 16777242 ≤ length scratch.old }
@@ -293,6 +293,24 @@ fn first_wrong<L: Ledger>(
     for script in scripts {
         if !holds(alloc, scratch, script, steps)? {
             return Ok(Some(script.name));
+        }
+    }
+    Ok(None)
+}
+
+// The name of the first script of these tables that doesn't hold, if any.
+fn first_of_all<L: Ledger>(
+    alloc: Global,
+    scratch: &mut [u8],
+    tables: &[&'static [Script]],
+    steps: &mut Steps<L>,
+) -> Result<Option<&'static str>, Memory>
+    requires { 16777242 ≤ length scratch.old }
+{
+    for scripts in tables {
+        let wrong = first_wrong(alloc, scratch, scripts, steps)?;
+        if wrong.is_some() {
+            return Ok(wrong);
         }
     }
     Ok(None)
@@ -306,7 +324,7 @@ fn wrong_script<L: Ledger>(alloc: Global, blank: Blank) -> Result<Option<&'stati
 {
     let mut scratch = scratch(alloc)?;
     let mut steps: Steps<L> = Steps::new(blank);
-    for scripts in [
+    let tables = [
         sending::CREDIT.as_slice(),
         sending::DRAWING.as_slice(),
         sending::SETTLING.as_slice(),
@@ -315,13 +333,8 @@ fn wrong_script<L: Ledger>(alloc: Global, blank: Blank) -> Result<Option<&'stati
         storing::FAILING.as_slice(),
         storing::DROPPING.as_slice(),
         storing::STOPPING.as_slice(),
-    ] {
-        let wrong = first_wrong(alloc, &mut scratch, scripts, &mut steps)?;
-        if wrong.is_some() {
-            return Ok(wrong);
-        }
-    }
-    Ok(None)
+    ];
+    first_of_all(alloc, &mut scratch, &tables, &mut steps)
 }
 
 #[test]

@@ -86,23 +86,26 @@ impl Beside {
         id: MsgId,
         delay: u64,
         at: u64,
-        offered: Offered,
+        offered: &Offered,
     ) -> Result<bool, Memory> {
-        let message = message(self.alloc, id, delay)?;
         match offered {
-            Offered::Done => self.gets(message, at, End::Done),
+            Offered::Done => self.gets(id, delay, at, End::Done),
             Offered::Fault(back) => Ok(
-                self.fails
-                    && delay == 0
-                    && is_message(&back, &message)
-                    && self.gets(message, at, End::Faulted(0))?,
+                self.comes_back(id, delay, back)? && self.gets(id, delay, at, End::Faulted(0))?,
             ),
             Offered::Memory => Err(Memory),
         }
     }
 
+    // Whether a fault may have given the message back, and this is it.
+    fn comes_back(&self, id: MsgId, delay: u64, back: &Message) -> Result<bool, Memory> {
+        let message = message(self.alloc, id, delay)?;
+        Ok(self.fails && delay == 0 && is_message(back, &message))
+    }
+
     // The channel gets the message that its topic took, or a fault keeps it off. Then the topic has taken none.
-    fn gets(&mut self, message: Message, at: u64, end: End) -> Result<bool, Memory> {
+    fn gets(&mut self, id: MsgId, delay: u64, at: u64, end: End) -> Result<bool, Memory> {
+        let message = message(self.alloc, id, delay)?;
         owe(self.alloc, &mut self.possible.states, self.name, &message)?;
         let copied = of_daemon(at, Act::Copied(self.topic, self.name, message));
         let goes = self.possible.goes(&copied, end)?;
@@ -122,8 +125,11 @@ impl Beside {
         match given {
             Given::Send(message) => self.drew(of_client(client, at, Act::Sent(message)), settles),
             Given::Held(id) => {
-                let held = of_daemon(at, Act::HeldBack(self.topic, self.name, id));
-                Ok(self.is_stuck(client, at)? && self.drew(held, settles)?)
+                if !self.is_stuck(client, at)? {
+                    return Ok(false);
+                }
+                let held = Act::HeldBack(self.topic, self.name, id);
+                self.drew(of_daemon(at, held), settles)
             }
             Given::NoCredit => self.has_none(client, at, Why::NoCredit),
             Given::Paused => self.has_none(client, at, Why::Paused),
@@ -266,9 +272,18 @@ impl Beside {
     pub fn comes_again(&mut self, at: u64) -> Result<bool, Memory> {
         let gone = of_client(2, at, Act::Gone);
         let goes = self.possible.goes(&gone, End::Done)?;
-        let states = self.possible.take();
-        self.possible.states = with_second(self.alloc, states, self.topic, self.name)?;
+        for state in self.possible.take() {
+            self.keep_with_second(state)?;
+        }
         Ok(goes)
+    }
+
+    // Keeps the state with the second client, which asked for no message yet.
+    fn keep_with_second(&mut self, state: State) -> Result<(), Memory> {
+        let second = client(self.alloc, 2, SECOND_TIME, self.topic, self.name);
+        let served = state.with_client(self.alloc, second)?;
+        self.possible.states.push(served)?;
+        Ok(())
     }
 
     /// Whether calls of the channel on its folder may fail.
@@ -311,26 +326,33 @@ impl Beside {
     /// Whether the folder's files have all that is left in a possible state. Then the state is the one in which the next run begins, with both
     /// clients.
     pub fn begins(&mut self, folder: &mut MemFolder) -> Result<bool, Memory> {
-        let mut begun = Vec::new(self.alloc);
-        for state in &self.possible.states {
-            if let Some(next) = next_run(self.alloc, folder, state, &self.options)? {
-                begun.push(with_clients(self.alloc, next, self.topic, self.name)?)?;
-            }
+        for state in self.possible.take() {
+            self.begin(folder, &state)?;
         }
-        self.possible.states = begun;
         Ok(!self.possible.states.is_empty())
+    }
+
+    // Keeps the state in which the run behind this one begins, if there is one, with both clients.
+    fn begin(&mut self, folder: &mut MemFolder, state: &State) -> Result<(), Memory> {
+        if let Some(next) = next_run(self.alloc, folder, state, &self.options)? {
+            let served = with_clients(self.alloc, next, self.topic, self.name)?;
+            self.possible.states.push(served)?;
+        }
+        Ok(())
     }
 
     /// Keeps the states in which what the channel tells is so. Whether there is one.
     pub fn tells(&mut self, channel: &Channel) -> Result<bool, Memory> {
-        let mut kept = Vec::new(self.alloc);
         for state in self.possible.take() {
-            if is_channel(self.alloc, &state, self.topic, channel)? {
-                kept.push(state)?;
-            }
+            self.keep_told(state, channel)?;
         }
-        self.possible.states = kept;
         Ok(!self.possible.states.is_empty())
+    }
+
+    // Keeps the state, where what the channel tells is so.
+    fn keep_told(&mut self, state: State, channel: &Channel) -> Result<(), Memory> {
+        let told = is_channel(self.alloc, &state, self.topic, channel)?;
+        self.possible.keep_if(told, state)
     }
 }
 
@@ -388,19 +410,4 @@ fn owe_none(states: &mut [State]) {
             topic.taken = None;
         }
     }
-}
-
-// The states with the second client, which asked for no message yet.
-fn with_second(
-    alloc: Global,
-    states: Vec<State>,
-    topic: Topic,
-    name: Chan,
-) -> Result<Vec<State>, Memory> {
-    let mut served = Vec::new(alloc);
-    for state in states {
-        let second = client(alloc, 2, SECOND_TIME, topic, name);
-        served.push(state.with_client(alloc, second)?)?;
-    }
-    Ok(served)
 }

@@ -6,7 +6,7 @@ ghost use Rattle.random_rows.specs.Served.{IsServed};
 use crate::beside::Beside;
 use crate::calls::{self, Offered, Scratch, Setup, served};
 use crate::dice::{Dice, in_milliseconds};
-use crate::runs::{Run, SEEDS, folder_of, options_of, tables};
+use crate::runs::{Run, SEEDS, all_runs, folder_of, options_of};
 use backlog::Flushed;
 use channel_core::{Channel, Requeue};
 use disk_queue::{Emptied, Sync};
@@ -102,7 +102,7 @@ impl Pair {
             return Ok(true);
         }
         let offered = self.offered(scratch, id, delay, at, steps)?;
-        self.beside.was_offered(id, delay, at, offered)
+        self.beside.was_offered(id, delay, at, &offered)
     }
 
     fn offered<L: Ledger>(
@@ -429,24 +429,21 @@ fn first_wrong<L: Ledger>(
 ) -> Result<Option<(u64, &'static str)>, Memory> {
     for i in 0..SEEDS {
         let seed = i + 1;
-        for table in tables() {
-            if let Some(name) = wrong_in(alloc, scratch, table, seed, steps)? {
-                return Ok(Some((seed, name)));
-            }
+        if let Some(name) = wrong_in(alloc, scratch, seed, steps)? {
+            return Ok(Some((seed, name)));
         }
     }
     Ok(None)
 }
 
-// The name of the first of these runs that doesn't hold with this seed, if any.
+// The name of the first run that doesn't hold with this seed, if any.
 fn wrong_in<L: Ledger>(
     alloc: Global,
     scratch: &mut Scratch,
-    table: &'static [Run],
     seed: u64,
     steps: &mut Steps<L>,
 ) -> Result<Option<&'static str>, Memory> {
-    for run in table {
+    for run in all_runs() {
         if !holds(alloc, scratch, run, Dice::new(seed, run), steps)? {
             return Ok(Some(run.name));
         }

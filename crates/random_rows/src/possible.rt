@@ -34,11 +34,26 @@ impl Possible {
         std::mem::replace(&mut self.states, Vec::new(self.alloc))
     }
 
-    /// An entry could have been made, and wasn't. Whether a step would lead on by it from one of the states.
+    /// An entry could have been made, and wasn't. Whether a step would lead on by it from one of the states: those stay.
     pub fn may(&mut self, entry: &Entry, end: End) -> Result<bool, Memory> {
-        let states = self.take();
-        self.states = those_that_may(self.alloc, states, entry, end)?;
+        for state in self.take() {
+            self.keep_leading(state, entry, end)?;
+        }
         Ok(!self.states.is_empty())
+    }
+
+    // Keeps the state, where the entry leads on from it.
+    fn keep_leading(&mut self, state: State, entry: &Entry, end: End) -> Result<(), Memory> {
+        let leads = leads_on(self.alloc, &state, entry, end)?;
+        self.keep_if(leads, state)
+    }
+
+    /// Keeps the state, where that is so.
+    pub fn keep_if(&mut self, so: bool, state: State) -> Result<(), Memory> {
+        if so {
+            self.states.push(state)?;
+        }
+        Ok(())
     }
 }
 
@@ -51,29 +66,19 @@ fn led_from(
 ) -> Result<Vec<State>, Memory> {
     let mut led = Vec::new(alloc);
     for state in states {
-        for next in step(alloc, state, entry, end)? {
-            if !is_among(&led, &next) {
-                led.push(next)?;
-            }
-        }
+        add_new(&mut led, step(alloc, state, entry, end)?)?;
     }
     Ok(led)
 }
 
-// Those of the states that an entry leads on from.
-fn those_that_may(
-    alloc: Global,
-    states: Vec<State>,
-    entry: &Entry,
-    end: End,
-) -> Result<Vec<State>, Memory> {
-    let mut kept = Vec::new(alloc);
-    for state in states {
-        if leads_on(alloc, &state, entry, end)? {
-            kept.push(state)?;
+// Adds each of these states that isn't like one that is there.
+fn add_new(led: &mut Vec<State>, states: Vec<State>) -> Result<(), Memory> {
+    for next in states {
+        if !is_among(led, &next) {
+            led.push(next)?;
         }
     }
-    Ok(kept)
+    Ok(())
 }
 
 /// Whether an entry leads on from this state.
@@ -94,11 +99,19 @@ fn is_among(states: &[State], state: &State) -> bool {
 
 // Whether the channels of two states to which the same entries led have the same copies, in whatever order.
 fn are_alike(a: &State, b: &State) -> bool {
-    for (one, other) in a.topics.iter().zip(&b.topics) {
-        for (one, other) in one.channels.iter().zip(&other.channels) {
-            if !have_same_copies(one, other) {
-                return false;
-            }
+    for (i, one) in a.topics.iter().enumerate() {
+        if i < b.topics.len() && !are_channels_alike(&one.channels, &b.topics[i].channels) {
+            return false;
+        }
+    }
+    true
+}
+
+// Whether the channels of a topic in two such states have the same copies.
+fn are_channels_alike(a: &[ChannelState], b: &[ChannelState]) -> bool {
+    for (i, one) in a.iter().enumerate() {
+        if i < b.len() && !have_same_copies(one, &b[i]) {
+            return false;
         }
     }
     true

@@ -22,7 +22,7 @@ pub struct Run {
     pub fails: bool,
 }
 
-static DURABLE: [Run; 6] = [
+static RUNS: [Run; 12] = [
     Run {
         name: "durable, without room",
         ephemeral: false,
@@ -59,9 +59,6 @@ static DURABLE: [Run; 6] = [
         memory: 3,
         fails: true,
     },
-];
-
-static EPHEMERAL: [Run; 6] = [
     Run {
         name: "ephemeral, without room",
         ephemeral: true,
@@ -100,9 +97,9 @@ static EPHEMERAL: [Run; 6] = [
     },
 ];
 
-/// The tables of all runs.
-pub fn tables() -> [&'static [Run]; 2] {
-    [&DURABLE, &EPHEMERAL]
+/// All runs.
+pub fn all_runs() -> &'static [Run] {
+    &RUNS
 }
 
 /// How long a client has for a message that doesn't say: 20 s.

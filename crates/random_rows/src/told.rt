@@ -175,13 +175,18 @@ fn in_flight(alloc: Global, copies: &[MessageCopy]) -> Result<Vec<MessageCopy>, 
 fn are_looks(copies: &[MessageCopy], channel: &Channel) -> bool {
     for number in 0..NUMBERS {
         let id = MsgId::make(1, number);
-        for who in [Who::First, Who::Second] {
-            if channel.look(who.client(), id) != look(copies, who.client(), &id) {
-                return false;
-            }
+        if !is_look(copies, channel, Who::First.client(), &id)
+            || !is_look(copies, channel, Who::Second.client(), &id)
+        {
+            return false;
         }
     }
     true
+}
+
+// Whether it tells this client where its copy of this id is.
+fn is_look(copies: &[MessageCopy], channel: &Channel, client: u64, id: &MsgId) -> bool {
+    channel.look(client, *id) == look(copies, client, id)
 }
 
 fn look(copies: &[MessageCopy], client: u64, id: &MsgId) -> Look {

@@ -6,11 +6,11 @@ ghost use Rattle.topic_core.specs.Seen.{IsSettled};
 
 use crate::calls::Scratch;
 use crate::dice::Dice;
-use crate::runs::{Run, SEEDS, folder_of, options_of, tables};
+use crate::runs::{Run, SEEDS, all_runs, folder_of, options_of};
 use crate::topics_beside::Beside;
 use backlog::{Flushed, PutAll};
 use disk_queue::{Emptied, Sync};
-use nsq_base::{Bodies, Body, Chan, Memory, MsgId, Options, Topic};
+use nsq_base::{Body, Chan, Memory, MsgId, Options, Topic};
 use nsq_fakes::MemFolder;
 use queue_opening::Open;
 use std::alloc::Global;
@@ -59,20 +59,30 @@ impl Pair {
         let count = self.dice.below(4);
         let delay = self.dice.delay();
         let at = self.dice.moment();
+        match self.put_all(scratch, count, at, delay)? {
+            Some(done) => self.beside.publishes(at, delay, count, done),
+            None => Ok(false),
+        }
+    }
+
+    // Puts so many messages. Whether that was done, and then all of them are taken over; else none is. None where it is otherwise.
+    fn put_all(
+        &mut self,
+        scratch: &mut Scratch,
+        count: u64,
+        at: u64,
+        delay: u64,
+    ) -> Result<Option<bool>, Memory> {
         let (epoch, used) = self.beside.ids();
-        let bodies = bodies_of(self.alloc, used, count)?;
         let mut messages = messages_of(self.alloc, epoch, used, count, at, delay)?;
         let answer = self
             .topic
             .put_all(&mut self.folder, &mut scratch.bytes, &mut messages);
-        match answer {
-            PutAll::Done => {
-                Ok(messages.is_empty() && self.beside.publishes(at, delay, bodies, true)?)
-            }
-            PutAll::Fault => Ok(
-                messages.len() as u64 == count && self.beside.publishes(at, delay, bodies, false)?,
-            ),
-        }
+        Ok(match answer {
+            PutAll::Done if messages.is_empty() => Some(true),
+            PutAll::Fault if messages.len() as u64 == count => Some(false),
+            PutAll::Done | PutAll::Fault => None,
+        })
     }
 
     // A message is drawn where one may be taken, and taken or put back.
@@ -239,17 +249,7 @@ fn channel_of(number: u64) -> Option<Chan> {
     }
 }
 
-// The bodies of so many messages behind this number: each is its number.
-fn bodies_of(alloc: Global, used: u64, count: u64) -> Result<Bodies, Memory> {
-    let mut bodies = Bodies::new(alloc);
-    for i in 0..count {
-        let number = used.wrapping_add(i);
-        bodies.push(Body::copy(alloc, &number.to_be_bytes())?)?;
-    }
-    Ok(bodies)
-}
-
-// The messages themselves, with the ids that come next.
+// So many messages behind this number, with the ids that come next: the body of each is its number.
 fn messages_of(
     alloc: Global,
     epoch: u32,
@@ -322,23 +322,20 @@ fn first_wrong(
 ) -> Result<Option<(u64, &'static str)>, Memory> {
     for i in 0..SEEDS {
         let seed = i + 1;
-        for table in tables() {
-            if let Some(name) = wrong_in(alloc, scratch, table, seed)? {
-                return Ok(Some((seed, name)));
-            }
+        if let Some(name) = wrong_in(alloc, scratch, seed)? {
+            return Ok(Some((seed, name)));
         }
     }
     Ok(None)
 }
 
-// The name of the first of these runs that doesn't hold with this seed, if any.
+// The name of the first run that doesn't hold with this seed, if any.
 fn wrong_in(
     alloc: Global,
     scratch: &mut Scratch,
-    table: &'static [Run],
     seed: u64,
 ) -> Result<Option<&'static str>, Memory> {
-    for run in table {
+    for run in all_runs() {
         if !holds(alloc, scratch, run, Dice::new(seed, run))? {
             return Ok(Some(run.name));
         }

@@ -9,7 +9,7 @@ use crate::told::is_topic;
 use broker_changes::topics::takes;
 use broker_history::{Act, Ask};
 use broker_state::{State, TopicState};
-use nsq_base::{Bodies, Chan, Memory, Names, Options, Topic};
+use nsq_base::{Bodies, Body, Chan, Memory, Names, Options, Topic};
 use nsq_fakes::MemFolder;
 use nsq_outside::End;
 use std::alloc::Global;
@@ -64,14 +64,16 @@ impl Beside {
         self.fails && !self.topic.ephemeral()
     }
 
-    /// Whether these bodies may be published, or a fault may keep them off.
+    /// Whether the bodies of so many messages may be published, or a fault may keep them off.
     pub fn publishes(
         &mut self,
         at: u64,
         delay: u64,
-        bodies: Bodies,
+        count: u64,
         done: bool,
     ) -> Result<bool, Memory> {
+        let (_, used) = self.ids();
+        let bodies = bodies_of(self.alloc, used, count)?;
         self.asks(at, Ask::Publish(self.topic, delay, bodies), done)
     }
 
@@ -116,15 +118,20 @@ impl Beside {
 
     // The message was taken, or drawn and put back.
     fn takes(&mut self, at: u64, message: Message, settles: bool) -> Result<bool, Memory> {
-        let names = match self.first() {
-            Some(topic) => listed(self.alloc, topic)?,
-            None => Names::new(self.alloc),
-        };
+        let names = self.names()?;
         let took = of_daemon(at, Act::Took(self.topic, message, names));
         if settles {
             self.possible.goes(&took, End::Done)
         } else {
             self.possible.may(&took, End::Done)
+        }
+    }
+
+    // The topic with its channels, as they are listed.
+    fn names(&self) -> Result<Names, Memory> {
+        match self.first() {
+            Some(topic) => listed(self.alloc, topic),
+            None => Ok(Names::new(self.alloc)),
         }
     }
 
@@ -204,14 +211,18 @@ impl Beside {
 
     /// Whether the folder's files have all that is left. Then the state is the one in which the next run begins.
     pub fn begins(&mut self, folder: &mut MemFolder) -> Result<bool, Memory> {
-        let mut begun = Vec::new(self.alloc);
-        for state in &self.possible.states {
-            if let Some(next) = next_run(self.alloc, folder, state, &self.options)? {
-                begun.push(next)?;
-            }
+        for state in self.possible.take() {
+            self.begin(folder, &state)?;
         }
-        self.possible.states = begun;
         Ok(!self.possible.states.is_empty())
+    }
+
+    // Keeps the state in which the run behind this one begins, if there is one.
+    fn begin(&mut self, folder: &mut MemFolder, state: &State) -> Result<(), Memory> {
+        if let Some(next) = next_run(self.alloc, folder, state, &self.options)? {
+            self.possible.states.push(next)?;
+        }
+        Ok(())
     }
 
     /// Keeps the state, where what the topic tells is so.
@@ -219,15 +230,22 @@ impl Beside {
         let Some(none) = Chan::read(b"none") else {
             return Ok(false);
         };
-        let mut kept = Vec::new(self.alloc);
         for state in self.possible.take() {
-            if is_topic(self.alloc, &state, topic, none)? {
-                kept.push(state)?;
-            }
+            let told = is_topic(self.alloc, &state, topic, none)?;
+            self.possible.keep_if(told, state)?;
         }
-        self.possible.states = kept;
         Ok(!self.possible.states.is_empty())
     }
+}
+
+// The bodies of so many messages behind this number: each is its number.
+fn bodies_of(alloc: Global, used: u64, count: u64) -> Result<Bodies, Memory> {
+    let mut bodies = Bodies::new(alloc);
+    for i in 0..count {
+        let number = used.wrapping_add(i);
+        bodies.push(Body::copy(alloc, &number.to_be_bytes())?)?;
+    }
+    Ok(bodies)
 }
 
 // The channels of these letters.

@@ -4,6 +4,7 @@ use super::{
     A, B, C, Finding, FoundNames, Sent, State, files_of, found, kept_names, names_text, queued,
     start,
 };
+use crate::given::same;
 use nsq_base::{Memory, Options};
 use queue_plain::NamedFile;
 use std::alloc::Global;
@@ -24,13 +25,13 @@ const DATA: &[u8] =
 const POSITIONS: &[u8] = b"3\n0,0\n0,93\n";
 
 /// The channel's queue.
-const QUEUES: &[(&'static [u8], &'static [Sent])] = &[(b"t:c", &[C, B, A])];
+static QUEUES: [(&'static [u8], &'static [Sent]); 1] = [(b"t:c", &[C, B, A])];
 
 /// Whether a file of the folder has these bytes.
 fn has(files: &[NamedFile], name: &[u8], bytes: &[u8]) -> bool {
     for file in files {
-        if file.name.bytes() == name {
-            return file.bytes.bytes() == bytes;
+        if same(file.name.bytes(), name) {
+            return same(file.bytes.bytes(), bytes);
         }
     }
     false
@@ -55,11 +56,11 @@ fn starts(alloc: Global, names: &FoundNames) -> Result<bool, Memory> {
     let options = Options::defaults(alloc)?;
     let state = start(alloc, names, &options, 0)?;
     let text = names_text(alloc, &kept_names(alloc, &state)?)?;
-    Ok(queued_first(&state) == 3 && state.ids_used == 0 && text.as_slice() == SECOND)
+    Ok(queued_first(&state) == 3 && state.ids_used == 0 && same(&text, SECOND))
 }
 
 fn restarts(alloc: Global) -> Result<bool, Memory> {
-    let files = files_of(alloc, FIRST, QUEUES)?;
+    let files = files_of(alloc, FIRST, &QUEUES)?;
     let is_written = has(&files, b"t:c.diskqueue.000000.dat", DATA)
         && has(&files, b"t:c.diskqueue.meta.dat", POSITIONS);
     match found(alloc, &files)? {

@@ -1,6 +1,6 @@
 //! The rows.
 
-use super::{Change, Row, Shows, holds};
+use super::{Change, Row, Shows, wrong};
 use std::test::Fail;
 
 static NUMBERS: [Row; 20] = [
@@ -339,13 +339,8 @@ static LISTS: [Row; 21] = [
 
 #[test]
 fn rows(rt: HostRuntime) -> Result<(), Fail> {
-    for row in &NUMBERS {
-        let holds = holds(rt.alloc(), row)?;
-        assert!(rt; holds, "{}", row.name);
-    }
-    for row in &LISTS {
-        let holds = holds(rt.alloc(), row)?;
-        assert!(rt; holds, "{}", row.name);
-    }
+    let tables = [NUMBERS.as_slice(), LISTS.as_slice()];
+    let wrong = wrong(rt.alloc(), &tables)?;
+    assert!(rt; wrong.is_none(), "{}", wrong.unwrap_or(""));
     Ok(())
 }

@@ -1,10 +1,7 @@
 //! Conversations as they go.
 
-use super::{Got, Piece, Row, Told, holds};
+use super::{Got, Piece, Row, Told};
 use broker_history::Ended;
-use nsq_base::Memory;
-use std::alloc::Global;
-use std::test::Fail;
 
 static ROWS: [Row; 18] = [
     Row {
@@ -426,29 +423,10 @@ static FAULTS: [Row; 5] = [
     },
 ];
 
-/// The name of the first row that doesn't hold, if there is one.
-fn wrong(alloc: Global, rows: &'static [Row]) -> Result<Option<&'static str>, Memory> {
-    for row in rows {
-        if !holds(alloc, row)? {
-            return Ok(Some(row.name));
-        }
-    }
-    Ok(None)
-}
-
-fn served() -> &'static [Row] {
+pub(super) fn rows() -> &'static [Row] {
     &ROWS
 }
 
-fn faults() -> &'static [Row] {
+pub(super) fn faults() -> &'static [Row] {
     &FAULTS
-}
-
-#[test]
-fn rows(rt: HostRuntime) -> Result<(), Fail> {
-    for rows in [served(), faults()] {
-        let wrong = wrong(rt.alloc(), rows)?;
-        assert!(rt; wrong.is_none(), "{}", wrong.unwrap_or(""));
-    }
-    Ok(())
 }

@@ -1,8 +1,7 @@
 //! Writes that fail, and want of memory.
 
-use super::{Got, Piece, Row, Told, holds};
+use super::{Got, Piece, Row, Told};
 use broker_history::Ended;
-use std::test::Fail;
 
 static ROWS: [Row; 16] = [
     Row {
@@ -204,11 +203,6 @@ static ROWS: [Row; 16] = [
     },
 ];
 
-#[test]
-fn rows(rt: HostRuntime) -> Result<(), Fail> {
-    for row in &ROWS {
-        let holds = holds(rt.alloc(), row)?;
-        assert!(rt; holds, "{}", row.name);
-    }
-    Ok(())
+pub(super) fn rows() -> &'static [Row] {
+    &ROWS
 }

@@ -14,8 +14,8 @@ static TABLES: [&'static [Row]; 6] = [
 
 #[test]
 fn rows(rt: HostRuntime) -> Result<(), Fail> {
-    for table in TABLES {
-        for row in table {
+    for table in &TABLES {
+        for row in *table {
             let holds = holds(rt.alloc(), row)?;
             assert!(rt; holds, "{}", row.name);
         }

@@ -12,10 +12,15 @@ static TABLES: [&'static [Row]; 6] = [
     &limits::ROWS,
 ];
 
+/// The tables. What names a static carries all that it holds through each of its steps, so this one has a single step.
+fn tables() -> &'static [&'static [Row]] {
+    &TABLES
+}
+
 #[test]
 fn rows(rt: HostRuntime) -> Result<(), Fail> {
-    for table in TABLES {
-        for row in table {
+    for table in tables() {
+        for row in *table {
             let holds = holds(rt.alloc(), row)?;
             assert!(rt; holds, "{}", row.name);
         }

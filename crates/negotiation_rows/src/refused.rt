@@ -79,8 +79,8 @@ static TABLES: [&'static [&'static str]; 3] = [&KINDS, &TIMES, &NUMBERS];
 
 #[test]
 fn rows(rt: HostRuntime) -> Result<(), Fail> {
-    for table in TABLES {
-        for body in table {
+    for table in &TABLES {
+        for body in *table {
             let holds = holds(rt.alloc(), body, Gets::Refused)?;
             assert!(rt; holds, "{}", *body);
         }

@@ -584,8 +584,8 @@ static TABLES: [&'static [Row]; 5] = [&ENDINGS, &CLOSINGS, &WANTS, &ROUNDS, &PIE
 
 #[test]
 fn rows(rt: HostRuntime) -> Result<(), Fail> {
-    for table in TABLES {
-        for row in table {
+    for table in &TABLES {
+        for row in *table {
             let holds = holds(&rt, rt.alloc(), row)?;
             assert!(rt; holds, "{}", row.name);
         }

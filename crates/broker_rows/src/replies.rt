@@ -102,7 +102,7 @@ static GOOD_BODIES: [&'static str; 15] = [
     r#"{"sample_rate":100,"sample_rate":5}"#,
 ];
 
-static FIRST_PUBLISHES: [Row; 7] = [
+static PUBLISHES: [Row; 21] = [
     Row {
         name: "IDENTIFY of a subscribed client",
         phase: Phase::Subscribed,
@@ -165,9 +165,6 @@ static FIRST_PUBLISHES: [Row; 7] = [
             br#"{"auth_required":false,"deflate":false,"deflate_level":0,"max_deflate_level":0,"max_msg_timeout":900000,"max_rdy_count":2500,"msg_timeout":1500,"sample_rate":0,"snappy":false,"tls_v1":false,"version":"1.0.0"}"#,
         ),
     },
-];
-
-static MORE_PUBLISHES: [Row; 7] = [
     Row {
         name: "SUB of a fresh client",
         phase: Phase::Fresh,
@@ -224,9 +221,6 @@ static MORE_PUBLISHES: [Row; 7] = [
         sends: Sends::Pub,
         gets: Gets::Error(b"E_PUB_FAILED ids spent"),
     },
-];
-
-static LAST_PUBLISHES: [Row; 7] = [
     Row {
         name: "MPUB with ids for all",
         phase: Phase::Fresh,
@@ -285,7 +279,7 @@ static LAST_PUBLISHES: [Row; 7] = [
     },
 ];
 
-static FIRST_READIES: [Row; 6] = [
+static READIES: [Row; 13] = [
     Row {
         name: "RDY of a fresh client",
         phase: Phase::Fresh,
@@ -334,9 +328,6 @@ static FIRST_READIES: [Row; 6] = [
         sends: Sends::Rdy(0),
         gets: Gets::Nothing,
     },
-];
-
-static LAST_READIES: [Row; 7] = [
     Row {
         name: "RDY of a closing client, out of range",
         phase: Phase::Closing,
@@ -395,7 +386,7 @@ static LAST_READIES: [Row; 7] = [
     },
 ];
 
-static FIRST_FLIGHTS: [Row; 6] = [
+static FLIGHTS: [Row; 19] = [
     Row {
         name: "FIN of a fresh client, in flight",
         phase: Phase::Fresh,
@@ -444,9 +435,6 @@ static FIRST_FLIGHTS: [Row; 6] = [
         sends: Sends::Fin,
         gets: Gets::Nothing,
     },
-];
-
-static MORE_FLIGHTS: [Row; 6] = [
     Row {
         name: "REQ of a fresh client, in flight",
         phase: Phase::Fresh,
@@ -495,9 +483,6 @@ static MORE_FLIGHTS: [Row; 6] = [
         sends: Sends::Req(0),
         gets: Gets::Nothing,
     },
-];
-
-static LAST_FLIGHTS: [Row; 7] = [
     Row {
         name: "TOUCH of a fresh client, in flight",
         phase: Phase::Fresh,
@@ -650,19 +635,11 @@ fn wrong_body(
 
 // The first body of all that isn't answered as it must be, if there is one.
 fn wrong_of_all(alloc: Global) -> Result<Option<&'static str>, Memory> {
-    let wrong = wrong_body(alloc, bad_bodies(), BAD_JSON)?;
+    let wrong = wrong_body(alloc, &BAD_BODIES, BAD_JSON)?;
     if wrong.is_some() {
         return Ok(wrong);
     }
-    wrong_body(alloc, good_bodies(), OK)
-}
-
-fn bad_bodies() -> &'static [&'static str] {
-    &BAD_BODIES
-}
-
-fn good_bodies() -> &'static [&'static str] {
-    &GOOD_BODIES
+    wrong_body(alloc, &GOOD_BODIES, OK)
 }
 
 // The name of the first row of these tables that doesn't hold, if there is one.
@@ -677,36 +654,16 @@ fn wrong(alloc: Global, tables: &[&'static [Row]]) -> Result<Option<&'static str
     Ok(None)
 }
 
-fn first_publishes() -> &'static [Row] {
-    &FIRST_PUBLISHES
+fn publishes() -> &'static [Row] {
+    &PUBLISHES
 }
 
-fn more_publishes() -> &'static [Row] {
-    &MORE_PUBLISHES
+fn readies() -> &'static [Row] {
+    &READIES
 }
 
-fn last_publishes() -> &'static [Row] {
-    &LAST_PUBLISHES
-}
-
-fn first_readies() -> &'static [Row] {
-    &FIRST_READIES
-}
-
-fn last_readies() -> &'static [Row] {
-    &LAST_READIES
-}
-
-fn first_flights() -> &'static [Row] {
-    &FIRST_FLIGHTS
-}
-
-fn more_flights() -> &'static [Row] {
-    &MORE_FLIGHTS
-}
-
-fn last_flights() -> &'static [Row] {
-    &LAST_FLIGHTS
+fn flights() -> &'static [Row] {
+    &FLIGHTS
 }
 
 #[test]
@@ -718,16 +675,7 @@ fn bodies_of_identify(rt: HostRuntime) -> Result<(), Memory> {
 
 #[test]
 fn rows(rt: HostRuntime) -> Result<(), Memory> {
-    let tables = [
-        first_publishes(),
-        more_publishes(),
-        last_publishes(),
-        first_readies(),
-        last_readies(),
-        first_flights(),
-        more_flights(),
-        last_flights(),
-    ];
+    let tables = [publishes(), readies(), flights()];
     let wrong = wrong(rt.alloc(), &tables)?;
     assert!(rt; wrong.is_none(), "{}", wrong.unwrap_or(""));
     Ok(())

@@ -3,7 +3,7 @@
 use super::{Got, Piece, Row, Told};
 use broker_history::Ended;
 
-static ROWS: [Row; 21] = [
+static FIRST: [Row; 5] = [
     Row {
         name: "messages that come out of order",
         sent: &[Piece::Subscribe(2)],
@@ -96,6 +96,9 @@ static ROWS: [Row; 21] = [
         is: None,
         is_not: Some(Ended::EndOfInput),
     },
+];
+
+static MORE: [Row; 5] = [
     Row {
         name: "a command that is read before the round rests",
         sent: &[Piece::MagicNop],
@@ -167,6 +170,9 @@ static ROWS: [Row; 21] = [
         is: None,
         is_not: Some(Ended::EndOfInput),
     },
+];
+
+static OTHER: [Row; 5] = [
     Row {
         name: "a command without its bytes",
         sent: &[Piece::Magic],
@@ -224,6 +230,9 @@ static ROWS: [Row; 21] = [
         is: None,
         is_not: Some(Ended::Closed),
     },
+];
+
+static LAST: [Row; 6] = [
     Row {
         name: "a bad word that is refused before the command that stands first",
         sent: &[Piece::Magic, Piece::NopBadWord],
@@ -305,6 +314,23 @@ static ROWS: [Row; 21] = [
     },
 ];
 
-pub(super) fn rows() -> &'static [Row] {
-    &ROWS
+fn first() -> &'static [Row] {
+    &FIRST
+}
+
+fn more() -> &'static [Row] {
+    &MORE
+}
+
+fn other() -> &'static [Row] {
+    &OTHER
+}
+
+fn last() -> &'static [Row] {
+    &LAST
+}
+
+/// The tables.
+pub(super) fn tables() -> [&'static [Row]; 4] {
+    [first(), more(), other(), last()]
 }

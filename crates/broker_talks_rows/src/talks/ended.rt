@@ -3,7 +3,7 @@
 use super::{Got, Piece, Row, Told};
 use broker_history::Ended;
 
-static ROWS: [Row; 19] = [
+static FIRST: [Row; 5] = [
     Row {
         name: "64 sent, and then a read",
         sent: &[Piece::MagicNop],
@@ -79,6 +79,9 @@ static ROWS: [Row; 19] = [
         is: Some(Ended::EndOfInput),
         is_not: Some(Ended::Closed),
     },
+];
+
+static MORE: [Row; 5] = [
     Row {
         name: "an Idle missing at the end",
         sent: &[],
@@ -129,6 +132,9 @@ static ROWS: [Row; 19] = [
         is: Some(Ended::EndOfInput),
         is_not: Some(Ended::Closed),
     },
+];
+
+static OTHER: [Row; 5] = [
     Row {
         name: "a Gone missing at a closed connection",
         sent: &[Piece::BadMagic],
@@ -194,6 +200,9 @@ static ROWS: [Row; 19] = [
         is: Some(Ended::Closed),
         is_not: Some(Ended::EndOfInput),
     },
+];
+
+static LAST: [Row; 4] = [
     Row {
         name: "an entry behind the one that closes",
         sent: &[Piece::BadMagic],
@@ -257,6 +266,23 @@ static ROWS: [Row; 19] = [
     },
 ];
 
-pub(super) fn rows() -> &'static [Row] {
-    &ROWS
+fn first() -> &'static [Row] {
+    &FIRST
+}
+
+fn more() -> &'static [Row] {
+    &MORE
+}
+
+fn other() -> &'static [Row] {
+    &OTHER
+}
+
+fn last() -> &'static [Row] {
+    &LAST
+}
+
+/// The tables.
+pub(super) fn tables() -> [&'static [Row]; 4] {
+    [first(), more(), other(), last()]
 }

@@ -3,7 +3,7 @@
 use super::{Got, Piece, Row, Told};
 use broker_history::Ended;
 
-static ROWS: [Row; 18] = [
+static FIRST: [Row; 6] = [
     Row {
         name: "two of three messages are sent within RDY, and the third behind a FIN",
         sent: &[Piece::Subscribe(2), Piece::FinFirst],
@@ -147,6 +147,9 @@ static ROWS: [Row; 18] = [
         is: Some(Ended::EndOfInput),
         is_not: Some(Ended::Closed),
     },
+];
+
+static MORE: [Row; 6] = [
     Row {
         name: "an ephemeral channel has no room, so no message comes",
         sent: &[Piece::SubscribeEphemeral],
@@ -247,6 +250,9 @@ static ROWS: [Row; 18] = [
         is: Some(Ended::Closed),
         is_not: Some(Ended::EndOfInput),
     },
+];
+
+static OTHER: [Row; 6] = [
     Row {
         name: "a client that closes gets no message, and a second CLS closes the connection",
         sent: &[Piece::SubscribeAndClose, Piece::Cls],
@@ -423,10 +429,23 @@ static FAULTS: [Row; 5] = [
     },
 ];
 
-pub(super) fn rows() -> &'static [Row] {
-    &ROWS
+fn first() -> &'static [Row] {
+    &FIRST
 }
 
-pub(super) fn faults() -> &'static [Row] {
+fn more() -> &'static [Row] {
+    &MORE
+}
+
+fn other() -> &'static [Row] {
+    &OTHER
+}
+
+fn faults() -> &'static [Row] {
     &FAULTS
+}
+
+/// The tables.
+pub(super) fn tables() -> [&'static [Row]; 4] {
+    [first(), more(), other(), faults()]
 }

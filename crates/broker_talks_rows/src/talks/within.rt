@@ -3,7 +3,7 @@
 use super::{Got, Piece, Row, Told};
 use broker_history::Ended;
 
-static ROWS: [Row; 16] = [
+static FIRST: [Row; 4] = [
     Row {
         name: "a heartbeat that is cut short",
         sent: &[Piece::MagicNop],
@@ -66,6 +66,9 @@ static ROWS: [Row; 16] = [
         is: None,
         is_not: Some(Ended::WriteFault),
     },
+];
+
+static MORE: [Row; 4] = [
     Row {
         name: "the last of two heartbeats is cut short",
         sent: &[Piece::MagicNop],
@@ -114,6 +117,9 @@ static ROWS: [Row; 16] = [
         is: Some(Ended::Memory),
         is_not: Some(Ended::WriteFault),
     },
+];
+
+static OTHER: [Row; 4] = [
     Row {
         name: "memory is wanting for the last two frames",
         sent: &[Piece::MagicNop],
@@ -161,6 +167,9 @@ static ROWS: [Row; 16] = [
         is: Some(Ended::Memory),
         is_not: Some(Ended::EndOfInput),
     },
+];
+
+static LAST: [Row; 4] = [
     Row {
         name: "a Gone missing though no turn wanted memory",
         sent: &[Piece::MagicNop],
@@ -203,6 +212,23 @@ static ROWS: [Row; 16] = [
     },
 ];
 
-pub(super) fn rows() -> &'static [Row] {
-    &ROWS
+fn first() -> &'static [Row] {
+    &FIRST
+}
+
+fn more() -> &'static [Row] {
+    &MORE
+}
+
+fn other() -> &'static [Row] {
+    &OTHER
+}
+
+fn last() -> &'static [Row] {
+    &LAST
+}
+
+/// The tables.
+pub(super) fn tables() -> [&'static [Row]; 4] {
+    [first(), more(), other(), last()]
 }

@@ -70,7 +70,7 @@ static GIVEN: Given = Given {
     topics: &[TOPIC],
 };
 
-static ROWS: [Row; 21] = [
+static ROWS_1: [Row; 14] = [
     Row {
         name: "a publish to a topic that isn't there",
         used: 0,
@@ -155,6 +155,9 @@ static ROWS: [Row; 21] = [
         asks: Asks::Empty(b"u", b""),
         said: Word::NoTopic,
     },
+];
+
+static ROWS_2: [Row; 7] = [
     Row {
         name: "a channel that isn't there is emptied",
         used: 0,
@@ -198,6 +201,18 @@ static ROWS: [Row; 21] = [
         said: Word::NoChannel,
     },
 ];
+
+fn rows_1() -> &'static [Row] {
+    &ROWS_1
+}
+
+fn rows_2() -> &'static [Row] {
+    &ROWS_2
+}
+
+fn rows_in_parts() -> [&'static [Row]; 2] {
+    [rows_1(), rows_2()]
+}
 
 /// The channel of this name, if one is named.
 fn channel_of(name: &'static [u8]) -> Option<Chan> {
@@ -265,9 +280,11 @@ fn holds(alloc: Global, row: &Row) -> Result<bool, Memory> {
 
 #[test]
 fn rows(rt: HostRuntime) -> Result<(), Fail> {
-    for row in &ROWS {
-        let holds = holds(rt.alloc(), row)?;
-        assert!(rt; holds, "{}", row.name);
+    for part in rows_in_parts() {
+        for row in part {
+            let holds = holds(rt.alloc(), row)?;
+            assert!(rt; holds, "{}", row.name);
+        }
     }
     Ok(())
 }

@@ -30,7 +30,7 @@ const TWO_DUE: [Line; 6] = [
 
 const ONE_SENT: [Line; 1] = [At(0, 2, Sent(0, 1))];
 
-static FIRST_FAULTS: [Row; 5] = [
+static FIRST_FAULTS_1: [Row; 3] = [
     Row {
         name: "REQ of a message that a disk fault keeps in flight",
         start: EMPTY,
@@ -55,6 +55,9 @@ static FIRST_FAULTS: [Row; 5] = [
         then: &[Faulted(0, 2, Req(1, 0, NOT_GIVEN_BACK), 0)],
         leads: Nowhere,
     },
+];
+
+static FIRST_FAULTS_2: [Row; 2] = [
     Row {
         name: "a disk fault in place of a publish's refusal",
         start: IDS_SPENT,
@@ -71,7 +74,15 @@ static FIRST_FAULTS: [Row; 5] = [
     },
 ];
 
-static MORE_FAULTS: [Row; 5] = [
+fn first_faults_1() -> &'static [Row] {
+    &FIRST_FAULTS_1
+}
+
+fn first_faults_2() -> &'static [Row] {
+    &FIRST_FAULTS_2
+}
+
+static MORE_FAULTS_1: [Row; 3] = [
     Row {
         name: "a disk fault at FIN",
         start: EMPTY,
@@ -96,6 +107,9 @@ static MORE_FAULTS: [Row; 5] = [
         ],
         leads: To("t", "c", [1, 1, 0]),
     },
+];
+
+static MORE_FAULTS_2: [Row; 2] = [
     Row {
         name: "a message of another channel that a disk fault kept off",
         start: EMPTY,
@@ -115,7 +129,15 @@ static MORE_FAULTS: [Row; 5] = [
     },
 ];
 
-static LAST_FAULTS: [Row; 5] = [
+fn more_faults_1() -> &'static [Row] {
+    &MORE_FAULTS_1
+}
+
+fn more_faults_2() -> &'static [Row] {
+    &MORE_FAULTS_2
+}
+
+static LAST_FAULTS_1: [Row; 3] = [
     Row {
         name: "a message is sent and meets a disk fault",
         start: EMPTY,
@@ -137,6 +159,9 @@ static LAST_FAULTS: [Row; 5] = [
         then: &[Faulted(0, 0, Asked(Pause("t", Some("c")), Says::Done), 0)],
         leads: Nowhere,
     },
+];
+
+static LAST_FAULTS_2: [Row; 2] = [
     Row {
         name: "a move that nothing was due for meets a disk fault",
         start: EMPTY,
@@ -156,21 +181,24 @@ static LAST_FAULTS: [Row; 5] = [
     },
 ];
 
-fn first_faults() -> &'static [Row] {
-    &FIRST_FAULTS
+fn last_faults_1() -> &'static [Row] {
+    &LAST_FAULTS_1
 }
 
-fn more_faults() -> &'static [Row] {
-    &MORE_FAULTS
-}
-
-fn last_faults() -> &'static [Row] {
-    &LAST_FAULTS
+fn last_faults_2() -> &'static [Row] {
+    &LAST_FAULTS_2
 }
 
 #[test]
 fn faults(rt: HostRuntime) -> Result<(), Memory> {
-    let parts = [first_faults(), more_faults(), last_faults()];
+    let parts = [
+        first_faults_1(),
+        first_faults_2(),
+        more_faults_1(),
+        more_faults_2(),
+        last_faults_1(),
+        last_faults_2(),
+    ];
     let wrong = wrong(rt.alloc(), &parts)?;
     assert!(rt; wrong.is_none(), "{}", wrong.unwrap_or(""));
     Ok(())

@@ -116,7 +116,7 @@ const SENT_OF_TWO: [Line; 4] = [
     At(0, 2, Sent(0, 1)),
 ];
 
-static FIRST_SENDINGS: [Row; 7] = [
+static FIRST_SENDINGS_1: [Row; 3] = [
     Row {
         name: "messages are sent in turn, as credit allows",
         start: EMPTY,
@@ -144,6 +144,9 @@ static FIRST_SENDINGS: [Row; 7] = [
         then: &[At(0, 2, Idle)],
         leads: Nowhere,
     },
+];
+
+static FIRST_SENDINGS_2: [Row; 3] = [
     Row {
         name: "a message that nobody published",
         start: EMPTY,
@@ -165,16 +168,29 @@ static FIRST_SENDINGS: [Row; 7] = [
         then: &[Moved(0, "t", &["c"], 0, 3), At(0, 2, Sent(0, 1))],
         leads: Nowhere,
     },
-    Row {
-        name: "after a lower RDY nothing is sent until fewer are in flight",
-        start: EMPTY,
-        story: &SIX_FIVE_SENT,
-        then: &[At(0, 2, Fin(4, Nothing)), At(0, 2, Sent(5, 1))],
-        leads: To("t", "c", [0, 1, 0]),
-    },
 ];
 
-static MORE_SENDINGS: [Row; 7] = [
+static FIRST_SENDINGS_3: [Row; 1] = [Row {
+    name: "after a lower RDY nothing is sent until fewer are in flight",
+    start: EMPTY,
+    story: &SIX_FIVE_SENT,
+    then: &[At(0, 2, Fin(4, Nothing)), At(0, 2, Sent(5, 1))],
+    leads: To("t", "c", [0, 1, 0]),
+}];
+
+fn first_sendings_1() -> &'static [Row] {
+    &FIRST_SENDINGS_1
+}
+
+fn first_sendings_2() -> &'static [Row] {
+    &FIRST_SENDINGS_2
+}
+
+fn first_sendings_3() -> &'static [Row] {
+    &FIRST_SENDINGS_3
+}
+
+static MORE_SENDINGS_1: [Row; 3] = [
     Row {
         name: "after a lower RDY a message while one is in flight",
         start: EMPTY,
@@ -204,6 +220,9 @@ static MORE_SENDINGS: [Row; 7] = [
         ],
         leads: Nowhere,
     },
+];
+
+static MORE_SENDINGS_2: [Row; 3] = [
     Row {
         name: "a message that another client has",
         start: EMPTY,
@@ -225,21 +244,34 @@ static MORE_SENDINGS: [Row; 7] = [
         then: &[At(0, 2, Sent(0, 1))],
         leads: Nowhere,
     },
-    Row {
-        name: "such a message is held back, and may come up later",
-        start: FOUND_TWICE,
-        story: &[&SENT_OF_TWO],
-        then: &[
-            At(0, 0, HeldBack("t", "c", 0)),
-            At(0, 2, Idle),
-            At(0, 2, Fin(0, Nothing)),
-            At(MINUTE, 0, CameDue("t", "c", 0)),
-        ],
-        leads: To("t", "c", [1, 0, 0]),
-    },
 ];
 
-static LAST_SENDINGS: [Row; 6] = [
+static MORE_SENDINGS_3: [Row; 1] = [Row {
+    name: "such a message is held back, and may come up later",
+    start: FOUND_TWICE,
+    story: &[&SENT_OF_TWO],
+    then: &[
+        At(0, 0, HeldBack("t", "c", 0)),
+        At(0, 2, Idle),
+        At(0, 2, Fin(0, Nothing)),
+        At(MINUTE, 0, CameDue("t", "c", 0)),
+    ],
+    leads: To("t", "c", [1, 0, 0]),
+}];
+
+fn more_sendings_1() -> &'static [Row] {
+    &MORE_SENDINGS_1
+}
+
+fn more_sendings_2() -> &'static [Row] {
+    &MORE_SENDINGS_2
+}
+
+fn more_sendings_3() -> &'static [Row] {
+    &MORE_SENDINGS_3
+}
+
+static LAST_SENDINGS_1: [Row; 3] = [
     Row {
         name: "with nothing that may be sent a client waits, held back or not",
         start: FOUND_TWICE,
@@ -261,6 +293,9 @@ static LAST_SENDINGS: [Row; 6] = [
         then: &[At(0, 0, HeldBack("t", "c", 0))],
         leads: Nowhere,
     },
+];
+
+static LAST_SENDINGS_2: [Row; 2] = [
     Row {
         name: "a message given back for later is in flight too, and so times out",
         start: EMPTY,
@@ -281,32 +316,33 @@ static LAST_SENDINGS: [Row; 6] = [
         ],
         leads: Nowhere,
     },
-    Row {
-        name: "a client that goes leaves its messages in flight until they are due",
-        start: EMPTY,
-        story: &THREE_TWO_SENT,
-        then: &[
-            At(0, 2, Gone),
-            At(MINUTE, 0, TimedOut("t", "c", 0)),
-            At(MINUTE, 0, TimedOut("t", "c", 1)),
-        ],
-        leads: To("t", "c", [3, 0, 0]),
-    },
 ];
 
-fn first_sendings() -> &'static [Row] {
-    &FIRST_SENDINGS
+static LAST_SENDINGS_3: [Row; 1] = [Row {
+    name: "a client that goes leaves its messages in flight until they are due",
+    start: EMPTY,
+    story: &THREE_TWO_SENT,
+    then: &[
+        At(0, 2, Gone),
+        At(MINUTE, 0, TimedOut("t", "c", 0)),
+        At(MINUTE, 0, TimedOut("t", "c", 1)),
+    ],
+    leads: To("t", "c", [3, 0, 0]),
+}];
+
+fn last_sendings_1() -> &'static [Row] {
+    &LAST_SENDINGS_1
 }
 
-fn more_sendings() -> &'static [Row] {
-    &MORE_SENDINGS
+fn last_sendings_2() -> &'static [Row] {
+    &LAST_SENDINGS_2
 }
 
-fn last_sendings() -> &'static [Row] {
-    &LAST_SENDINGS
+fn last_sendings_3() -> &'static [Row] {
+    &LAST_SENDINGS_3
 }
 
-static FIRST_RETURNS: [Row; 7] = [
+static FIRST_RETURNS_1: [Row; 2] = [
     Row {
         name: "FIN of a message that was finished is refused, and the connection goes on",
         start: EMPTY,
@@ -325,6 +361,9 @@ static FIRST_RETURNS: [Row; 7] = [
         then: &[At(0, 2, Fin(0, Nothing)), At(0, 2, Fin(0, Nothing))],
         leads: Nowhere,
     },
+];
+
+static FIRST_RETURNS_2: [Row; 2] = [
     Row {
         name: "FIN, TOUCH and REQ of another client's message are refused",
         start: EMPTY,
@@ -343,6 +382,9 @@ static FIRST_RETURNS: [Row; 7] = [
         then: &[At(0, 3, Fin(0, Nothing))],
         leads: Nowhere,
     },
+];
+
+static FIRST_RETURNS_3: [Row; 2] = [
     Row {
         name: "a message that is due comes back before a command of that moment, and is sent again",
         start: SHORT,
@@ -361,16 +403,33 @@ static FIRST_RETURNS: [Row; 7] = [
         then: &[At(SECOND, 2, Fin(0, Nothing))],
         leads: Nowhere,
     },
-    Row {
-        name: "a message times out one nanosecond early",
-        start: SHORT,
-        story: &ONE_IS_SENT,
-        then: &[At(SECOND - 1, 0, TimedOut("t", "c", 0))],
-        leads: Nowhere,
-    },
 ];
 
-static MORE_RETURNS: [Row; 7] = [
+static FIRST_RETURNS_4: [Row; 1] = [Row {
+    name: "a message times out one nanosecond early",
+    start: SHORT,
+    story: &ONE_IS_SENT,
+    then: &[At(SECOND - 1, 0, TimedOut("t", "c", 0))],
+    leads: Nowhere,
+}];
+
+fn first_returns_1() -> &'static [Row] {
+    &FIRST_RETURNS_1
+}
+
+fn first_returns_2() -> &'static [Row] {
+    &FIRST_RETURNS_2
+}
+
+fn first_returns_3() -> &'static [Row] {
+    &FIRST_RETURNS_3
+}
+
+fn first_returns_4() -> &'static [Row] {
+    &FIRST_RETURNS_4
+}
+
+static MORE_RETURNS_1: [Row; 2] = [
     Row {
         name: "a message that timed out is still in flight, and so finished",
         start: SHORT,
@@ -391,6 +450,9 @@ static MORE_RETURNS: [Row; 7] = [
         ],
         leads: Nowhere,
     },
+];
+
+static MORE_RETURNS_2: [Row; 3] = [
     Row {
         name: "TOUCH puts the end off by the client's time",
         start: EMPTY,
@@ -422,6 +484,9 @@ static MORE_RETURNS: [Row; 7] = [
         ],
         leads: To("t", "c", [2, 0, 1]),
     },
+];
+
+static MORE_RETURNS_3: [Row; 2] = [
     Row {
         name: "a delay beyond the longest one is brought into range",
         start: EMPTY,
@@ -447,7 +512,19 @@ static MORE_RETURNS: [Row; 7] = [
     },
 ];
 
-static LAST_RETURNS: [Row; 7] = [
+fn more_returns_1() -> &'static [Row] {
+    &MORE_RETURNS_1
+}
+
+fn more_returns_2() -> &'static [Row] {
+    &MORE_RETURNS_2
+}
+
+fn more_returns_3() -> &'static [Row] {
+    &MORE_RETURNS_3
+}
+
+static LAST_RETURNS_1: [Row; 3] = [
     Row {
         name: "a deferred message comes one nanosecond early",
         start: EMPTY,
@@ -472,6 +549,9 @@ static LAST_RETURNS: [Row; 7] = [
         then: &[At(0, 2, Req(0, -5, Nothing)), At(0, 2, Sent(0, 2))],
         leads: To("t", "c", [1, 2, 0]),
     },
+];
+
+static LAST_RETURNS_2: [Row; 3] = [
     Row {
         name: "a client that is closing gets no message, and still may finish one",
         start: EMPTY,
@@ -504,35 +584,46 @@ static LAST_RETURNS: [Row; 7] = [
         ],
         leads: To("t", "c", [1, 0, 0]),
     },
-    Row {
-        name: "a stop leaves what is queued, in flight and deferred",
-        start: EMPTY,
-        story: &THREE_TWO_SENT,
-        then: &[
-            At(0, 2, Rdy(1, Nothing)),
-            At(0, 2, Req(0, 5_000, Nothing)),
-            At(0, 2, Gone),
-            At(0, 0, Stop),
-        ],
-        leads: To("t", "c", [1, 1, 1]),
-    },
 ];
 
-fn first_returns() -> &'static [Row] {
-    &FIRST_RETURNS
+static LAST_RETURNS_3: [Row; 1] = [Row {
+    name: "a stop leaves what is queued, in flight and deferred",
+    start: EMPTY,
+    story: &THREE_TWO_SENT,
+    then: &[
+        At(0, 2, Rdy(1, Nothing)),
+        At(0, 2, Req(0, 5_000, Nothing)),
+        At(0, 2, Gone),
+        At(0, 0, Stop),
+    ],
+    leads: To("t", "c", [1, 1, 1]),
+}];
+
+fn last_returns_1() -> &'static [Row] {
+    &LAST_RETURNS_1
 }
 
-fn more_returns() -> &'static [Row] {
-    &MORE_RETURNS
+fn last_returns_2() -> &'static [Row] {
+    &LAST_RETURNS_2
 }
 
-fn last_returns() -> &'static [Row] {
-    &LAST_RETURNS
+fn last_returns_3() -> &'static [Row] {
+    &LAST_RETURNS_3
 }
 
 #[test]
 fn sendings(rt: HostRuntime) -> Result<(), Memory> {
-    let parts = [first_sendings(), more_sendings(), last_sendings()];
+    let parts = [
+        first_sendings_1(),
+        first_sendings_2(),
+        first_sendings_3(),
+        more_sendings_1(),
+        more_sendings_2(),
+        more_sendings_3(),
+        last_sendings_1(),
+        last_sendings_2(),
+        last_sendings_3(),
+    ];
     let wrong = wrong(rt.alloc(), &parts)?;
     assert!(rt; wrong.is_none(), "{}", wrong.unwrap_or(""));
     Ok(())
@@ -540,7 +631,18 @@ fn sendings(rt: HostRuntime) -> Result<(), Memory> {
 
 #[test]
 fn returns(rt: HostRuntime) -> Result<(), Memory> {
-    let parts = [first_returns(), more_returns(), last_returns()];
+    let parts = [
+        first_returns_1(),
+        first_returns_2(),
+        first_returns_3(),
+        first_returns_4(),
+        more_returns_1(),
+        more_returns_2(),
+        more_returns_3(),
+        last_returns_1(),
+        last_returns_2(),
+        last_returns_3(),
+    ];
     let wrong = wrong(rt.alloc(), &parts)?;
     assert!(rt; wrong.is_none(), "{}", wrong.unwrap_or(""));
     Ok(())

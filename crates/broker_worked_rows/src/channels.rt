@@ -146,25 +146,27 @@ const CLOSED_TWICE: Talk = Talk {
     ended: Ended::Closed,
 };
 
-static ROWS: [Row; 7] = [
-    Row {
-        name: "three that wait go to the channel that comes first",
-        start: EMPTY,
-        story: &[&ONE_AFTER_ANOTHER],
-        then: &[At(0, 4, Told(3, &[HAS_THREE, HAS_NONE]))],
-        talks: &[PUBLISHED_THREE, JOINED_FIRST, JOINED_SECOND],
-        leaves: &[],
-        is: Is::Both,
-    },
-    Row {
-        name: "three that wait go to both channels",
-        start: EMPTY,
-        story: &[&ONE_AFTER_ANOTHER],
-        then: &[At(0, 4, Told(3, &[HAS_THREE, HAS_THREE_TOO]))],
-        talks: &[PUBLISHED_THREE, JOINED_FIRST, JOINED_SECOND],
-        leaves: &[],
-        is: Is::NoHistory,
-    },
+static ROWS_1: [Row; 1] = [Row {
+    name: "three that wait go to the channel that comes first",
+    start: EMPTY,
+    story: &[&ONE_AFTER_ANOTHER],
+    then: &[At(0, 4, Told(3, &[HAS_THREE, HAS_NONE]))],
+    talks: &[PUBLISHED_THREE, JOINED_FIRST, JOINED_SECOND],
+    leaves: &[],
+    is: Is::Both,
+}];
+
+static ROWS_2: [Row; 1] = [Row {
+    name: "three that wait go to both channels",
+    start: EMPTY,
+    story: &[&ONE_AFTER_ANOTHER],
+    then: &[At(0, 4, Told(3, &[HAS_THREE, HAS_THREE_TOO]))],
+    talks: &[PUBLISHED_THREE, JOINED_FIRST, JOINED_SECOND],
+    leaves: &[],
+    is: Is::NoHistory,
+}];
+
+static ROWS_3: [Row; 2] = [
     Row {
         name: "without memory a message waits on disk, and is sent",
         start: NO_MEMORY,
@@ -190,6 +192,9 @@ static ROWS: [Row; 7] = [
         leaves: &[],
         is: Is::Both,
     },
+];
+
+static ROWS_4: [Row; 2] = [
     Row {
         name: "without memory a message comes to an ephemeral channel",
         start: NO_MEMORY,
@@ -214,30 +219,47 @@ static ROWS: [Row; 7] = [
         leaves: &[],
         is: Is::Both,
     },
-    Row {
-        name: "a client that closes gets a message",
-        start: EMPTY,
-        story: &[&CLOSES],
-        then: &[
-            At(0, 2, Sent(A, 1)),
-            At(0, 2, Idle),
-            At(0, 2, Did(Cls, WrongState)),
-            At(0, 2, Gone),
-        ],
-        talks: &[
-            PUBLISHED_A,
-            Talk {
-                got: &[Okay, CloseWait, GotA, WrongState],
-                ..CLOSED_TWICE
-            },
-        ],
-        leaves: &[],
-        is: Is::NoHistory,
-    },
 ];
 
-pub fn rows() -> &'static [Row] {
-    &ROWS
+static ROWS_5: [Row; 1] = [Row {
+    name: "a client that closes gets a message",
+    start: EMPTY,
+    story: &[&CLOSES],
+    then: &[
+        At(0, 2, Sent(A, 1)),
+        At(0, 2, Idle),
+        At(0, 2, Did(Cls, WrongState)),
+        At(0, 2, Gone),
+    ],
+    talks: &[
+        PUBLISHED_A,
+        Talk {
+            got: &[Okay, CloseWait, GotA, WrongState],
+            ..CLOSED_TWICE
+        },
+    ],
+    leaves: &[],
+    is: Is::NoHistory,
+}];
+
+pub fn rows_1() -> &'static [Row] {
+    &ROWS_1
+}
+
+pub fn rows_2() -> &'static [Row] {
+    &ROWS_2
+}
+
+pub fn rows_3() -> &'static [Row] {
+    &ROWS_3
+}
+
+pub fn rows_4() -> &'static [Row] {
+    &ROWS_4
+}
+
+pub fn rows_5() -> &'static [Row] {
+    &ROWS_5
 }
 
 const CAME: [Line; 2] = [At(0, 1, Began), At(0, 1, Idle)];
@@ -299,7 +321,7 @@ const DEFERRED_IT: Talk = Talk {
     ended: Ended::Closed,
 };
 
-static MORE_ROWS: [Row; 7] = [
+static MORE_ROWS_1: [Row; 3] = [
     Row {
         name: "a client that negotiates gets the features",
         start: EMPTY,
@@ -342,6 +364,9 @@ static MORE_ROWS: [Row; 7] = [
         leaves: &[],
         is: Is::Both,
     },
+];
+
+static MORE_ROWS_2: [Row; 2] = [
     Row {
         name: "a client that says an array is refused and closed",
         start: EMPTY,
@@ -368,36 +393,50 @@ static MORE_ROWS: [Row; 7] = [
         leaves: &[],
         is: Is::NoHistory,
     },
-    Row {
-        name: "a message with a delay waits after it, and one with a longer delay is refused",
-        start: EMPTY,
-        story: &[&IS_DEFERRED],
-        then: &[
-            At(SECOND, 0, CameDue(Late)),
-            At(SECOND, 6, Told(1, &[WAITS])),
-            At(SECOND, 1, Did(DpubTooLong, BadDelay)),
-            At(SECOND, 1, Gone),
-        ],
-        talks: &[DEFERRED_IT],
-        leaves: &[],
-        is: Is::Both,
-    },
-    Row {
-        name: "a message with a delay waits one nanosecond before its end",
-        start: EMPTY,
-        story: &[&IS_DEFERRED],
-        then: &[
-            At(SECOND - 1, 0, CameDue(Late)),
-            At(SECOND, 6, Told(1, &[WAITS])),
-            At(SECOND, 1, Did(DpubTooLong, BadDelay)),
-            At(SECOND, 1, Gone),
-        ],
-        talks: &[DEFERRED_IT],
-        leaves: &[],
-        is: Is::NoHistory,
-    },
 ];
 
-pub fn more_rows() -> &'static [Row] {
-    &MORE_ROWS
+static MORE_ROWS_3: [Row; 1] = [Row {
+    name: "a message with a delay waits after it, and one with a longer delay is refused",
+    start: EMPTY,
+    story: &[&IS_DEFERRED],
+    then: &[
+        At(SECOND, 0, CameDue(Late)),
+        At(SECOND, 6, Told(1, &[WAITS])),
+        At(SECOND, 1, Did(DpubTooLong, BadDelay)),
+        At(SECOND, 1, Gone),
+    ],
+    talks: &[DEFERRED_IT],
+    leaves: &[],
+    is: Is::Both,
+}];
+
+static MORE_ROWS_4: [Row; 1] = [Row {
+    name: "a message with a delay waits one nanosecond before its end",
+    start: EMPTY,
+    story: &[&IS_DEFERRED],
+    then: &[
+        At(SECOND - 1, 0, CameDue(Late)),
+        At(SECOND, 6, Told(1, &[WAITS])),
+        At(SECOND, 1, Did(DpubTooLong, BadDelay)),
+        At(SECOND, 1, Gone),
+    ],
+    talks: &[DEFERRED_IT],
+    leaves: &[],
+    is: Is::NoHistory,
+}];
+
+pub fn more_rows_1() -> &'static [Row] {
+    &MORE_ROWS_1
+}
+
+pub fn more_rows_2() -> &'static [Row] {
+    &MORE_ROWS_2
+}
+
+pub fn more_rows_3() -> &'static [Row] {
+    &MORE_ROWS_3
+}
+
+pub fn more_rows_4() -> &'static [Row] {
+    &MORE_ROWS_4
 }

@@ -135,7 +135,7 @@ const GOT_OF_C: Talk = Talk {
     ..GOT_OF_A
 };
 
-static ROWS: [Row; 6] = [
+static ROWS_1: [Row; 2] = [
     Row {
         name: "turns of two clients, a deletion and a stop",
         start: EMPTY,
@@ -157,78 +157,98 @@ static ROWS: [Row; 6] = [
         leaves: &[],
         is: Is::NoHistory,
     },
-    Row {
-        name: "the daemon stops twice",
-        start: EMPTY,
-        story: &[
-            &TWO_CLIENTS,
-            &[At(0, 1, Did(Fin0, NotInFlight))],
-            &AND_ITS_END,
-        ],
-        then: &[At(0, 0, Stop)],
-        talks: &[FINISHED_ANOTHERS, FINISHED_ITS_OWN],
-        leaves: &[],
-        is: Is::NoHistory,
-    },
-    Row {
-        name: "a turn ends at a copy that a disk fault kept off, and the next one makes it",
-        start: NO_MEMORY,
-        story: &[
-            &ONE_COPY,
-            &[Faulted(0, 0, Copied("b", X, 0)), At(0, 1, Idle)],
-            &OTHER_COPIES,
-        ],
-        then: &TO_EACH,
-        talks: &[PUBLISHED_X, GOT_OF_A, GOT_OF_B, GOT_OF_C],
-        leaves: &[],
-        is: Is::Both,
-    },
-    Row {
-        name: "a turn ends at a copy that no disk fault kept off",
-        start: NO_MEMORY,
-        story: &[&ONE_COPY],
-        then: &[
-            At(0, 1, Idle),
-            At(0, 0, Copied("b", X, 0)),
-            At(0, 0, Copied("c", X, 0)),
-            At(0, 1, Gone),
-        ],
-        talks: &[PUBLISHED_X],
-        leaves: &[],
-        is: Is::NoHistory,
-    },
-    Row {
-        name: "a channel has the message twice behind a disk fault",
-        start: NO_MEMORY,
-        story: &[
-            &ONE_COPY,
-            &[Faulted(0, 0, Copied("b", X, 0)), At(0, 1, Idle)],
-            &OTHER_COPIES,
-        ],
-        then: &[
-            At(0, 3, Began),
-            At(0, 3, Idle),
-            At(0, 3, Did(SubB, Okay)),
-            At(0, 3, Did(Rdy2, Nothing)),
-            At(0, 3, Sent(X, 1)),
-            At(0, 3, Sent(X, 1)),
-            At(0, 3, Idle),
-            At(0, 3, Gone),
-        ],
-        talks: &[
-            PUBLISHED_X,
-            Talk {
-                got: &[Okay, GotX, GotX],
-                ..GOT_OF_B
-            },
-        ],
-        leaves: &[],
-        is: Is::NoHistory,
-    },
 ];
 
-pub fn rows() -> &'static [Row] {
-    &ROWS
+static ROWS_2: [Row; 1] = [Row {
+    name: "the daemon stops twice",
+    start: EMPTY,
+    story: &[
+        &TWO_CLIENTS,
+        &[At(0, 1, Did(Fin0, NotInFlight))],
+        &AND_ITS_END,
+    ],
+    then: &[At(0, 0, Stop)],
+    talks: &[FINISHED_ANOTHERS, FINISHED_ITS_OWN],
+    leaves: &[],
+    is: Is::NoHistory,
+}];
+
+static ROWS_3: [Row; 1] = [Row {
+    name: "a turn ends at a copy that a disk fault kept off, and the next one makes it",
+    start: NO_MEMORY,
+    story: &[
+        &ONE_COPY,
+        &[Faulted(0, 0, Copied("b", X, 0)), At(0, 1, Idle)],
+        &OTHER_COPIES,
+    ],
+    then: &TO_EACH,
+    talks: &[PUBLISHED_X, GOT_OF_A, GOT_OF_B, GOT_OF_C],
+    leaves: &[],
+    is: Is::Both,
+}];
+
+static ROWS_4: [Row; 1] = [Row {
+    name: "a turn ends at a copy that no disk fault kept off",
+    start: NO_MEMORY,
+    story: &[&ONE_COPY],
+    then: &[
+        At(0, 1, Idle),
+        At(0, 0, Copied("b", X, 0)),
+        At(0, 0, Copied("c", X, 0)),
+        At(0, 1, Gone),
+    ],
+    talks: &[PUBLISHED_X],
+    leaves: &[],
+    is: Is::NoHistory,
+}];
+
+static ROWS_5: [Row; 1] = [Row {
+    name: "a channel has the message twice behind a disk fault",
+    start: NO_MEMORY,
+    story: &[
+        &ONE_COPY,
+        &[Faulted(0, 0, Copied("b", X, 0)), At(0, 1, Idle)],
+        &OTHER_COPIES,
+    ],
+    then: &[
+        At(0, 3, Began),
+        At(0, 3, Idle),
+        At(0, 3, Did(SubB, Okay)),
+        At(0, 3, Did(Rdy2, Nothing)),
+        At(0, 3, Sent(X, 1)),
+        At(0, 3, Sent(X, 1)),
+        At(0, 3, Idle),
+        At(0, 3, Gone),
+    ],
+    talks: &[
+        PUBLISHED_X,
+        Talk {
+            got: &[Okay, GotX, GotX],
+            ..GOT_OF_B
+        },
+    ],
+    leaves: &[],
+    is: Is::NoHistory,
+}];
+
+pub fn rows_1() -> &'static [Row] {
+    &ROWS_1
+}
+
+pub fn rows_2() -> &'static [Row] {
+    &ROWS_2
+}
+
+pub fn rows_3() -> &'static [Row] {
+    &ROWS_3
+}
+
+pub fn rows_4() -> &'static [Row] {
+    &ROWS_4
+}
+
+pub fn rows_5() -> &'static [Row] {
+    &ROWS_5
 }
 
 // Three messages wait; two of them are sent, and the client gives the first back for later, and ends; the daemon stops.
@@ -332,69 +352,87 @@ const GOT_FOUR: Talk = Talk {
     ended: Ended::EndOfInput,
 };
 
-static MORE_ROWS: [Row; 5] = [
-    Row {
-        name: "a stop leaves what is queued, in flight and deferred",
-        start: EMPTY,
-        story: &[&THREE_ARE_LEFT],
-        then: &AND_A_STOP,
-        talks: &[PUBLISHED_THREE, GAVE_ONE_BACK],
-        leaves: &FILES,
-        is: Is::Both,
-    },
-    Row {
-        name: "a stop leaves a message without its attempts",
-        start: EMPTY,
-        story: &[&THREE_ARE_LEFT],
-        then: &AND_A_STOP,
-        talks: &[PUBLISHED_THREE, GAVE_ONE_BACK],
-        leaves: &OTHER_FILES,
-        is: Is::NoHistory,
-    },
-    Row {
-        name: "a second run has what was left, and new ids",
-        start: SECOND_RUN,
-        story: &[&PUBLISHES_AGAIN, &IS_MOVED],
-        then: &FOUR_ARE_SENT,
-        talks: &[PUBLISHED_D, GOT_FOUR],
-        leaves: &[],
-        is: Is::Both,
-    },
-    Row {
-        name: "a second run goes on with the ids of the first",
-        start: SECOND_RUN,
-        story: &[&PUBLISHES_AGAIN],
-        then: &[Moved(&["c"], &[D]), At(0, 1, Idle), At(0, 1, Gone)],
-        talks: &[PUBLISHED_D],
-        leaves: &[],
-        is: Is::NoHistory,
-    },
-    Row {
-        name: "a second run forgets the attempts of what was left",
-        start: SECOND_RUN,
-        story: &[&PUBLISHES_AGAIN, &IS_MOVED],
-        then: &[
-            At(0, 2, Began),
-            At(0, 2, Idle),
-            At(0, 2, Did(SubC, Okay)),
-            At(0, 2, Did(Rdy1, Nothing)),
-            At(0, 2, Sent(B, 1)),
-            At(0, 2, Idle),
-            At(0, 2, Gone),
-        ],
-        talks: &[
-            PUBLISHED_D,
-            Talk {
-                sent: &[&[Magic, SubC, Rdy1]],
-                got: &[Okay, GotB],
-                ..GOT_FOUR
-            },
-        ],
-        leaves: &[],
-        is: Is::NoHistory,
-    },
-];
+static MORE_ROWS_1: [Row; 1] = [Row {
+    name: "a stop leaves what is queued, in flight and deferred",
+    start: EMPTY,
+    story: &[&THREE_ARE_LEFT],
+    then: &AND_A_STOP,
+    talks: &[PUBLISHED_THREE, GAVE_ONE_BACK],
+    leaves: &FILES,
+    is: Is::Both,
+}];
 
-pub fn more_rows() -> &'static [Row] {
-    &MORE_ROWS
+static MORE_ROWS_2: [Row; 1] = [Row {
+    name: "a stop leaves a message without its attempts",
+    start: EMPTY,
+    story: &[&THREE_ARE_LEFT],
+    then: &AND_A_STOP,
+    talks: &[PUBLISHED_THREE, GAVE_ONE_BACK],
+    leaves: &OTHER_FILES,
+    is: Is::NoHistory,
+}];
+
+static MORE_ROWS_3: [Row; 1] = [Row {
+    name: "a second run has what was left, and new ids",
+    start: SECOND_RUN,
+    story: &[&PUBLISHES_AGAIN, &IS_MOVED],
+    then: &FOUR_ARE_SENT,
+    talks: &[PUBLISHED_D, GOT_FOUR],
+    leaves: &[],
+    is: Is::Both,
+}];
+
+static MORE_ROWS_4: [Row; 1] = [Row {
+    name: "a second run goes on with the ids of the first",
+    start: SECOND_RUN,
+    story: &[&PUBLISHES_AGAIN],
+    then: &[Moved(&["c"], &[D]), At(0, 1, Idle), At(0, 1, Gone)],
+    talks: &[PUBLISHED_D],
+    leaves: &[],
+    is: Is::NoHistory,
+}];
+
+static MORE_ROWS_5: [Row; 1] = [Row {
+    name: "a second run forgets the attempts of what was left",
+    start: SECOND_RUN,
+    story: &[&PUBLISHES_AGAIN, &IS_MOVED],
+    then: &[
+        At(0, 2, Began),
+        At(0, 2, Idle),
+        At(0, 2, Did(SubC, Okay)),
+        At(0, 2, Did(Rdy1, Nothing)),
+        At(0, 2, Sent(B, 1)),
+        At(0, 2, Idle),
+        At(0, 2, Gone),
+    ],
+    talks: &[
+        PUBLISHED_D,
+        Talk {
+            sent: &[&[Magic, SubC, Rdy1]],
+            got: &[Okay, GotB],
+            ..GOT_FOUR
+        },
+    ],
+    leaves: &[],
+    is: Is::NoHistory,
+}];
+
+pub fn more_rows_1() -> &'static [Row] {
+    &MORE_ROWS_1
+}
+
+pub fn more_rows_2() -> &'static [Row] {
+    &MORE_ROWS_2
+}
+
+pub fn more_rows_3() -> &'static [Row] {
+    &MORE_ROWS_3
+}
+
+pub fn more_rows_4() -> &'static [Row] {
+    &MORE_ROWS_4
+}
+
+pub fn more_rows_5() -> &'static [Row] {
+    &MORE_ROWS_5
 }

@@ -120,12 +120,14 @@ impl Dice {
     }
 
     fn topic_call(&mut self, out: &mut String, word: &str) -> Result<(), Memory> {
-        put_each(out, &[word, self.topic()])
+        put(out, word)?;
+        put(out, self.topic())
     }
 
     fn channel_call(&mut self, out: &mut String, word: &str) -> Result<(), Memory> {
-        let topic = self.topic();
-        put_each(out, &[word, topic, " ", self.channel()])
+        self.topic_call(out, word)?;
+        put(out, " ")?;
+        put(out, self.channel())
     }
 
     /// What a client publishes.
@@ -181,11 +183,11 @@ impl Dice {
     /// What a client does with a message of this id.
     pub fn handles(&mut self, out: &mut String, id: &str) -> Result<(), Memory> {
         match self.below(8) {
-            0 | 1 | 2 => put_each(out, &["FIN ", id]),
-            3 | 4 => put_each(out, &["TOUCH ", id]),
+            0 | 1 | 2 => put_id(out, "FIN ", id),
+            3 | 4 => put_id(out, "TOUCH ", id),
             _ => {
-                let delay = self.word(&[" 0", " 0", " 300", " 1000", " 99999999"]);
-                put_each(out, &["REQ ", id, delay])
+                put_id(out, "REQ ", id)?;
+                put(out, self.word(&[" 0", " 0", " 300", " 1000", " 99999999"]))
             }
         }
     }
@@ -194,6 +196,12 @@ impl Dice {
 fn put(out: &mut String, text: &str) -> Result<(), Memory> {
     out.push_str(text)?;
     Ok(())
+}
+
+// A command's word with the id of a message.
+fn put_id(out: &mut String, word: &str, id: &str) -> Result<(), Memory> {
+    put(out, word)?;
+    put(out, id)
 }
 
 fn put_each(out: &mut String, texts: &[&str]) -> Result<(), Memory> {

@@ -1,7 +1,7 @@
 use crate::requests::{Row, Wanted};
 
 /// Publishes of lines.
-pub(crate) const LINES: [Row; 12] = [
+static LINES_1: [Row; 7] = [
     Row {
         name: "two lines, and an empty one between them",
         bytes: b"POST /mpub?topic=t HTTP/1.1\r\nContent-Length: 4\r\n\r\na\n\nb",
@@ -37,6 +37,9 @@ pub(crate) const LINES: [Row; 12] = [
         bytes: b"POST /mpub?topic=t HTTP/1.1\r\nContent-Length: 2\r\n\r\n\r\n",
         wanted: Wanted::Publish(b"t", 0, &[b"\r"]),
     },
+];
+
+static LINES_2: [Row; 5] = [
     Row {
         name: "a line as long as one may be",
         bytes: b"POST /mpub?topic=t HTTP/1.1\r\nContent-Length: 10\r\n\r\n12345678\nx",
@@ -64,8 +67,16 @@ pub(crate) const LINES: [Row; 12] = [
     },
 ];
 
+pub(crate) fn lines_1() -> &'static [Row] {
+    &LINES_1
+}
+
+pub(crate) fn lines_2() -> &'static [Row] {
+    &LINES_2
+}
+
 /// Publishes of batches as MPUB has them.
-pub(crate) const BATCHES: [Row; 13] = [
+static BATCHES_1: [Row; 8] = [
     Row {
         name: "one message",
         bytes: b"POST /mpub?topic=t&binary=true HTTP/1.1\r\nContent-Length: 9\r\n\r\n\x00\x00\x00\x01\x00\x00\x00\x01a",
@@ -106,6 +117,9 @@ pub(crate) const BATCHES: [Row; 13] = [
         bytes: b"POST /mpub?topic=t&binary=true HTTP/1.1\r\nContent-Length: 7\r\n\r\n\x00\x00\x00\x01\x00\x00\x00",
         wanted: Wanted::Refused(413, b"{\"message\":\"BAD_BODY\"}"),
     },
+];
+
+static BATCHES_2: [Row; 5] = [
     Row {
         name: "a size of 0",
         bytes: b"POST /mpub?topic=t&binary=true HTTP/1.1\r\nContent-Length: 8\r\n\r\n\x00\x00\x00\x01\x00\x00\x00\x00",
@@ -132,3 +146,11 @@ pub(crate) const BATCHES: [Row; 13] = [
         wanted: Wanted::Refused(413, b"{\"message\":\"BAD_BODY\"}"),
     },
 ];
+
+pub(crate) fn batches_1() -> &'static [Row] {
+    &BATCHES_1
+}
+
+pub(crate) fn batches_2() -> &'static [Row] {
+    &BATCHES_2
+}

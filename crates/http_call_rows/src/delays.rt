@@ -1,7 +1,7 @@
 use crate::requests::{Row, Wanted};
 
 /// Publishes of one message.
-pub(crate) const MESSAGES: [Row; 8] = [
+static MESSAGES_1: [Row; 8] = [
     Row {
         name: "a message",
         bytes: b"POST /pub?topic=test HTTP/1.1\r\nHost: 127.0.0.1:4151\r\nUser-Agent: curl/8.5.0\r\nAccept: */*\r\nContent-Length: 5\r\nContent-Type: application/x-www-form-urlencoded\r\n\r\nhello",
@@ -44,8 +44,12 @@ pub(crate) const MESSAGES: [Row; 8] = [
     },
 ];
 
+pub(crate) fn messages_1() -> &'static [Row] {
+    &MESSAGES_1
+}
+
 /// Their delays.
-pub(crate) const DELAYS: [Row; 12] = [
+static DELAYS_1: [Row; 8] = [
     Row {
         name: "none",
         bytes: b"POST /pub?topic=t&defer=0 HTTP/1.1\r\nContent-Length: 1\r\n\r\nx",
@@ -86,6 +90,9 @@ pub(crate) const DELAYS: [Row; 12] = [
         bytes: b"POST /pub?topic=t&defer=000000000000000007 HTTP/1.1\r\nContent-Length: 1\r\n\r\nx",
         wanted: Wanted::Publish(b"t", 7_000_000, &[b"x"]),
     },
+];
+
+static DELAYS_2: [Row; 4] = [
     Row {
         name: "19 digits",
         bytes: b"POST /pub?topic=t&defer=0000000000000000007 HTTP/1.1\r\nContent-Length: 1\r\n\r\nx",
@@ -107,3 +114,11 @@ pub(crate) const DELAYS: [Row; 12] = [
         wanted: Wanted::Refused(400, b"{\"message\":\"INVALID_DEFER\"}"),
     },
 ];
+
+pub(crate) fn delays_1() -> &'static [Row] {
+    &DELAYS_1
+}
+
+pub(crate) fn delays_2() -> &'static [Row] {
+    &DELAYS_2
+}

@@ -1,7 +1,7 @@
 use crate::requests::{Act, Row, Wanted};
 
 /// Calls that take a topic.
-pub(crate) const TOPICS: [Row; 11] = [
+static TOPICS_1: [Row; 11] = [
     Row {
         name: "no query",
         bytes: b"POST /topic/create HTTP/1.1\r\n\r\n",
@@ -63,8 +63,12 @@ pub(crate) const TOPICS: [Row; 11] = [
     },
 ];
 
+pub(crate) fn topics_1() -> &'static [Row] {
+    &TOPICS_1
+}
+
 /// Calls that take a topic and a channel.
-pub(crate) const CHANNELS: [Row; 8] = [
+static CHANNELS_1: [Row; 8] = [
     Row {
         name: "no names",
         bytes: b"POST /channel/create HTTP/1.1\r\n\r\n",
@@ -106,3 +110,7 @@ pub(crate) const CHANNELS: [Row; 8] = [
         wanted: Wanted::On(Act::Create, b"t", Some(b"c")),
     },
 ];
+
+pub(crate) fn channels_1() -> &'static [Row] {
+    &CHANNELS_1
+}

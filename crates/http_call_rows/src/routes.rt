@@ -1,7 +1,7 @@
 use crate::requests::{Row, Wanted};
 
 /// Paths and methods, where no stop is served.
-pub(crate) const PATHS: [Row; 11] = [
+static PATHS_1: [Row; 10] = [
     Row {
         name: "a ping",
         bytes: b"GET /ping HTTP/1.1\r\n\r\n",
@@ -52,15 +52,24 @@ pub(crate) const PATHS: [Row; 11] = [
         bytes: b"POST /stop HTTP/1.1\r\n\r\n",
         wanted: Wanted::Refused(404, b"{\"message\":\"NOT_FOUND\"}"),
     },
-    Row {
-        name: "the same by GET",
-        bytes: b"GET /stop HTTP/1.1\r\n\r\n",
-        wanted: Wanted::Refused(404, b"{\"message\":\"NOT_FOUND\"}"),
-    },
 ];
 
+static PATHS_2: [Row; 1] = [Row {
+    name: "the same by GET",
+    bytes: b"GET /stop HTTP/1.1\r\n\r\n",
+    wanted: Wanted::Refused(404, b"{\"message\":\"NOT_FOUND\"}"),
+}];
+
+pub(crate) fn paths_1() -> &'static [Row] {
+    &PATHS_1
+}
+
+pub(crate) fn paths_2() -> &'static [Row] {
+    &PATHS_2
+}
+
 /// The same, where a stop is served, and bytes that are no request.
-pub(crate) const STOPS: [Row; 9] = [
+static STOPS_1: [Row; 9] = [
     Row {
         name: "a stop",
         bytes: b"POST /stop HTTP/1.1\r\n\r\n",
@@ -110,3 +119,7 @@ pub(crate) const STOPS: [Row; 9] = [
         wanted: Wanted::Refused(413, b"{\"message\":\"BODY_TOO_BIG\"}"),
     },
 ];
+
+pub(crate) fn stops_1() -> &'static [Row] {
+    &STOPS_1
+}

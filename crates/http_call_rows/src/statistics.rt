@@ -1,7 +1,7 @@
 use crate::requests::{Row, Wanted};
 
 /// Statistics.
-pub(crate) const ROWS: [Row; 11] = [
+static ROWS_1: [Row; 11] = [
     Row {
         name: "of all",
         bytes: b"GET /stats?format=json HTTP/1.1\r\n\r\n",
@@ -58,3 +58,7 @@ pub(crate) const ROWS: [Row; 11] = [
         wanted: Wanted::Refused(405, b"{\"message\":\"METHOD_NOT_ALLOWED\"}"),
     },
 ];
+
+pub(crate) fn rows_1() -> &'static [Row] {
+    &ROWS_1
+}

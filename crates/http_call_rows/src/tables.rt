@@ -1,74 +1,51 @@
 use crate::requests::{Row, holds};
 use crate::{batches, delays, names, routes, statistics, verbs};
+use nsq_base::Memory;
+use std::alloc::Global;
 use std::test::Fail;
 
-/// A table of requests, to a daemon that serves a stop or doesn't.
-struct Table {
-    name: &'static str,
-    stops: bool,
-    rows: &'static [Row],
+/// Requests to a daemon that serves no stop.
+fn tables() -> [&'static [Row]; 13] {
+    [
+        routes::paths_1(),
+        routes::paths_2(),
+        verbs::verbs_1(),
+        names::topics_1(),
+        names::channels_1(),
+        delays::messages_1(),
+        delays::delays_1(),
+        delays::delays_2(),
+        batches::lines_1(),
+        batches::lines_2(),
+        batches::batches_1(),
+        batches::batches_2(),
+        statistics::rows_1(),
+    ]
 }
 
-static TABLES: [Table; 10] = [
-    Table {
-        name: "paths",
-        stops: false,
-        rows: &routes::PATHS,
-    },
-    Table {
-        name: "stops",
-        stops: true,
-        rows: &routes::STOPS,
-    },
-    Table {
-        name: "verbs",
-        stops: false,
-        rows: &verbs::VERBS,
-    },
-    Table {
-        name: "topics",
-        stops: false,
-        rows: &names::TOPICS,
-    },
-    Table {
-        name: "channels",
-        stops: false,
-        rows: &names::CHANNELS,
-    },
-    Table {
-        name: "messages",
-        stops: false,
-        rows: &delays::MESSAGES,
-    },
-    Table {
-        name: "delays",
-        stops: false,
-        rows: &delays::DELAYS,
-    },
-    Table {
-        name: "lines",
-        stops: false,
-        rows: &batches::LINES,
-    },
-    Table {
-        name: "batches",
-        stops: false,
-        rows: &batches::BATCHES,
-    },
-    Table {
-        name: "statistics",
-        stops: false,
-        rows: &statistics::ROWS,
-    },
-];
+/// The name of the first row that doesn't hold, if there is one.
+fn wrong(alloc: Global, stops: bool, rows: &[Row]) -> Result<Option<&'static str>, Memory> {
+    for row in rows {
+        if !holds(alloc, stops, row)? {
+            return Ok(Some(row.name));
+        }
+    }
+    Ok(None)
+}
 
 #[test]
 fn rows(rt: HostRuntime) -> Result<(), Fail> {
-    for table in &TABLES {
-        for row in table.rows {
-            let holds = holds(rt.alloc(), table.stops, row)?;
-            assert!(rt; holds, "{}: {}", table.name, row.name);
-        }
+    for table in tables() {
+        let wrong = wrong(rt.alloc(), false, table)?;
+        assert!(rt; wrong.is_none(), "{}", wrong.unwrap_or(""));
     }
+    Ok(())
+}
+
+/// Requests to one that serves it.
+#[test]
+fn rows_where_a_stop_is_served(rt: HostRuntime) -> Result<(), Fail> {
+    let wrong = wrong(rt.alloc(), true, routes::stops_1())?;
+    assert!(rt; wrong.is_none(), "{}", wrong.unwrap_or(""));
     Ok(())
 }

@@ -1,7 +1,7 @@
 use crate::requests::{Part, Row, Wanted, Whole};
 
 /// Limits of bodies, and bodies in other forms.
-pub(crate) const ROWS: [Row; 11] = [
+static ROWS_1: [Row; 11] = [
     Row {
         name: "a limit of 0",
         bytes: &[Part::Text(b"POST /pub HTTP/1.1\r\nContent-Length: 0\r\n\r\n")],
@@ -89,3 +89,7 @@ pub(crate) const ROWS: [Row; 11] = [
         }),
     },
 ];
+
+pub(crate) fn rows_1() -> &'static [Row] {
+    &ROWS_1
+}

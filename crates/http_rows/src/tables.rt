@@ -3,24 +3,29 @@ use crate::{bodies, lengths, limits, lines, starts, targets};
 use std::test::Fail;
 
 /// All tables of requests.
-static TABLES: [&'static [Row]; 6] = [
-    &starts::ROWS,
-    &lines::ROWS,
-    &targets::ROWS,
-    &lengths::ROWS,
-    &bodies::ROWS,
-    &limits::ROWS,
-];
-
-/// The tables. What names a static carries all that it holds through each of its steps, so this one has a single step.
-fn tables() -> &'static [&'static [Row]] {
-    &TABLES
+fn tables() -> [&'static [Row]; 14] {
+    [
+        starts::rows_1(),
+        starts::rows_2(),
+        starts::rows_3(),
+        lines::rows_1(),
+        lines::rows_2(),
+        targets::rows_1(),
+        targets::rows_2(),
+        targets::rows_3(),
+        targets::rows_4(),
+        lengths::rows_1(),
+        lengths::rows_2(),
+        bodies::rows_1(),
+        limits::rows_1(),
+        limits::rows_2(),
+    ]
 }
 
 #[test]
 fn rows(rt: HostRuntime) -> Result<(), Fail> {
     for table in tables() {
-        for row in *table {
+        for row in table {
             let holds = holds(rt.alloc(), row)?;
             assert!(rt; holds, "{}", row.name);
         }

@@ -56,21 +56,21 @@ fn put_answer(
     let rest = body.len().saturating_add(behind.len());
     let mut digits = Buffer::new();
     let length = digits.format(before.len().saturating_add(rest)).as_bytes();
-    put_each(
-        out,
-        &[
-            b"HTTP/1.1 ",
-            status,
-            b"\r\nContent-Type: ",
-            kind,
-            b"; charset=utf-8\r\nContent-Length: ",
-            length,
-            b"\r\nConnection: close\r\n\r\n",
-            before,
-            body,
-            behind,
-        ],
-    )
+    put_head(out, status, kind, length)?;
+    put(out, before)?;
+    put(out, body)?;
+    put(out, behind)
+}
+
+// The head of an answer.
+fn put_head(out: &mut Vec<u8>, status: &[u8], kind: &[u8], length: &[u8]) -> Result<(), Memory> {
+    put(out, b"HTTP/1.1 ")?;
+    put(out, status)?;
+    put(out, b"\r\nContent-Type: ")?;
+    put(out, kind)?;
+    put(out, b"; charset=utf-8\r\nContent-Length: ")?;
+    put(out, length)?;
+    put(out, b"\r\nConnection: close\r\n\r\n")
 }
 
 pub fn put(out: &mut Vec<u8>, bytes: &[u8]) -> Result<(), Memory> {

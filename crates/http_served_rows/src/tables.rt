@@ -11,15 +11,41 @@ mod stops;
 use crate::answers::Gets;
 use crate::steps::Row;
 
-pub fn tables() -> [&'static [Row]; 7] {
+pub fn tables() -> [&'static [Row]; 33] {
     [
-        calls::rows(),
-        publishes::rows(),
-        statistics::rows(),
-        refusals::rows(),
-        faults::rows(),
-        stops::rows(),
-        endings::rows(),
+        calls::rows_1(),
+        calls::rows_2(),
+        calls::rows_3(),
+        calls::rows_4(),
+        calls::rows_5(),
+        publishes::rows_1(),
+        publishes::rows_2(),
+        publishes::rows_3(),
+        publishes::rows_4(),
+        statistics::rows_1(),
+        statistics::rows_2(),
+        statistics::rows_3(),
+        statistics::rows_4(),
+        statistics::rows_5(),
+        statistics::rows_6(),
+        statistics::rows_7(),
+        statistics::rows_8(),
+        refusals::rows_1(),
+        refusals::rows_2(),
+        refusals::rows_3(),
+        refusals::rows_4(),
+        faults::rows_1(),
+        faults::rows_2(),
+        faults::rows_3(),
+        stops::rows_1(),
+        stops::rows_2(),
+        stops::rows_3(),
+        stops::rows_4(),
+        stops::rows_5(),
+        endings::rows_1(),
+        endings::rows_2(),
+        endings::rows_3(),
+        endings::rows_4(),
     ]
 }
 

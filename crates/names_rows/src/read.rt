@@ -15,7 +15,7 @@ const CHANNEL: &str =
     r#"{"id_epoch":0,"topics":[{"channels":[{"name":"c","paused":false}],"name":"t","paused":false}],"version":"1.0.0"}"#;
 
 // What is written of each text.
-static ROWS: [Row; 47] = [
+static ROWS_1: [Row; 19] = [
     // Members of the file: absent, null, unknown, given twice, and the ends of the epoch's range.
     Row {
         text: NOTHING,
@@ -94,6 +94,9 @@ static ROWS: [Row; 47] = [
         text: r#"{"topics":[{"x":1,"name":"t","Paused":3,"y":[null,{}]}]}"#,
         written: TOPIC,
     },
+];
+
+static ROWS_2: [Row; 20] = [
     Row {
         text: r#"{"topics":[{"name":"\u0074"}]}"#,
         written: TOPIC,
@@ -175,6 +178,9 @@ static ROWS: [Row; 47] = [
         text: r#"{"topics":[{"name":"e#ephemeral"}]}"#,
         written: NOTHING,
     },
+];
+
+static ROWS_3: [Row; 8] = [
     Row {
         text: r#"{"topics":[{"name":"e#ephemeral"},{"name":"e#ephemeral"}]}"#,
         written: NOTHING,
@@ -209,11 +215,29 @@ static ROWS: [Row; 47] = [
     },
 ];
 
+fn rows_1() -> &'static [Row] {
+    &ROWS_1
+}
+
+fn rows_2() -> &'static [Row] {
+    &ROWS_2
+}
+
+fn rows_3() -> &'static [Row] {
+    &ROWS_3
+}
+
+fn rows_in_parts() -> [&'static [Row]; 3] {
+    [rows_1(), rows_2(), rows_3()]
+}
+
 #[test]
 fn rows(rt: HostRuntime) -> Result<(), Fail> {
-    for row in &ROWS {
-        let holds = is_read(rt.alloc(), row.text.as_bytes(), row.written.as_bytes())?;
-        assert!(rt; holds, "{}", row.text);
+    for part in rows_in_parts() {
+        for row in part {
+            let holds = is_read(rt.alloc(), row.text.as_bytes(), row.written.as_bytes())?;
+            assert!(rt; holds, "{}", row.text);
+        }
     }
     Ok(())
 }

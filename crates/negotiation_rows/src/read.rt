@@ -7,7 +7,7 @@ use std::alloc::Global;
 use std::test::Fail;
 
 // Bodies that say what they say, at the ends of the ranges, and bodies that say nothing.
-const SAID: [Row; 21] = [
+static SAID_1: [Row; 21] = [
     Row {
         body: r#"{}"#,
         gets: Gets::Nothing,
@@ -94,8 +94,12 @@ const SAID: [Row; 21] = [
     },
 ];
 
+fn said_1() -> &'static [Row] {
+    &SAID_1
+}
+
 // Answers in JSON.
-const ANSWERED: [Row; 4] = [
+static ANSWERED_1: [Row; 4] = [
     Row {
         body: r#"{"feature_negotiation":true}"#,
         gets: Gets::Json(
@@ -126,8 +130,14 @@ const ANSWERED: [Row; 4] = [
     },
 ];
 
+fn answered_1() -> &'static [Row] {
+    &ANSWERED_1
+}
+
 // The tables with the default options.
-static TABLES: [&'static [Row]; 3] = [&SAID, &ANSWERED, &SHAPES];
+fn tables() -> [&'static [Row]; 3] {
+    [said_1(), answered_1(), &SHAPES]
+}
 
 // With other options: the longest heartbeat interval and time for a message, and the time for a message where none is said, in
 // nanoseconds.
@@ -211,8 +221,8 @@ fn holds_other(alloc: Global, row: &Other) -> Result<bool, Memory> {
 
 #[test]
 fn rows(rt: HostRuntime) -> Result<(), Fail> {
-    for table in &TABLES {
-        for row in *table {
+    for table in tables() {
+        for row in table {
             let holds = holds(rt.alloc(), row.body, row.gets)?;
             assert!(rt; holds, "{}", row.body);
         }

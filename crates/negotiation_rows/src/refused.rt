@@ -4,7 +4,7 @@ use crate::held::{Gets, holds};
 use std::test::Fail;
 
 // Texts and truth values of another kind.
-const KINDS: [&'static str; 20] = [
+static KINDS_1: [&'static str; 20] = [
     r#"{"client_id":1}"#,
     r#"{"client_id":true}"#,
     r#"{"client_id":["c"]}"#,
@@ -27,8 +27,12 @@ const KINDS: [&'static str; 20] = [
     r#"{"feature_negotiation":true,"deflate_level":"6"}"#,
 ];
 
+fn kinds_1() -> &'static [&'static str] {
+    &KINDS_1
+}
+
 // Heartbeat intervals and times for a message.
-const TIMES: [&'static str; 21] = [
+static TIMES_1: [&'static str; 21] = [
     r#"{"heartbeat_interval":-2}"#,
     r#"{"heartbeat_interval":1}"#,
     r#"{"heartbeat_interval":999}"#,
@@ -52,8 +56,12 @@ const TIMES: [&'static str; 21] = [
     r#"{"feature_negotiation":true,"msg_timeout":-1}"#,
 ];
 
+fn times_1() -> &'static [&'static str] {
+    &TIMES_1
+}
+
 // Rates, buffers and levels.
-const NUMBERS: [&'static str; 18] = [
+static NUMBERS_1: [&'static str; 18] = [
     r#"{"sample_rate":-1}"#,
     r#"{"sample_rate":100}"#,
     r#"{"sample_rate":18446744073709551615}"#,
@@ -74,13 +82,19 @@ const NUMBERS: [&'static str; 18] = [
     r#"{"feature_negotiation":true,"sample_rate":100}"#,
 ];
 
+fn numbers_1() -> &'static [&'static str] {
+    &NUMBERS_1
+}
+
 // All of them.
-static TABLES: [&'static [&'static str]; 3] = [&KINDS, &TIMES, &NUMBERS];
+fn tables() -> [&'static [&'static str]; 3] {
+    [kinds_1(), times_1(), numbers_1()]
+}
 
 #[test]
 fn rows(rt: HostRuntime) -> Result<(), Fail> {
-    for table in &TABLES {
-        for body in *table {
+    for table in tables() {
+        for body in table {
             let holds = holds(rt.alloc(), body, Gets::Refused)?;
             assert!(rt; holds, "{}", *body);
         }

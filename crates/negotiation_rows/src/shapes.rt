@@ -6,7 +6,7 @@ use std::alloc::Global;
 use std::test::Fail;
 
 /// Bodies of any shape.
-pub(crate) const SHAPES: [Row; 21] = [
+pub(crate) static SHAPES: [Row; 21] = [
     Row {
         body: "",
         gets: Gets::Refused,

@@ -2,7 +2,6 @@
 
 ghost use Rattle.std.specs.Prelude.{◌≤◌, ◌<◌};
 
-use crate::texts::put_each;
 use nsq_base::{Body, Memory};
 use nsq_fakes::{Failing, FolderCall, Piece};
 use std::alloc::Global;
@@ -165,13 +164,15 @@ impl Dice {
         let at = self.below(HANDLINGS.len() as u64) as usize;
         let digit = self.below(8) as usize;
         let (before, behind) = HANDLINGS[at];
-        let run: &[u8] = if epoch == 1 {
+        bytes.extend_from_slice(before)?;
+        bytes.extend_from_slice(if epoch == 1 {
             b"000001000000000"
         } else {
             b"000002000000000"
-        };
-        let digit = [DIGITS[digit]];
-        put_each(bytes, &[before, run, &digit, behind])
+        })?;
+        bytes.push(DIGITS[digit])?;
+        bytes.extend_from_slice(behind)?;
+        Ok(())
     }
 
     /// These bytes, cut anywhere, with nothing between some pieces.

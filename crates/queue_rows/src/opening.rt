@@ -53,129 +53,134 @@ const DAMAGED: [File; 8] = [
 ];
 
 /// Scripts.
-pub const ROWS: &[Script] = &[
-    Script {
-        name: "the depth is not trusted",
-        queue: "q",
-        options: OPTIONS,
-        files: &[
-            File {
-                name: "q.diskqueue.meta.dat",
-                bytes: b"7\n0,5\n0,11\n",
-            },
-            File {
-                name: "q.diskqueue.000000.dat",
-                bytes: b"\0\0\0\x01a\0\0\0\x02bc\0\0\0\x01d",
-            },
-        ],
-        fails: &[],
-        steps: &[Step::Open(1)],
-        left: &[
-            Look::Has("q.diskqueue.meta.dat", &[b"1\n0,5\n0,11\n"]),
-            Look::Has("q.diskqueue.000000.dat", &[b"\0\0\0\x01a\0\0\0\x02bc"]),
-        ],
-    },
-    Script {
-        name: "a damaged write file",
-        queue: "q",
-        options: OPTIONS,
-        files: &DAMAGED,
-        fails: &[],
-        steps: &[
-            Step::Open(2),
-            Step::Look(Look::Has("q.diskqueue.meta.dat", &[b"2\n1,0\n4,0\n"])),
-            Step::Look(Look::Absent("q.diskqueue.000000.dat")),
-            Step::Look(Look::Absent("q.diskqueue.000003.dat")),
-            Step::Look(Look::Has("q.diskqueue.000003.dat.bad", &[b"\0\0\0\x02de"])),
-            Step::Look(Look::Has("q.diskqueue.000004.dat.bad", &[b"above"])),
-            Step::Look(Look::Has("q.diskqueue.000005.dat.bad", &[b"kept"])),
-            Step::Look(Look::Has("q:c.diskqueue.000000.dat", &[b"another"])),
-            Step::Look(Look::Has("q.diskqueue.000004.dat", &[b""])),
-            Step::Put(b"f", Put::Stored(Sync::NotDue)),
-        ],
-        left: &[Look::Has("q.diskqueue.000004.dat", &[b"\0\0\0\x01f"])],
-    },
-    Script {
-        name: "a damaged read file",
-        queue: "q",
-        options: OPTIONS,
-        files: &[
-            File {
-                name: "q.diskqueue.meta.dat",
-                bytes: b"9\n1,5\n2,5\n",
-            },
-            File {
-                name: "q.diskqueue.000001.dat",
-                bytes: b"\0\0\0\x01a\0\0\0",
-            },
-            File {
-                name: "q.diskqueue.000002.dat",
-                bytes: b"\0\0\0\x01b\0\0\0\x01c",
-            },
-        ],
-        fails: &[],
-        steps: &[Step::Open(1)],
-        left: &[
-            Look::Has("q.diskqueue.meta.dat", &[b"1\n1,0\n2,5\n"]),
-            Look::Has("q.diskqueue.000001.dat.bad", &[b"\0\0\0\x01a\0\0\0"]),
-            Look::Has("q.diskqueue.000002.dat", &[b"\0\0\0\x01b"]),
-        ],
-    },
-    Script {
-        name: "the last number",
-        queue: "q",
-        options: OPTIONS,
-        files: &[
-            File {
-                name: "q.diskqueue.meta.dat",
-                bytes: b"9\n0,0\n1099511627776,4\n",
-            },
-            File {
-                name: "q.diskqueue.000000.dat",
-                bytes: b"\0\0\0\x01a",
-            },
-            File {
-                name: "q.diskqueue.1099511627776.dat",
-                bytes: b"\0\0\0\x01b",
-            },
-        ],
-        fails: &[],
-        steps: &[Step::Open(1)],
-        left: &[
-            Look::Has("q.diskqueue.meta.dat", &[b"1\n0,0\n1099511627776,0\n"]),
-            Look::Has("q.diskqueue.1099511627776.dat.bad", &[b"\0\0\0\x01b"]),
-            Look::Has("q.diskqueue.1099511627776.dat", &[b""]),
-        ],
-    },
-    Script {
-        name: "without metadata",
-        queue: "q",
-        options: OPTIONS,
-        files: &[
-            File {
-                name: "q.diskqueue.000000.dat",
-                bytes: b"\0\0\0\x01a",
-            },
-            File {
-                name: "q.diskqueue.000007.dat",
-                bytes: b"seven",
-            },
-            File {
-                name: "q:c.diskqueue.000000.dat",
-                bytes: b"another",
-            },
-        ],
-        fails: &[],
-        steps: &[Step::Open(0)],
-        left: &[
-            Look::Has("q.diskqueue.meta.dat", &[b"0\n0,0\n0,0\n"]),
-            Look::Has("q.diskqueue.000000.dat", &[b""]),
-            Look::Has("q.diskqueue.000000.dat.bad", &[b"\0\0\0\x01a"]),
-            Look::Has("q.diskqueue.000007.dat.bad", &[b"seven"]),
-            Look::Absent("q.diskqueue.000007.dat"),
-            Look::Has("q:c.diskqueue.000000.dat", &[b"another"]),
-        ],
-    },
+static ROWS_1: [Script; 1] = [Script {
+    name: "the depth is not trusted",
+    queue: "q",
+    options: OPTIONS,
+    files: &[
+        File {
+            name: "q.diskqueue.meta.dat",
+            bytes: b"7\n0,5\n0,11\n",
+        },
+        File {
+            name: "q.diskqueue.000000.dat",
+            bytes: b"\0\0\0\x01a\0\0\0\x02bc\0\0\0\x01d",
+        },
+    ],
+    fails: &[],
+    steps: &[Step::Open(1)],
+    left: &[
+        Look::Has("q.diskqueue.meta.dat", &[b"1\n0,5\n0,11\n"]),
+        Look::Has("q.diskqueue.000000.dat", &[b"\0\0\0\x01a\0\0\0\x02bc"]),
+    ],
+}];
+
+static ROWS_2: [Script; 1] = [Script {
+    name: "a damaged write file",
+    queue: "q",
+    options: OPTIONS,
+    files: &DAMAGED,
+    fails: &[],
+    steps: &[
+        Step::Open(2),
+        Step::Look(Look::Has("q.diskqueue.meta.dat", &[b"2\n1,0\n4,0\n"])),
+        Step::Look(Look::Absent("q.diskqueue.000000.dat")),
+        Step::Look(Look::Absent("q.diskqueue.000003.dat")),
+        Step::Look(Look::Has("q.diskqueue.000003.dat.bad", &[b"\0\0\0\x02de"])),
+        Step::Look(Look::Has("q.diskqueue.000004.dat.bad", &[b"above"])),
+        Step::Look(Look::Has("q.diskqueue.000005.dat.bad", &[b"kept"])),
+        Step::Look(Look::Has("q:c.diskqueue.000000.dat", &[b"another"])),
+        Step::Look(Look::Has("q.diskqueue.000004.dat", &[b""])),
+        Step::Put(b"f", Put::Stored(Sync::NotDue)),
+    ],
+    left: &[Look::Has("q.diskqueue.000004.dat", &[b"\0\0\0\x01f"])],
+}];
+
+static ROWS_3: [Script; 1] = [Script {
+    name: "a damaged read file",
+    queue: "q",
+    options: OPTIONS,
+    files: &[
+        File {
+            name: "q.diskqueue.meta.dat",
+            bytes: b"9\n1,5\n2,5\n",
+        },
+        File {
+            name: "q.diskqueue.000001.dat",
+            bytes: b"\0\0\0\x01a\0\0\0",
+        },
+        File {
+            name: "q.diskqueue.000002.dat",
+            bytes: b"\0\0\0\x01b\0\0\0\x01c",
+        },
+    ],
+    fails: &[],
+    steps: &[Step::Open(1)],
+    left: &[
+        Look::Has("q.diskqueue.meta.dat", &[b"1\n1,0\n2,5\n"]),
+        Look::Has("q.diskqueue.000001.dat.bad", &[b"\0\0\0\x01a\0\0\0"]),
+        Look::Has("q.diskqueue.000002.dat", &[b"\0\0\0\x01b"]),
+    ],
+}];
+
+static ROWS_4: [Script; 1] = [Script {
+    name: "the last number",
+    queue: "q",
+    options: OPTIONS,
+    files: &[
+        File {
+            name: "q.diskqueue.meta.dat",
+            bytes: b"9\n0,0\n1099511627776,4\n",
+        },
+        File {
+            name: "q.diskqueue.000000.dat",
+            bytes: b"\0\0\0\x01a",
+        },
+        File {
+            name: "q.diskqueue.1099511627776.dat",
+            bytes: b"\0\0\0\x01b",
+        },
+    ],
+    fails: &[],
+    steps: &[Step::Open(1)],
+    left: &[
+        Look::Has("q.diskqueue.meta.dat", &[b"1\n0,0\n1099511627776,0\n"]),
+        Look::Has("q.diskqueue.1099511627776.dat.bad", &[b"\0\0\0\x01b"]),
+        Look::Has("q.diskqueue.1099511627776.dat", &[b""]),
+    ],
+}];
+
+static ROWS_5: [Script; 1] = [Script {
+    name: "without metadata",
+    queue: "q",
+    options: OPTIONS,
+    files: &[
+        File {
+            name: "q.diskqueue.000000.dat",
+            bytes: b"\0\0\0\x01a",
+        },
+        File {
+            name: "q.diskqueue.000007.dat",
+            bytes: b"seven",
+        },
+        File {
+            name: "q:c.diskqueue.000000.dat",
+            bytes: b"another",
+        },
+    ],
+    fails: &[],
+    steps: &[Step::Open(0)],
+    left: &[
+        Look::Has("q.diskqueue.meta.dat", &[b"0\n0,0\n0,0\n"]),
+        Look::Has("q.diskqueue.000000.dat", &[b""]),
+        Look::Has("q.diskqueue.000000.dat.bad", &[b"\0\0\0\x01a"]),
+        Look::Has("q.diskqueue.000007.dat.bad", &[b"seven"]),
+        Look::Absent("q.diskqueue.000007.dat"),
+        Look::Has("q:c.diskqueue.000000.dat", &[b"another"]),
+    ],
+}];
+
+static ROWS_6: [Script; 2] = [
     Script {
         name: "an empty list begins at the start of its file",
         queue: "q",
@@ -222,27 +227,56 @@ pub const ROWS: &[Script] = &[
             Look::Absent("q.diskqueue.000005.dat"),
         ],
     },
-    Script {
-        name: "what was taken is not found",
-        queue: "q",
-        options: OPTIONS,
-        files: &[],
-        fails: &[],
-        steps: &[
-            Step::Put(&[b'a'; 40], Put::Stored(Sync::NotDue)),
-            Step::Put(&[b'b'; 40], Put::Stored(Sync::NotDue)),
-            Step::Put(&[b'c'; 40], Put::Stored(Sync::Done)),
-            Step::Take(Take::Got(40, Sync::NotDue), &[b'a'; 40]),
-            Step::Take(Take::Got(40, Sync::NotDue), &[b'b'; 40]),
-            Step::Take(Take::Got(40, Sync::Done), &[b'c'; 40]),
-            Step::Open(0),
-        ],
-        left: &[
-            Look::Absent("q.diskqueue.000000.dat"),
-            Look::Has("q.diskqueue.meta.dat", &[b"0\n1,0\n1,0\n"]),
-        ],
-    },
 ];
+
+static ROWS_7: [Script; 1] = [Script {
+    name: "what was taken is not found",
+    queue: "q",
+    options: OPTIONS,
+    files: &[],
+    fails: &[],
+    steps: &[
+        Step::Put(&[b'a'; 40], Put::Stored(Sync::NotDue)),
+        Step::Put(&[b'b'; 40], Put::Stored(Sync::NotDue)),
+        Step::Put(&[b'c'; 40], Put::Stored(Sync::Done)),
+        Step::Take(Take::Got(40, Sync::NotDue), &[b'a'; 40]),
+        Step::Take(Take::Got(40, Sync::NotDue), &[b'b'; 40]),
+        Step::Take(Take::Got(40, Sync::Done), &[b'c'; 40]),
+        Step::Open(0),
+    ],
+    left: &[
+        Look::Absent("q.diskqueue.000000.dat"),
+        Look::Has("q.diskqueue.meta.dat", &[b"0\n1,0\n1,0\n"]),
+    ],
+}];
+
+pub fn rows_1() -> &'static [Script] {
+    &ROWS_1
+}
+
+pub fn rows_2() -> &'static [Script] {
+    &ROWS_2
+}
+
+pub fn rows_3() -> &'static [Script] {
+    &ROWS_3
+}
+
+pub fn rows_4() -> &'static [Script] {
+    &ROWS_4
+}
+
+pub fn rows_5() -> &'static [Script] {
+    &ROWS_5
+}
+
+pub fn rows_6() -> &'static [Script] {
+    &ROWS_6
+}
+
+pub fn rows_7() -> &'static [Script] {
+    &ROWS_7
+}
 
 // What an opening answers on a metadata text; None where it makes a queue.
 struct Meta {

@@ -73,7 +73,7 @@ struct Row {
     calls: &'static [Call],
 }
 
-static ROWS: [Row; 17] = [
+static ROWS_1: [Row; 2] = [
     Row {
         script: Script {
             name: "the first record: its file is cut where writing begins",
@@ -103,55 +103,60 @@ static ROWS: [Row; 17] = [
         step: Step::Put(&[b'b'; 40], Put::Stored(Sync::NotDue)),
         calls: &[(FolderCall::WriteAt, "q.diskqueue.000000.dat", "")],
     },
-    Row {
-        script: Script {
-            name: "a long record: its size, and then its bytes",
-            queue: "q",
-            options: WIDE,
-            files: &[],
-            fails: &[],
-            steps: &[],
-            left: &[],
-        },
-        step: Step::Fill(b'a', 5000, Put::Stored(Sync::NotDue)),
-        calls: &[
-            (FolderCall::Cut, "q.diskqueue.000000.dat", ""),
-            (FolderCall::WriteAt, "q.diskqueue.000000.dat", ""),
-            (FolderCall::WriteAt, "q.diskqueue.000000.dat", ""),
-        ],
+];
+
+static ROWS_2: [Row; 1] = [Row {
+    script: Script {
+        name: "a long record: its size, and then its bytes",
+        queue: "q",
+        options: WIDE,
+        files: &[],
+        fails: &[],
+        steps: &[],
+        left: &[],
     },
-    Row {
-        script: Script {
-            name: "a full file: it is cut and synced, the next one is emptied and written, and that is saved",
-            queue: "q",
-            options: ROLLING,
-            files: &[],
-            fails: &[],
-            steps: &[
-                Step::Put(&[b'a'; 40], Put::Stored(Sync::NotDue)),
-                Step::Put(&[b'b'; 40], Put::Stored(Sync::NotDue)),
-            ],
-            left: &[],
-        },
-        step: Step::Put(&[b'c'; 40], Put::Stored(Sync::Done)),
-        calls: &[
-            (FolderCall::Cut, "q.diskqueue.000000.dat", ""),
-            (FolderCall::Sync, "q.diskqueue.000000.dat", ""),
-            (FolderCall::Cut, "q.diskqueue.000001.dat", ""),
-            (FolderCall::WriteAt, "q.diskqueue.000001.dat", ""),
-            (FolderCall::Sync, "q.diskqueue.000001.dat", ""),
-            (FolderCall::SyncNames, "", ""),
-            (FolderCall::Cut, "q.diskqueue.meta.dat.tmp", ""),
-            (FolderCall::WriteAt, "q.diskqueue.meta.dat.tmp", ""),
-            (FolderCall::Sync, "q.diskqueue.meta.dat.tmp", ""),
-            (
-                FolderCall::Rename,
-                "q.diskqueue.meta.dat.tmp",
-                "q.diskqueue.meta.dat",
-            ),
-            (FolderCall::SyncNames, "", ""),
+    step: Step::Fill(b'a', 5000, Put::Stored(Sync::NotDue)),
+    calls: &[
+        (FolderCall::Cut, "q.diskqueue.000000.dat", ""),
+        (FolderCall::WriteAt, "q.diskqueue.000000.dat", ""),
+        (FolderCall::WriteAt, "q.diskqueue.000000.dat", ""),
+    ],
+}];
+
+static ROWS_3: [Row; 1] = [Row {
+    script: Script {
+        name: "a full file: it is cut and synced, the next one is emptied and written, and that is saved",
+        queue: "q",
+        options: ROLLING,
+        files: &[],
+        fails: &[],
+        steps: &[
+            Step::Put(&[b'a'; 40], Put::Stored(Sync::NotDue)),
+            Step::Put(&[b'b'; 40], Put::Stored(Sync::NotDue)),
         ],
+        left: &[],
     },
+    step: Step::Put(&[b'c'; 40], Put::Stored(Sync::Done)),
+    calls: &[
+        (FolderCall::Cut, "q.diskqueue.000000.dat", ""),
+        (FolderCall::Sync, "q.diskqueue.000000.dat", ""),
+        (FolderCall::Cut, "q.diskqueue.000001.dat", ""),
+        (FolderCall::WriteAt, "q.diskqueue.000001.dat", ""),
+        (FolderCall::Sync, "q.diskqueue.000001.dat", ""),
+        (FolderCall::SyncNames, "", ""),
+        (FolderCall::Cut, "q.diskqueue.meta.dat.tmp", ""),
+        (FolderCall::WriteAt, "q.diskqueue.meta.dat.tmp", ""),
+        (FolderCall::Sync, "q.diskqueue.meta.dat.tmp", ""),
+        (
+            FolderCall::Rename,
+            "q.diskqueue.meta.dat.tmp",
+            "q.diskqueue.meta.dat",
+        ),
+        (FolderCall::SyncNames, "", ""),
+    ],
+}];
+
+static ROWS_4: [Row; 2] = [
     Row {
         script: Script {
             name: "a record is staged and forgotten",
@@ -178,6 +183,9 @@ static ROWS: [Row; 17] = [
         step: Step::Commit(&[b'b'; 30], Sync::NotDue),
         calls: &[(FolderCall::WriteAt, "q.diskqueue.000000.dat", "")],
     },
+];
+
+static ROWS_5: [Row; 2] = [
     Row {
         script: Script {
             name: "a save: the write file, the names, the metadata by way of its temporary, the names",
@@ -219,302 +227,386 @@ static ROWS: [Row; 17] = [
         step: Step::Sync(Sync::NotDue),
         calls: &[],
     },
-    Row {
-        script: Script {
-            name: "a peek reads the size and then the record",
-            queue: "q",
-            options: ROLLING,
-            files: &[],
-            fails: &[],
-            steps: &[Step::Put(&[b'a'; 40], Put::Stored(Sync::NotDue))],
-            left: &[],
-        },
-        step: Step::Peek(Peek::Got(40), &[b'a'; 40]),
-        calls: &[
-            (FolderCall::ReadAt, "q.diskqueue.000000.dat", ""),
-            (FolderCall::ReadAt, "q.diskqueue.000000.dat", ""),
-        ],
-    },
-    Row {
-        script: Script {
-            name: "a taking in the next file: the file that is read out goes after the save",
-            queue: "q",
-            options: ROLLING,
-            files: &[],
-            fails: &[],
-            steps: &[
-                Step::Put(&[b'a'; 40], Put::Stored(Sync::NotDue)),
-                Step::Put(&[b'b'; 40], Put::Stored(Sync::NotDue)),
-                Step::Put(&[b'c'; 40], Put::Stored(Sync::Done)),
-                Step::Take(Take::Got(40, Sync::NotDue), &[b'a'; 40]),
-                Step::Take(Take::Got(40, Sync::NotDue), &[b'b'; 40]),
-            ],
-            left: &[],
-        },
-        step: Step::Take(Take::Got(40, Sync::Done), &[b'c'; 40]),
-        calls: &[
-            (FolderCall::ReadAt, "q.diskqueue.000000.dat", ""),
-            (FolderCall::Len, "q.diskqueue.000000.dat", ""),
-            (FolderCall::ReadAt, "q.diskqueue.000001.dat", ""),
-            (FolderCall::ReadAt, "q.diskqueue.000001.dat", ""),
-            (FolderCall::Sync, "q.diskqueue.000001.dat", ""),
-            (FolderCall::SyncNames, "", ""),
-            (FolderCall::Cut, "q.diskqueue.meta.dat.tmp", ""),
-            (FolderCall::WriteAt, "q.diskqueue.meta.dat.tmp", ""),
-            (FolderCall::Sync, "q.diskqueue.meta.dat.tmp", ""),
-            (
-                FolderCall::Rename,
-                "q.diskqueue.meta.dat.tmp",
-                "q.diskqueue.meta.dat",
-            ),
-            (FolderCall::SyncNames, "", ""),
-            (FolderCall::Remove, "q.diskqueue.000000.dat", ""),
-        ],
-    },
-    Row {
-        script: Script {
-            name: "an emptying: the files that were read go after the save",
-            queue: "q",
-            options: ROLLING,
-            files: &[],
-            fails: &[],
-            steps: &[
-                Step::Put(&[b'a'; 40], Put::Stored(Sync::NotDue)),
-                Step::Put(&[b'b'; 40], Put::Stored(Sync::NotDue)),
-                Step::Put(&[b'c'; 40], Put::Stored(Sync::Done)),
-            ],
-            left: &[],
-        },
-        step: Step::Empty(Emptied::Done),
-        calls: &[
-            (FolderCall::Sync, "q.diskqueue.000001.dat", ""),
-            (FolderCall::SyncNames, "", ""),
-            (FolderCall::Cut, "q.diskqueue.meta.dat.tmp", ""),
-            (FolderCall::WriteAt, "q.diskqueue.meta.dat.tmp", ""),
-            (FolderCall::Sync, "q.diskqueue.meta.dat.tmp", ""),
-            (
-                FolderCall::Rename,
-                "q.diskqueue.meta.dat.tmp",
-                "q.diskqueue.meta.dat",
-            ),
-            (FolderCall::SyncNames, "", ""),
-            (FolderCall::Remove, "q.diskqueue.000000.dat", ""),
-        ],
-    },
-    Row {
-        script: Script {
-            name: "a deletion: an emptying, then the data files, then the metadata",
-            queue: "q",
-            options: ROLLING,
-            files: &[],
-            fails: &[],
-            steps: &[
-                Step::Put(&[b'a'; 40], Put::Stored(Sync::NotDue)),
-                Step::Put(&[b'b'; 40], Put::Stored(Sync::NotDue)),
-                Step::Put(&[b'c'; 40], Put::Stored(Sync::Done)),
-            ],
-            left: &[
-                Look::Absent("q.diskqueue.meta.dat"),
-                Look::Absent("q.diskqueue.000001.dat"),
-            ],
-        },
-        step: Step::Delete,
-        calls: &[
-            (FolderCall::Sync, "q.diskqueue.000001.dat", ""),
-            (FolderCall::SyncNames, "", ""),
-            (FolderCall::Cut, "q.diskqueue.meta.dat.tmp", ""),
-            (FolderCall::WriteAt, "q.diskqueue.meta.dat.tmp", ""),
-            (FolderCall::Sync, "q.diskqueue.meta.dat.tmp", ""),
-            (
-                FolderCall::Rename,
-                "q.diskqueue.meta.dat.tmp",
-                "q.diskqueue.meta.dat",
-            ),
-            (FolderCall::SyncNames, "", ""),
-            (FolderCall::Remove, "q.diskqueue.000000.dat", ""),
-            (FolderCall::Remove, "q.diskqueue.000001.dat", ""),
-            (FolderCall::Remove, "q.diskqueue.000002.dat", ""),
-            (FolderCall::Remove, "q.diskqueue.meta.dat", ""),
-        ],
-    },
-    Row {
-        script: Script {
-            name: "a deletion in which a data file stays: the metadata of the empty list does too",
-            queue: "q",
-            options: ROLLING,
-            files: &[],
-            fails: &[Failing {
-                call: FolderCall::Remove,
-                from: 1,
-                to: 2,
-            }],
-            steps: &[
-                Step::Put(&[b'a'; 40], Put::Stored(Sync::NotDue)),
-                Step::Put(&[b'b'; 40], Put::Stored(Sync::NotDue)),
-                Step::Put(&[b'c'; 40], Put::Stored(Sync::Done)),
-            ],
-            left: &[Look::Has("q.diskqueue.meta.dat", &[b"0\n1,44\n1,44\n"])],
-        },
-        step: Step::Delete,
-        calls: &[
-            (FolderCall::Sync, "q.diskqueue.000001.dat", ""),
-            (FolderCall::SyncNames, "", ""),
-            (FolderCall::Cut, "q.diskqueue.meta.dat.tmp", ""),
-            (FolderCall::WriteAt, "q.diskqueue.meta.dat.tmp", ""),
-            (FolderCall::Sync, "q.diskqueue.meta.dat.tmp", ""),
-            (
-                FolderCall::Rename,
-                "q.diskqueue.meta.dat.tmp",
-                "q.diskqueue.meta.dat",
-            ),
-            (FolderCall::SyncNames, "", ""),
-            (FolderCall::Remove, "q.diskqueue.000000.dat", ""),
-            (FolderCall::Remove, "q.diskqueue.000001.dat", ""),
-        ],
-    },
-    Row {
-        script: Script {
-            name: "a deletion in whose emptying a data file stays: its removal is tried again",
-            queue: "q",
-            options: ROLLING,
-            files: &[],
-            fails: &[Failing {
-                call: FolderCall::Remove,
-                from: 0,
-                to: 1,
-            }],
-            steps: &[
-                Step::Put(&[b'a'; 40], Put::Stored(Sync::NotDue)),
-                Step::Put(&[b'b'; 40], Put::Stored(Sync::NotDue)),
-                Step::Put(&[b'c'; 40], Put::Stored(Sync::Done)),
-            ],
-            left: &[Look::Absent("q.diskqueue.000000.dat")],
-        },
-        step: Step::Delete,
-        calls: &[
-            (FolderCall::Sync, "q.diskqueue.000001.dat", ""),
-            (FolderCall::SyncNames, "", ""),
-            (FolderCall::Cut, "q.diskqueue.meta.dat.tmp", ""),
-            (FolderCall::WriteAt, "q.diskqueue.meta.dat.tmp", ""),
-            (FolderCall::Sync, "q.diskqueue.meta.dat.tmp", ""),
-            (
-                FolderCall::Rename,
-                "q.diskqueue.meta.dat.tmp",
-                "q.diskqueue.meta.dat",
-            ),
-            (FolderCall::SyncNames, "", ""),
-            (FolderCall::Remove, "q.diskqueue.000000.dat", ""),
-            (FolderCall::Remove, "q.diskqueue.000000.dat", ""),
-            (FolderCall::Remove, "q.diskqueue.000001.dat", ""),
-            (FolderCall::Remove, "q.diskqueue.000002.dat", ""),
-            (FolderCall::Remove, "q.diskqueue.meta.dat", ""),
-        ],
-    },
-    Row {
-        script: Script {
-            name: "an opening of a damaged queue: what was read goes, what is above and what is bad is set aside, the write file is cut, and that is saved",
-            queue: "q",
-            options: SHORT,
-            files: &DAMAGED,
-            fails: &[],
-            steps: &[],
-            left: &[],
-        },
-        step: Step::Open(2),
-        calls: &[
-            (FolderCall::Len, "q.diskqueue.meta.dat", ""),
-            (FolderCall::ReadAt, "q.diskqueue.meta.dat", ""),
-            (FolderCall::List, "", ""),
-            (FolderCall::Len, "q.diskqueue.000001.dat", ""),
-            (FolderCall::ReadAt, "q.diskqueue.000001.dat", ""),
-            (FolderCall::ReadAt, "q.diskqueue.000001.dat", ""),
-            (FolderCall::Len, "q.diskqueue.000003.dat", ""),
-            (FolderCall::ReadAt, "q.diskqueue.000003.dat", ""),
-            (FolderCall::Remove, "q.diskqueue.000000.dat", ""),
-            (
-                FolderCall::Rename,
-                "q.diskqueue.000004.dat",
-                "q.diskqueue.000004.dat.bad",
-            ),
-            (
-                FolderCall::Rename,
-                "q.diskqueue.000003.dat",
-                "q.diskqueue.000003.dat.bad",
-            ),
-            (FolderCall::Cut, "q.diskqueue.000004.dat", ""),
-            (FolderCall::Sync, "q.diskqueue.000004.dat", ""),
-            (FolderCall::SyncNames, "", ""),
-            (FolderCall::Cut, "q.diskqueue.meta.dat.tmp", ""),
-            (FolderCall::WriteAt, "q.diskqueue.meta.dat.tmp", ""),
-            (FolderCall::Sync, "q.diskqueue.meta.dat.tmp", ""),
-            (
-                FolderCall::Rename,
-                "q.diskqueue.meta.dat.tmp",
-                "q.diskqueue.meta.dat",
-            ),
-            (FolderCall::SyncNames, "", ""),
-            (FolderCall::Remove, "q.diskqueue.000000.dat", ""),
-        ],
-    },
-    Row {
-        script: Script {
-            name: "an opening without metadata: every data file is set aside",
-            queue: "q",
-            options: SHORT,
-            files: &UNKNOWN,
-            fails: &[],
-            steps: &[],
-            left: &[],
-        },
-        step: Step::Open(0),
-        calls: &[
-            (FolderCall::Len, "q.diskqueue.meta.dat", ""),
-            (FolderCall::List, "", ""),
-            (
-                FolderCall::Rename,
-                "q.diskqueue.000000.dat",
-                "q.diskqueue.000000.dat.bad",
-            ),
-            (
-                FolderCall::Rename,
-                "q.diskqueue.000001.dat",
-                "q.diskqueue.000001.dat.bad",
-            ),
-            (FolderCall::Cut, "q.diskqueue.000000.dat", ""),
-            (FolderCall::Sync, "q.diskqueue.000000.dat", ""),
-            (FolderCall::SyncNames, "", ""),
-            (FolderCall::Cut, "q.diskqueue.meta.dat.tmp", ""),
-            (FolderCall::WriteAt, "q.diskqueue.meta.dat.tmp", ""),
-            (FolderCall::Sync, "q.diskqueue.meta.dat.tmp", ""),
-            (
-                FolderCall::Rename,
-                "q.diskqueue.meta.dat.tmp",
-                "q.diskqueue.meta.dat",
-            ),
-            (FolderCall::SyncNames, "", ""),
-        ],
-    },
-    Row {
-        script: Script {
-            name: "a file is replaced: the names, its temporary, the rename, the names",
-            queue: "q",
-            options: ROLLING,
-            files: &[],
-            fails: &[],
-            steps: &[],
-            left: &[],
-        },
-        step: Step::Replace(b"one", Did::Done),
-        calls: &[
-            (FolderCall::SyncNames, "", ""),
-            (FolderCall::Cut, "b", ""),
-            (FolderCall::WriteAt, "b", ""),
-            (FolderCall::Sync, "b", ""),
-            (FolderCall::Rename, "b", "a"),
-            (FolderCall::SyncNames, "", ""),
-        ],
-    },
 ];
+
+static ROWS_6: [Row; 1] = [Row {
+    script: Script {
+        name: "a peek reads the size and then the record",
+        queue: "q",
+        options: ROLLING,
+        files: &[],
+        fails: &[],
+        steps: &[Step::Put(&[b'a'; 40], Put::Stored(Sync::NotDue))],
+        left: &[],
+    },
+    step: Step::Peek(Peek::Got(40), &[b'a'; 40]),
+    calls: &[
+        (FolderCall::ReadAt, "q.diskqueue.000000.dat", ""),
+        (FolderCall::ReadAt, "q.diskqueue.000000.dat", ""),
+    ],
+}];
+
+static ROWS_7: [Row; 1] = [Row {
+    script: Script {
+        name: "a taking in the next file: the file that is read out goes after the save",
+        queue: "q",
+        options: ROLLING,
+        files: &[],
+        fails: &[],
+        steps: &[
+            Step::Put(&[b'a'; 40], Put::Stored(Sync::NotDue)),
+            Step::Put(&[b'b'; 40], Put::Stored(Sync::NotDue)),
+            Step::Put(&[b'c'; 40], Put::Stored(Sync::Done)),
+            Step::Take(Take::Got(40, Sync::NotDue), &[b'a'; 40]),
+            Step::Take(Take::Got(40, Sync::NotDue), &[b'b'; 40]),
+        ],
+        left: &[],
+    },
+    step: Step::Take(Take::Got(40, Sync::Done), &[b'c'; 40]),
+    calls: &[
+        (FolderCall::ReadAt, "q.diskqueue.000000.dat", ""),
+        (FolderCall::Len, "q.diskqueue.000000.dat", ""),
+        (FolderCall::ReadAt, "q.diskqueue.000001.dat", ""),
+        (FolderCall::ReadAt, "q.diskqueue.000001.dat", ""),
+        (FolderCall::Sync, "q.diskqueue.000001.dat", ""),
+        (FolderCall::SyncNames, "", ""),
+        (FolderCall::Cut, "q.diskqueue.meta.dat.tmp", ""),
+        (FolderCall::WriteAt, "q.diskqueue.meta.dat.tmp", ""),
+        (FolderCall::Sync, "q.diskqueue.meta.dat.tmp", ""),
+        (
+            FolderCall::Rename,
+            "q.diskqueue.meta.dat.tmp",
+            "q.diskqueue.meta.dat",
+        ),
+        (FolderCall::SyncNames, "", ""),
+        (FolderCall::Remove, "q.diskqueue.000000.dat", ""),
+    ],
+}];
+
+static ROWS_8: [Row; 1] = [Row {
+    script: Script {
+        name: "an emptying: the files that were read go after the save",
+        queue: "q",
+        options: ROLLING,
+        files: &[],
+        fails: &[],
+        steps: &[
+            Step::Put(&[b'a'; 40], Put::Stored(Sync::NotDue)),
+            Step::Put(&[b'b'; 40], Put::Stored(Sync::NotDue)),
+            Step::Put(&[b'c'; 40], Put::Stored(Sync::Done)),
+        ],
+        left: &[],
+    },
+    step: Step::Empty(Emptied::Done),
+    calls: &[
+        (FolderCall::Sync, "q.diskqueue.000001.dat", ""),
+        (FolderCall::SyncNames, "", ""),
+        (FolderCall::Cut, "q.diskqueue.meta.dat.tmp", ""),
+        (FolderCall::WriteAt, "q.diskqueue.meta.dat.tmp", ""),
+        (FolderCall::Sync, "q.diskqueue.meta.dat.tmp", ""),
+        (
+            FolderCall::Rename,
+            "q.diskqueue.meta.dat.tmp",
+            "q.diskqueue.meta.dat",
+        ),
+        (FolderCall::SyncNames, "", ""),
+        (FolderCall::Remove, "q.diskqueue.000000.dat", ""),
+    ],
+}];
+
+static ROWS_9: [Row; 1] = [Row {
+    script: Script {
+        name: "a deletion: an emptying, then the data files, then the metadata",
+        queue: "q",
+        options: ROLLING,
+        files: &[],
+        fails: &[],
+        steps: &[
+            Step::Put(&[b'a'; 40], Put::Stored(Sync::NotDue)),
+            Step::Put(&[b'b'; 40], Put::Stored(Sync::NotDue)),
+            Step::Put(&[b'c'; 40], Put::Stored(Sync::Done)),
+        ],
+        left: &[
+            Look::Absent("q.diskqueue.meta.dat"),
+            Look::Absent("q.diskqueue.000001.dat"),
+        ],
+    },
+    step: Step::Delete,
+    calls: &[
+        (FolderCall::Sync, "q.diskqueue.000001.dat", ""),
+        (FolderCall::SyncNames, "", ""),
+        (FolderCall::Cut, "q.diskqueue.meta.dat.tmp", ""),
+        (FolderCall::WriteAt, "q.diskqueue.meta.dat.tmp", ""),
+        (FolderCall::Sync, "q.diskqueue.meta.dat.tmp", ""),
+        (
+            FolderCall::Rename,
+            "q.diskqueue.meta.dat.tmp",
+            "q.diskqueue.meta.dat",
+        ),
+        (FolderCall::SyncNames, "", ""),
+        (FolderCall::Remove, "q.diskqueue.000000.dat", ""),
+        (FolderCall::Remove, "q.diskqueue.000001.dat", ""),
+        (FolderCall::Remove, "q.diskqueue.000002.dat", ""),
+        (FolderCall::Remove, "q.diskqueue.meta.dat", ""),
+    ],
+}];
+
+static ROWS_10: [Row; 1] = [Row {
+    script: Script {
+        name: "a deletion in which a data file stays: the metadata of the empty list does too",
+        queue: "q",
+        options: ROLLING,
+        files: &[],
+        fails: &[Failing {
+            call: FolderCall::Remove,
+            from: 1,
+            to: 2,
+        }],
+        steps: &[
+            Step::Put(&[b'a'; 40], Put::Stored(Sync::NotDue)),
+            Step::Put(&[b'b'; 40], Put::Stored(Sync::NotDue)),
+            Step::Put(&[b'c'; 40], Put::Stored(Sync::Done)),
+        ],
+        left: &[Look::Has("q.diskqueue.meta.dat", &[b"0\n1,44\n1,44\n"])],
+    },
+    step: Step::Delete,
+    calls: &[
+        (FolderCall::Sync, "q.diskqueue.000001.dat", ""),
+        (FolderCall::SyncNames, "", ""),
+        (FolderCall::Cut, "q.diskqueue.meta.dat.tmp", ""),
+        (FolderCall::WriteAt, "q.diskqueue.meta.dat.tmp", ""),
+        (FolderCall::Sync, "q.diskqueue.meta.dat.tmp", ""),
+        (
+            FolderCall::Rename,
+            "q.diskqueue.meta.dat.tmp",
+            "q.diskqueue.meta.dat",
+        ),
+        (FolderCall::SyncNames, "", ""),
+        (FolderCall::Remove, "q.diskqueue.000000.dat", ""),
+        (FolderCall::Remove, "q.diskqueue.000001.dat", ""),
+    ],
+}];
+
+static ROWS_11: [Row; 1] = [Row {
+    script: Script {
+        name: "a deletion in whose emptying a data file stays: its removal is tried again",
+        queue: "q",
+        options: ROLLING,
+        files: &[],
+        fails: &[Failing {
+            call: FolderCall::Remove,
+            from: 0,
+            to: 1,
+        }],
+        steps: &[
+            Step::Put(&[b'a'; 40], Put::Stored(Sync::NotDue)),
+            Step::Put(&[b'b'; 40], Put::Stored(Sync::NotDue)),
+            Step::Put(&[b'c'; 40], Put::Stored(Sync::Done)),
+        ],
+        left: &[Look::Absent("q.diskqueue.000000.dat")],
+    },
+    step: Step::Delete,
+    calls: &[
+        (FolderCall::Sync, "q.diskqueue.000001.dat", ""),
+        (FolderCall::SyncNames, "", ""),
+        (FolderCall::Cut, "q.diskqueue.meta.dat.tmp", ""),
+        (FolderCall::WriteAt, "q.diskqueue.meta.dat.tmp", ""),
+        (FolderCall::Sync, "q.diskqueue.meta.dat.tmp", ""),
+        (
+            FolderCall::Rename,
+            "q.diskqueue.meta.dat.tmp",
+            "q.diskqueue.meta.dat",
+        ),
+        (FolderCall::SyncNames, "", ""),
+        (FolderCall::Remove, "q.diskqueue.000000.dat", ""),
+        (FolderCall::Remove, "q.diskqueue.000000.dat", ""),
+        (FolderCall::Remove, "q.diskqueue.000001.dat", ""),
+        (FolderCall::Remove, "q.diskqueue.000002.dat", ""),
+        (FolderCall::Remove, "q.diskqueue.meta.dat", ""),
+    ],
+}];
+
+static ROWS_12: [Row; 1] = [Row {
+    script: Script {
+        name: "an opening of a damaged queue: what was read goes, what is above and what is bad is set aside, the write file is cut, and that is saved",
+        queue: "q",
+        options: SHORT,
+        files: &DAMAGED,
+        fails: &[],
+        steps: &[],
+        left: &[],
+    },
+    step: Step::Open(2),
+    calls: &[
+        (FolderCall::Len, "q.diskqueue.meta.dat", ""),
+        (FolderCall::ReadAt, "q.diskqueue.meta.dat", ""),
+        (FolderCall::List, "", ""),
+        (FolderCall::Len, "q.diskqueue.000001.dat", ""),
+        (FolderCall::ReadAt, "q.diskqueue.000001.dat", ""),
+        (FolderCall::ReadAt, "q.diskqueue.000001.dat", ""),
+        (FolderCall::Len, "q.diskqueue.000003.dat", ""),
+        (FolderCall::ReadAt, "q.diskqueue.000003.dat", ""),
+        (FolderCall::Remove, "q.diskqueue.000000.dat", ""),
+        (
+            FolderCall::Rename,
+            "q.diskqueue.000004.dat",
+            "q.diskqueue.000004.dat.bad",
+        ),
+        (
+            FolderCall::Rename,
+            "q.diskqueue.000003.dat",
+            "q.diskqueue.000003.dat.bad",
+        ),
+        (FolderCall::Cut, "q.diskqueue.000004.dat", ""),
+        (FolderCall::Sync, "q.diskqueue.000004.dat", ""),
+        (FolderCall::SyncNames, "", ""),
+        (FolderCall::Cut, "q.diskqueue.meta.dat.tmp", ""),
+        (FolderCall::WriteAt, "q.diskqueue.meta.dat.tmp", ""),
+        (FolderCall::Sync, "q.diskqueue.meta.dat.tmp", ""),
+        (
+            FolderCall::Rename,
+            "q.diskqueue.meta.dat.tmp",
+            "q.diskqueue.meta.dat",
+        ),
+        (FolderCall::SyncNames, "", ""),
+        (FolderCall::Remove, "q.diskqueue.000000.dat", ""),
+    ],
+}];
+
+static ROWS_13: [Row; 1] = [Row {
+    script: Script {
+        name: "an opening without metadata: every data file is set aside",
+        queue: "q",
+        options: SHORT,
+        files: &UNKNOWN,
+        fails: &[],
+        steps: &[],
+        left: &[],
+    },
+    step: Step::Open(0),
+    calls: &[
+        (FolderCall::Len, "q.diskqueue.meta.dat", ""),
+        (FolderCall::List, "", ""),
+        (
+            FolderCall::Rename,
+            "q.diskqueue.000000.dat",
+            "q.diskqueue.000000.dat.bad",
+        ),
+        (
+            FolderCall::Rename,
+            "q.diskqueue.000001.dat",
+            "q.diskqueue.000001.dat.bad",
+        ),
+        (FolderCall::Cut, "q.diskqueue.000000.dat", ""),
+        (FolderCall::Sync, "q.diskqueue.000000.dat", ""),
+        (FolderCall::SyncNames, "", ""),
+        (FolderCall::Cut, "q.diskqueue.meta.dat.tmp", ""),
+        (FolderCall::WriteAt, "q.diskqueue.meta.dat.tmp", ""),
+        (FolderCall::Sync, "q.diskqueue.meta.dat.tmp", ""),
+        (
+            FolderCall::Rename,
+            "q.diskqueue.meta.dat.tmp",
+            "q.diskqueue.meta.dat",
+        ),
+        (FolderCall::SyncNames, "", ""),
+    ],
+}];
+
+static ROWS_14: [Row; 1] = [Row {
+    script: Script {
+        name: "a file is replaced: the names, its temporary, the rename, the names",
+        queue: "q",
+        options: ROLLING,
+        files: &[],
+        fails: &[],
+        steps: &[],
+        left: &[],
+    },
+    step: Step::Replace(b"one", Did::Done),
+    calls: &[
+        (FolderCall::SyncNames, "", ""),
+        (FolderCall::Cut, "b", ""),
+        (FolderCall::WriteAt, "b", ""),
+        (FolderCall::Sync, "b", ""),
+        (FolderCall::Rename, "b", "a"),
+        (FolderCall::SyncNames, "", ""),
+    ],
+}];
+
+fn rows_1() -> &'static [Row] {
+    &ROWS_1
+}
+
+fn rows_2() -> &'static [Row] {
+    &ROWS_2
+}
+
+fn rows_3() -> &'static [Row] {
+    &ROWS_3
+}
+
+fn rows_4() -> &'static [Row] {
+    &ROWS_4
+}
+
+fn rows_5() -> &'static [Row] {
+    &ROWS_5
+}
+
+fn rows_6() -> &'static [Row] {
+    &ROWS_6
+}
+
+fn rows_7() -> &'static [Row] {
+    &ROWS_7
+}
+
+fn rows_8() -> &'static [Row] {
+    &ROWS_8
+}
+
+fn rows_9() -> &'static [Row] {
+    &ROWS_9
+}
+
+fn rows_10() -> &'static [Row] {
+    &ROWS_10
+}
+
+fn rows_11() -> &'static [Row] {
+    &ROWS_11
+}
+
+fn rows_12() -> &'static [Row] {
+    &ROWS_12
+}
+
+fn rows_13() -> &'static [Row] {
+    &ROWS_13
+}
+
+fn rows_14() -> &'static [Row] {
+    &ROWS_14
+}
+
+fn rows_in_parts() -> [&'static [Row]; 14] {
+    [
+        rows_1(),
+        rows_2(),
+        rows_3(),
+        rows_4(),
+        rows_5(),
+        rows_6(),
+        rows_7(),
+        rows_8(),
+        rows_9(),
+        rows_10(),
+        rows_11(),
+        rows_12(),
+        rows_13(),
+        rows_14(),
+    ]
+}
 
 // Whether the script and the call hold, and the call makes these calls of the folder.
 fn holds(alloc: Global, row: &Row) -> Result<bool, Memory> {
@@ -568,9 +660,11 @@ fn is(called: &Called, call: Call) -> bool {
 
 #[test]
 fn rows(rt: HostRuntime) -> Result<(), Fail> {
-    for row in &ROWS {
-        let holds = holds(rt.alloc(), row)?;
-        assert!(rt; holds, "{}", row.script.name);
+    for part in rows_in_parts() {
+        for row in part {
+            let holds = holds(rt.alloc(), row)?;
+            assert!(rt; holds, "{}", row.script.name);
+        }
     }
     Ok(())
 }

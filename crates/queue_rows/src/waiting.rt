@@ -67,7 +67,7 @@ enum Fate {
     Other,
 }
 
-static ROWS: [Script; 9] = [
+static ROWS_1: [Script; 9] = [
     Script {
         name: "the ring comes before the disk",
         backlog: "q",
@@ -212,6 +212,14 @@ static ROWS: [Script; 9] = [
         ],
     },
 ];
+
+fn rows_1() -> &'static [Script] {
+    &ROWS_1
+}
+
+fn rows_in_parts() -> [&'static [Script]; 1] {
+    [rows_1()]
+}
 
 // Whether each step answers what it says.
 fn holds(alloc: Global, scratch: &mut [u8], script: &Script) -> Result<bool, Memory>
@@ -432,9 +440,11 @@ fn scratch(alloc: Global) -> Result<Vec<u8>, Memory>
 fn rows(rt: HostRuntime) -> Result<(), Fail> {
     let alloc = rt.alloc();
     let mut scratch = scratch(alloc)?;
-    for row in &ROWS {
-        let holds = holds(alloc, &mut scratch, row)?;
-        assert!(rt; holds, "{}", row.name);
+    for part in rows_in_parts() {
+        for row in part {
+            let holds = holds(alloc, &mut scratch, row)?;
+            assert!(rt; holds, "{}", row.name);
+        }
     }
     Ok(())
 }

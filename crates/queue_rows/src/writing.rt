@@ -14,7 +14,7 @@ const WIDE: QueueOptions = QueueOptions {
 };
 
 /// Scripts.
-pub const ROWS: &[Script] = &[
+static ROWS_1: [Script; 2] = [
     Script {
         name: "three records in two files",
         queue: "q",
@@ -57,6 +57,9 @@ pub const ROWS: &[Script] = &[
             Look::Has("t.diskqueue.meta.dat", &[b"1\n0,0\n0,32\n"]),
         ],
     },
+];
+
+static ROWS_2: [Script; 3] = [
     Script {
         name: "a second save is not due",
         queue: "q",
@@ -110,6 +113,9 @@ pub const ROWS: &[Script] = &[
         ],
         left: &[Look::Filled("q.diskqueue.000000.dat", b"\0\0\x13\x88", b'b', 5000)],
     },
+];
+
+static ROWS_3: [Script; 2] = [
     Script {
         name: "a forgotten record leaves its place",
         queue: "q",
@@ -144,6 +150,9 @@ pub const ROWS: &[Script] = &[
         ],
         left: &[Look::Has("a", &[b"3"])],
     },
+];
+
+static ROWS_4: [Script; 3] = [
     Script {
         name: "nothing is saved before the records are durable",
         queue: "q",
@@ -195,6 +204,9 @@ pub const ROWS: &[Script] = &[
             Look::Absent("q.diskqueue.meta.dat"),
         ],
     },
+];
+
+static ROWS_5: [Script; 3] = [
     Script {
         name: "a save ends with the names",
         queue: "q",
@@ -251,3 +263,23 @@ pub const ROWS: &[Script] = &[
         left: &[],
     },
 ];
+
+pub fn rows_1() -> &'static [Script] {
+    &ROWS_1
+}
+
+pub fn rows_2() -> &'static [Script] {
+    &ROWS_2
+}
+
+pub fn rows_3() -> &'static [Script] {
+    &ROWS_3
+}
+
+pub fn rows_4() -> &'static [Script] {
+    &ROWS_4
+}
+
+pub fn rows_5() -> &'static [Script] {
+    &ROWS_5
+}

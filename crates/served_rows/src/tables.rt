@@ -9,12 +9,18 @@ use crate::plan::{Client, NOTHING, Step};
 use crate::served::Row;
 use v2_session::Ended;
 
-pub fn tables() -> [&'static [Row]; 4] {
+pub fn tables() -> [&'static [Row]; 10] {
     [
-        credit::rows(),
-        moments::rows(),
-        states::rows(),
-        storage::rows(),
+        credit::rows_1(),
+        credit::rows_2(),
+        credit::rows_3(),
+        moments::rows_1(),
+        moments::rows_2(),
+        moments::rows_3(),
+        states::rows_1(),
+        states::rows_2(),
+        storage::rows_1(),
+        storage::rows_2(),
     ]
 }
 

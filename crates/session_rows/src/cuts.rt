@@ -17,7 +17,7 @@ struct Row {
 
 const MAGIC: &[u8] = b"  V2";
 
-static ROWS: [Row; 11] = [
+static ROWS_1: [Row; 6] = [
     Row {
         name: "IDENTIFY",
         first: b"IDENTIFY\n\0\0\0\x02{}",
@@ -60,6 +60,9 @@ static ROWS: [Row; 11] = [
         answers: *b"qq",
         command: "Rdy(2)",
     },
+];
+
+static ROWS_2: [Row; 5] = [
     Row {
         name: "FIN",
         first: b"FIN 0000010000000000\n",
@@ -96,6 +99,18 @@ static ROWS: [Row; 11] = [
         command: "Nop",
     },
 ];
+
+fn rows_1() -> &'static [Row] {
+    &ROWS_1
+}
+
+fn rows_2() -> &'static [Row] {
+    &ROWS_2
+}
+
+fn rows_in_parts() -> [&'static [Row]; 2] {
+    [rows_1(), rows_2()]
+}
 
 /// What a client sends and what must be seen of it, as far as they are made.
 #[derive(Drop)]
@@ -270,10 +285,12 @@ fn wrong<R: Wait>(
 
 #[test]
 fn rows(rt: HostRuntime) -> Result<(), Fail> {
-    for row in &ROWS {
-        let wrong = wrong(&rt, rt.alloc(), row)?;
-        let (how, cut) = wrong.unwrap_or(("", 0));
-        assert!(rt; wrong.is_none(), "{} {} {}", row.name, how, cut);
+    for part in rows_in_parts() {
+        for row in part {
+            let wrong = wrong(&rt, rt.alloc(), row)?;
+            let (how, cut) = wrong.unwrap_or(("", 0));
+            assert!(rt; wrong.is_none(), "{} {} {}", row.name, how, cut);
+        }
     }
     Ok(())
 }

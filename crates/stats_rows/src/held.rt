@@ -102,7 +102,7 @@ const NO_TEXT: [Told; 1] = [Told {
     }],
 }];
 
-static ROWS: [Row; 8] = [
+static ROWS_1: [Row; 6] = [
     Row {
         name: "no topic, opened at the beginning",
         began: 0,
@@ -151,6 +151,9 @@ static ROWS: [Row; 8] = [
             \"message_count\":17,\"paused\":true,\"topic_name\":\"orders.new\"},{\"backend_depth\":0,\"channels\":[],\"depth\":0,\
             \"message_count\":18,\"paused\":false,\"topic_name\":\"tmp_1#ephemeral\"}],\"version\":\"1.0.0\"}",
     },
+];
+
+static ROWS_2: [Row; 2] = [
     Row {
         name: "the greatest counts and depths",
         began: 0,
@@ -180,6 +183,18 @@ static ROWS: [Row; 8] = [
             \"version\":\"1.0.0\"}",
     },
 ];
+
+fn rows_1() -> &'static [Row] {
+    &ROWS_1
+}
+
+fn rows_2() -> &'static [Row] {
+    &ROWS_2
+}
+
+fn rows_in_parts() -> [&'static [Row]; 2] {
+    [rows_1(), rows_2()]
+}
 
 // Whether a row holds: the text stands behind what stood there, and a reader of JSON reads it.
 fn holds(alloc: Global, row: &Row) -> Result<bool, Memory> {
@@ -212,9 +227,11 @@ fn is_read(alloc: Global, text: &[u8]) -> Result<bool, Memory> {
 
 #[test]
 fn rows(rt: HostRuntime) -> Result<(), Fail> {
-    for row in &ROWS {
-        let holds = holds(rt.alloc(), row)?;
-        assert!(rt; holds, "{}", row.name);
+    for part in rows_in_parts() {
+        for row in part {
+            let holds = holds(rt.alloc(), row)?;
+            assert!(rt; holds, "{}", row.name);
+        }
     }
     Ok(())
 }

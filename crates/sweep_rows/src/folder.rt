@@ -2,7 +2,7 @@
 
 use crate::listed::listed;
 use nsq_base::Memory;
-use nsq_fakes::{Failing, FolderCall, MemFolder};
+use nsq_fakes::{Called, Failing, FolderCall, MemFolder};
 use queue_sweep::{Unswept, set_aside_unlisted};
 use std::alloc::Global;
 
@@ -86,11 +86,15 @@ pub fn calls_are(folder: &MemFolder, calls: &[FolderCall]) -> bool {
         return false;
     }
     for (i, call) in calls.iter().enumerate() {
-        if i >= called.len() || called[i].call != *call {
+        if i >= called.len() || !is_call(&called[i], *call) {
             return false;
         }
     }
     true
+}
+
+fn is_call(called: &Called, call: FolderCall) -> bool {
+    called.call == call
 }
 
 /// Whether each file is what is said of it.

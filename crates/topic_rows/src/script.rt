@@ -60,7 +60,7 @@ const WRITE_FAILS: Failing = Failing {
 };
 
 // Taking and paying.
-const TAKING: &[Script] = &[
+static TAKING_1: [Script; 3] = [
     Script {
         name: "a message is taken and paid in any order",
         topic: b"t",
@@ -129,8 +129,12 @@ const TAKING: &[Script] = &[
     },
 ];
 
+fn taking_1() -> &'static [Script] {
+    &TAKING_1
+}
+
 // What a fault and an emptying leave.
-const FAILING: &[Script] = &[
+static FAILING_1: [Script; 3] = [
     Script {
         name: "a fault of the disk takes no message",
         topic: b"t",
@@ -192,8 +196,12 @@ const FAILING: &[Script] = &[
     },
 ];
 
+fn failing_1() -> &'static [Script] {
+    &FAILING_1
+}
+
 // Topics without memory, and ephemeral ones.
-const BOUNDS: &[Script] = &[
+static BOUNDS_1: [Script; 3] = [
     Script {
         name: "without memory all go by the disk",
         topic: b"t",
@@ -253,8 +261,12 @@ const BOUNDS: &[Script] = &[
     },
 ];
 
+fn bounds_1() -> &'static [Script] {
+    &BOUNDS_1
+}
+
 // What a stop and a deletion leave.
-const STOPPING: &[Script] = &[
+static STOPPING_1: [Script; 4] = [
     Script {
         name: "a stop writes the head back",
         topic: b"t",
@@ -329,6 +341,10 @@ const STOPPING: &[Script] = &[
         ],
     },
 ];
+
+fn stopping_1() -> &'static [Script] {
+    &STOPPING_1
+}
 
 // Whether each step answers what it says.
 fn holds(alloc: Global, scratch: &mut Scratch, script: &Script) -> Result<bool, Memory> {
@@ -437,12 +453,14 @@ fn numbers_of(alloc: Global, letters: &[u8]) -> Result<Vec<u64>, Memory> {
     Ok(numbers)
 }
 
-static TABLES: [&[Script]; 4] = [TAKING, FAILING, BOUNDS, STOPPING];
+fn tables() -> [&'static [Script]; 4] {
+    [taking_1(), failing_1(), bounds_1(), stopping_1()]
+}
 
 /// The name of the first row that doesn't hold.
 pub fn wrong(alloc: Global, scratch: &mut Scratch) -> Result<Option<&'static str>, Memory> {
-    for table in &TABLES {
-        for row in *table {
+    for table in tables() {
+        for row in table {
             if !holds(alloc, scratch, row)? {
                 return Ok(Some(row.name));
             }

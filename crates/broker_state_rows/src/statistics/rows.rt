@@ -3,7 +3,7 @@
 use super::{Change, Row, Shows, wrong};
 use std::test::Fail;
 
-static NUMBERS: [Row; 20] = [
+static NUMBERS_1: [Row; 7] = [
     Row {
         name: "all of it",
         topic: b"",
@@ -60,6 +60,9 @@ static NUMBERS: [Row; 20] = [
         change: Change::TopicPaused,
         is: false,
     },
+];
+
+static NUMBERS_2: [Row; 7] = [
     Row {
         name: "a message of an ephemeral topic is on disk",
         topic: b"",
@@ -116,6 +119,9 @@ static NUMBERS: [Row; 20] = [
         change: Change::InFlight(3),
         is: false,
     },
+];
+
+static NUMBERS_3: [Row; 6] = [
     Row {
         name: "a dropped copy is counted as joined",
         topic: b"",
@@ -166,7 +172,19 @@ static NUMBERS: [Row; 20] = [
     },
 ];
 
-static LISTS: [Row; 21] = [
+fn numbers_1() -> &'static [Row] {
+    &NUMBERS_1
+}
+
+fn numbers_2() -> &'static [Row] {
+    &NUMBERS_2
+}
+
+fn numbers_3() -> &'static [Row] {
+    &NUMBERS_3
+}
+
+static LISTS_1: [Row; 7] = [
     Row {
         name: "another count of finished messages",
         topic: b"",
@@ -223,6 +241,9 @@ static LISTS: [Row; 21] = [
         change: Change::WithLost,
         is: false,
     },
+];
+
+static LISTS_2: [Row; 7] = [
     Row {
         name: "a closing client isn't told",
         topic: b"",
@@ -279,6 +300,9 @@ static LISTS: [Row; 21] = [
         change: Change::Nothing,
         is: true,
     },
+];
+
+static LISTS_3: [Row; 7] = [
     Row {
         name: "one topic is asked for, and all are told",
         topic: b"t",
@@ -337,9 +361,28 @@ static LISTS: [Row; 21] = [
     },
 ];
 
+fn lists_1() -> &'static [Row] {
+    &LISTS_1
+}
+
+fn lists_2() -> &'static [Row] {
+    &LISTS_2
+}
+
+fn lists_3() -> &'static [Row] {
+    &LISTS_3
+}
+
 #[test]
 fn rows(rt: HostRuntime) -> Result<(), Fail> {
-    let tables = [NUMBERS.as_slice(), LISTS.as_slice()];
+    let tables = [
+        numbers_1(),
+        numbers_2(),
+        numbers_3(),
+        lists_1(),
+        lists_2(),
+        lists_3(),
+    ];
     let wrong = wrong(rt.alloc(), &tables)?;
     assert!(rt; wrong.is_none(), "{}", wrong.unwrap_or(""));
     Ok(())

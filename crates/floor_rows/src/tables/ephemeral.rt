@@ -3,7 +3,7 @@
 use crate::rows::{EMPTY, PLAIN, Row, Start};
 use nsq_fakes::{Failing, FolderCall};
 
-static ROWS: [Row; 5] = [
+static ROWS_1: [Row; 3] = [
     Row {
         name: "an ephemeral channel goes with its last client",
         lines: "
@@ -64,6 +64,9 @@ static ROWS: [Row; 5] = [
         ",
         ..PLAIN
     },
+];
+
+static ROWS_2: [Row; 2] = [
     Row {
         name: "what finds no room is dropped, and uses an id all the same",
         start: Start { memory: 1, ..EMPTY },
@@ -101,6 +104,10 @@ static ROWS: [Row; 5] = [
     },
 ];
 
-pub fn rows() -> &'static [Row] {
-    &ROWS
+pub fn rows_1() -> &'static [Row] {
+    &ROWS_1
+}
+
+pub fn rows_2() -> &'static [Row] {
+    &ROWS_2
 }

@@ -2,7 +2,7 @@
 
 use crate::rows::{EMPTY, PLAIN, Row, SECOND, Start};
 
-static ROWS: [Row; 6] = [
+static ROWS_1: [Row; 3] = [
     Row {
         name: "a heartbeat after one interval, and silence after two",
         lines: "
@@ -62,6 +62,9 @@ static ROWS: [Row; 6] = [
         ",
         ..PLAIN
     },
+];
+
+static ROWS_2: [Row; 2] = [
     Row {
         name: "a touch gives a message its time anew",
         start: Start {
@@ -110,13 +113,15 @@ static ROWS: [Row; 6] = [
         ",
         ..PLAIN
     },
-    Row {
-        name: "a client's copies stay in flight when it goes, until they are due",
-        start: Start {
-            timeout: SECOND,
-            ..EMPTY
-        },
-        lines: "
+];
+
+static ROWS_3: [Row; 1] = [Row {
+    name: "a client's copies stay in flight when it goes, until they are due",
+    start: Start {
+        timeout: SECOND,
+        ..EMPTY
+    },
+    lines: "
             1 begin => begun | began
             1 SUB t c => OK | did
             1 PUB t x => OK | did
@@ -132,10 +137,17 @@ static ROWS: [Row; 6] = [
             at 1s
             2 next => sends i0*2 x | timed-out t c i0; sent i0*2 x
         ",
-        ..PLAIN
-    },
-];
+    ..PLAIN
+}];
 
-pub fn rows() -> &'static [Row] {
-    &ROWS
+pub fn rows_1() -> &'static [Row] {
+    &ROWS_1
+}
+
+pub fn rows_2() -> &'static [Row] {
+    &ROWS_2
+}
+
+pub fn rows_3() -> &'static [Row] {
+    &ROWS_3
 }

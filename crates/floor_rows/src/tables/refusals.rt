@@ -3,7 +3,7 @@
 use crate::rows::{EMPTY, PLAIN, Row, Start};
 use nsq_fakes::{Failing, FolderCall};
 
-static ROWS: [Row; 5] = [
+static ROWS_1: [Row; 3] = [
     Row {
         name: "a client without a channel",
         lines: "
@@ -69,6 +69,9 @@ static ROWS: [Row; 5] = [
         ",
         ..PLAIN
     },
+];
+
+static ROWS_2: [Row; 2] = [
     Row {
         name: "another client's message is in flight for none but that one",
         lines: "
@@ -107,6 +110,10 @@ static ROWS: [Row; 5] = [
     },
 ];
 
-pub fn rows() -> &'static [Row] {
-    &ROWS
+pub fn rows_1() -> &'static [Row] {
+    &ROWS_1
+}
+
+pub fn rows_2() -> &'static [Row] {
+    &ROWS_2
 }

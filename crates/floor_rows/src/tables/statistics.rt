@@ -2,7 +2,7 @@
 
 use crate::rows::{EMPTY, PLAIN, Row, SECOND, Start};
 
-static ROWS: [Row; 5] = [
+static ROWS_1: [Row; 3] = [
     Row {
         name: "a second FIN is refused, and a NOP behind it is taken",
         lines: "
@@ -68,6 +68,9 @@ static ROWS: [Row; 5] = [
         ",
         ..PLAIN
     },
+];
+
+static ROWS_2: [Row; 2] = [
     Row {
         name: "messages that wait go to the first channel alone",
         lines: "
@@ -106,6 +109,10 @@ static ROWS: [Row; 5] = [
     },
 ];
 
-pub fn rows() -> &'static [Row] {
-    &ROWS
+pub fn rows_1() -> &'static [Row] {
+    &ROWS_1
+}
+
+pub fn rows_2() -> &'static [Row] {
+    &ROWS_2
 }

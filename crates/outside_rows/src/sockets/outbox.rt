@@ -101,7 +101,7 @@ const INSIDE: &[u8] = &[0, 0, 0, 12, 0, 0, 0, 2, 0, 0, 0, 4, 0, 0, 0, 1];
 /// An error frame that isn't whole.
 const OPEN: &[u8] = &[0, 0, 0, 5, 0, 0, 0, 1];
 
-static ROWS: [Row; 14] = [
+static ROWS_1: [Row; 7] = [
     Row {
         name: "a writer that takes few bytes a call gets all, in order and none twice",
         answers: &[
@@ -184,6 +184,9 @@ static ROWS: [Row; 14] = [
             Call::Faults(1),
         ],
     },
+];
+
+static ROWS_2: [Row; 6] = [
     Row {
         name: "a writer that takes no byte has failed",
         answers: &[Answer::Takes(0)],
@@ -236,18 +239,35 @@ static ROWS: [Row; 14] = [
             Call::Gather(b"more", Write::Failed),
         ],
     },
-    Row {
-        name: "what was stopped sends nothing any more",
-        answers: &[],
-        calls: &[
-            Call::Gather(b"lost", Write::Took(4)),
-            Call::Stop,
-            Call::Gather(b"more", Write::Failed),
-            Call::Flush(Did::Failed),
-            Call::Holds(b""),
-        ],
-    },
 ];
+
+static ROWS_3: [Row; 1] = [Row {
+    name: "what was stopped sends nothing any more",
+    answers: &[],
+    calls: &[
+        Call::Gather(b"lost", Write::Took(4)),
+        Call::Stop,
+        Call::Gather(b"more", Write::Failed),
+        Call::Flush(Did::Failed),
+        Call::Holds(b""),
+    ],
+}];
+
+fn rows_1() -> &'static [Row] {
+    &ROWS_1
+}
+
+fn rows_2() -> &'static [Row] {
+    &ROWS_2
+}
+
+fn rows_3() -> &'static [Row] {
+    &ROWS_3
+}
+
+fn rows_in_parts() -> [&'static [Row]; 3] {
+    [rows_1(), rows_2(), rows_3()]
+}
 
 /// Whether a writer holds so many bytes of one value.
 fn holds_many(held: &[u8], byte: u8, count: usize) -> bool {
@@ -316,9 +336,11 @@ fn holds(alloc: Global, row: &Row) -> Result<bool, Fail> {
 
 #[test]
 fn rows(rt: HostRuntime) -> Result<(), Fail> {
-    for row in &ROWS {
-        let holds = holds(rt.alloc(), row)?;
-        assert!(rt; holds, "{}", row.name);
+    for part in rows_in_parts() {
+        for row in part {
+            let holds = holds(rt.alloc(), row)?;
+            assert!(rt; holds, "{}", row.name);
+        }
     }
     Ok(())
 }

@@ -24,8 +24,8 @@ fn tables() -> [&'static [Row]; 14] {
 
 #[test]
 fn rows(rt: HostRuntime) -> Result<(), Fail> {
-    for table in tables() {
-        for row in table {
+    for table in &tables() {
+        for row in *table {
             let holds = holds(rt.alloc(), row)?;
             assert!(rt; holds, "{}", row.name);
         }

@@ -233,8 +233,8 @@ fn rows_in_parts() -> [&'static [Row]; 3] {
 
 #[test]
 fn rows(rt: HostRuntime) -> Result<(), Fail> {
-    for part in rows_in_parts() {
-        for row in part {
+    for part in &rows_in_parts() {
+        for row in *part {
             let holds = is_read(rt.alloc(), row.text.as_bytes(), row.written.as_bytes())?;
             assert!(rt; holds, "{}", row.text);
         }

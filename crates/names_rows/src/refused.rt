@@ -115,8 +115,8 @@ fn texts_in_parts() -> [&'static [&'static str]; 3] {
 
 #[test]
 fn texts(rt: HostRuntime) -> Result<(), Fail> {
-    for part in texts_in_parts() {
-        for text in part {
+    for part in &texts_in_parts() {
+        for text in *part {
             let is_bad = is_bad(rt.alloc(), text.as_bytes())?;
             assert!(rt; is_bad, "{}", text);
         }

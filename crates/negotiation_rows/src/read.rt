@@ -221,8 +221,8 @@ fn holds_other(alloc: Global, row: &Other) -> Result<bool, Memory> {
 
 #[test]
 fn rows(rt: HostRuntime) -> Result<(), Fail> {
-    for table in tables() {
-        for row in table {
+    for table in &tables() {
+        for row in *table {
             let holds = holds(rt.alloc(), row.body, row.gets)?;
             assert!(rt; holds, "{}", row.body);
         }

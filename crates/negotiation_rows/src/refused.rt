@@ -93,8 +93,8 @@ fn tables() -> [&'static [&'static str]; 3] {
 
 #[test]
 fn rows(rt: HostRuntime) -> Result<(), Fail> {
-    for table in tables() {
-        for body in table {
+    for table in &tables() {
+        for body in *table {
             let holds = holds(rt.alloc(), body, Gets::Refused)?;
             assert!(rt; holds, "{}", *body);
         }

@@ -452,8 +452,8 @@ fn call_laws() {
 
 // The name of the first row of files, of records or of metadata that doesn't hold, if any.
 fn wrong_text(alloc: Global) -> Result<Option<&'static str>, Memory> {
-    for part in findings_in_parts() {
-        for row in part {
+    for part in &findings_in_parts() {
+        for row in *part {
             if !finds(alloc, row)? {
                 return Ok(Some(row.name));
             }

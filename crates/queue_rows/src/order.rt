@@ -660,8 +660,8 @@ fn is(called: &Called, call: Call) -> bool {
 
 #[test]
 fn rows(rt: HostRuntime) -> Result<(), Fail> {
-    for part in rows_in_parts() {
-        for row in part {
+    for part in &rows_in_parts() {
+        for row in *part {
             let holds = holds(rt.alloc(), row)?;
             assert!(rt; holds, "{}", row.script.name);
         }

@@ -398,8 +398,8 @@ fn tables() -> [&'static [Script]; 16] {
 
 #[test]
 fn rows(rt: HostRuntime) -> Result<(), Fail> {
-    for table in tables() {
-        for row in table {
+    for table in &tables() {
+        for row in *table {
             let holds = holds(rt.alloc(), row)?;
             assert!(rt; holds, "{}", row.name);
         }

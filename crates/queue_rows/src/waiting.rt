@@ -440,8 +440,8 @@ fn scratch(alloc: Global) -> Result<Vec<u8>, Memory>
 fn rows(rt: HostRuntime) -> Result<(), Fail> {
     let alloc = rt.alloc();
     let mut scratch = scratch(alloc)?;
-    for part in rows_in_parts() {
-        for row in part {
+    for part in &rows_in_parts() {
+        for row in *part {
             let holds = holds(alloc, &mut scratch, row)?;
             assert!(rt; holds, "{}", row.name);
         }

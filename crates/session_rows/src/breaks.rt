@@ -525,8 +525,8 @@ fn wrong_at<R: Wait>(
 
 #[test]
 fn rows(rt: HostRuntime) -> Result<(), Fail> {
-    for part in talks_in_parts() {
-        for talk in part {
+    for part in &talks_in_parts() {
+        for talk in *part {
             for one in &BREAKS {
                 let wrong = wrong(&rt, rt.alloc(), talk, one)?;
                 let (at, going) = wrong.unwrap_or((0, ""));

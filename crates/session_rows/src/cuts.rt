@@ -285,8 +285,8 @@ fn wrong<R: Wait>(
 
 #[test]
 fn rows(rt: HostRuntime) -> Result<(), Fail> {
-    for part in rows_in_parts() {
-        for row in part {
+    for part in &rows_in_parts() {
+        for row in *part {
             let wrong = wrong(&rt, rt.alloc(), row)?;
             let (how, cut) = wrong.unwrap_or(("", 0));
             assert!(rt; wrong.is_none(), "{} {} {}", row.name, how, cut);

@@ -838,8 +838,8 @@ fn tables() -> [&'static [Row]; 41] {
 
 #[test]
 fn rows(rt: HostRuntime) -> Result<(), Fail> {
-    for table in tables() {
-        for row in table {
+    for table in &tables() {
+        for row in *table {
             let holds = holds(&rt, rt.alloc(), row)?;
             assert!(rt; holds, "{}", row.name);
         }

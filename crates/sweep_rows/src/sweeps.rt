@@ -131,8 +131,8 @@ fn rows_in_parts() -> [&'static [Row]; 3] {
 #[test]
 fn rows(rt: HostRuntime) -> Result<(), Fail> {
     let alloc = rt.alloc();
-    for part in rows_in_parts() {
-        for row in part {
+    for part in &rows_in_parts() {
+        for row in *part {
             let holds = holds(alloc, row)?;
             assert!(rt; holds, "{}", row.name);
         }

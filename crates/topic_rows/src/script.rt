@@ -459,8 +459,8 @@ fn tables() -> [&'static [Script]; 4] {
 
 /// The name of the first row that doesn't hold.
 pub fn wrong(alloc: Global, scratch: &mut Scratch) -> Result<Option<&'static str>, Memory> {
-    for table in tables() {
-        for row in table {
+    for table in &tables() {
+        for row in *table {
             if !holds(alloc, scratch, row)? {
                 return Ok(Some(row.name));
             }

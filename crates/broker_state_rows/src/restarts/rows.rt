@@ -388,8 +388,8 @@ fn rows_in_parts() -> [&'static [Row]; 9] {
 
 #[test]
 fn rows(rt: HostRuntime) -> Result<(), Fail> {
-    for part in rows_in_parts() {
-        for row in part {
+    for part in &rows_in_parts() {
+        for row in *part {
             let holds = holds(rt.alloc(), row)?;
             assert!(rt; holds, "{}", row.name);
         }

@@ -245,8 +245,8 @@ fn holds(alloc: Global, row: &Row) -> Result<bool, Memory> {
 
 #[test]
 fn rows(rt: HostRuntime) -> Result<(), Fail> {
-    for part in rows_in_parts() {
-        for row in part {
+    for part in &rows_in_parts() {
+        for row in *part {
             let holds = holds(rt.alloc(), row)?;
             assert!(rt; holds, "{}", row.name);
         }

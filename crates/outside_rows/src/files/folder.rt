@@ -283,8 +283,8 @@ fn holds(rt: &HostRuntime, row: &Row) -> Result<bool, Fail> {
 
 #[test]
 fn rows(rt: HostRuntime) -> Result<(), Fail> {
-    for part in rows_in_parts() {
-        for row in part {
+    for part in &rows_in_parts() {
+        for row in *part {
             let holds = holds(&rt, row)?;
             assert!(rt; holds, "{}", row.name);
         }

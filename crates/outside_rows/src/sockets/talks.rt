@@ -487,8 +487,8 @@ fn holds<R: Wait + Clock + Net<Listener = TcpListener, Stream = TcpStream>>(
 
 #[test]
 fn rows(rt: HostRuntime) -> Result<(), Fail> {
-    for part in rows_in_parts() {
-        for row in part {
+    for part in &rows_in_parts() {
+        for row in *part {
             let holds = holds(&rt, rt.alloc(), row)?;
             assert!(rt; holds, "{}", row.name);
         }

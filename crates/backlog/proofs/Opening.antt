@@ -8,7 +8,7 @@ use Rattle.v2_frame.specs.Written.{message_bytes}
 use Rattle.disk_queue.specs.Seen.{Seen as Queue, opened_queue}
 use Rattle.disk_queue.specs.Holding.{Holds}
 use Rattle.disk_queue.specs.Opened.{IsOpened}
-use Rattle.queue_files.specs.declared.options.QueueOptions.{QueueOptions}
+use Rattle.disk_queue.specs.QueueOptions.{QueueOptions}
 use Rattle.backlog.specs.Seen.{ForMessages, longest_body}
 use Rattle.backlog.specs.Lists.{HoldsAll, IsFoundAgain, WasFound}
 

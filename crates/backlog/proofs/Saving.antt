@@ -18,7 +18,7 @@ use Rattle.disk_queue.specs.Answers.{PutFails, PutTooLong, bodies_after, FoundUn
 use Rattle.disk_queue.specs.declared.standing.Staged.{Staged}
 use Rattle.disk_queue.specs.declared.answers.Put.{Put}
 use Rattle.disk_queue.specs.declared.answers.Put.TheVariants as put
-use Rattle.queue_files.specs.declared.options.QueueOptions.{QueueOptions}
+use Rattle.disk_queue.specs.QueueOptions.{QueueOptions}
 use Rattle.disk_queue.specs.declared.answers.Sync.{Sync}
 use Rattle.disk_queue.specs.declared.answers.Sync.TheVariants as sync
 use Rattle.disk_queue.proofs.Kept.{own_join}

@@ -11,7 +11,7 @@ use Rattle.disk_queue.specs.Seen.{Seen as Queue}
 use Rattle.disk_queue.specs.Holding.{Holds, SaveStands, OwnChange}
 use Rattle.disk_queue.specs.Answers.{FoundUnlessFailed}
 use Rattle.disk_queue.specs.Opened.{RefusedWhere}
-use Rattle.queue_opening.specs.declared.refusal.Open.{Open}
+use Rattle.disk_queue.specs.Open.{Open}
 use Rattle.disk_queue.specs.declared.answers.Sync.{Sync}
 use Rattle.disk_queue.specs.declared.answers.Emptied.{Emptied}
 use Rattle.disk_queue.specs.declared.answers.Emptied.TheVariants as emptying

@@ -6,7 +6,7 @@ use Rattle.nsq_outside.specs.declared.did.Did.TheVariants as did
 use Rattle.disk_queue.specs.Seen.{Seen as Queue, fresh_queue, opened_queue, unmarked, forgotten, committed, advanced, after_stage, after_save, one_more, IsEarly, IsUnchanged}
 use Rattle.disk_queue.specs.Answers.{NotDueWhere}
 use Rattle.disk_queue.specs.Emptying.{EmptySeen as QueueEmptySeen}
-use Rattle.queue_files.specs.declared.options.QueueOptions.{QueueOptions}
+use Rattle.disk_queue.specs.QueueOptions.{QueueOptions}
 use Rattle.disk_queue.specs.declared.answers.Stage.TheVariants.{Staged}
 use Rattle.disk_queue.specs.declared.answers.Sync.{Sync}
 use Rattle.disk_queue.specs.declared.answers.Sync.TheVariants as sync

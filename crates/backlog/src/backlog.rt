@@ -3,7 +3,7 @@ ghost use Rattle.nsq_outside.specs.Files.{Files};
 ghost use Rattle.queue_image.specs.FileNames.{meta_file};
 ghost use Rattle.queue_image.specs.Metas.{IsIdle};
 ghost use Rattle.disk_queue.specs.Opened.{IsOpened, IsTidied, FilesOfChange};
-ghost use Rattle.queue_opening.specs.Refusals.{OpenFails, OpenCounts};
+ghost use Rattle.disk_queue.specs.Refusals.{OpenFails, OpenCounts};
 ghost use Rattle.v2_frame.specs.declared.message.Message.{Message};
 ghost use Rattle.backlog.specs.Seen.{ForMessages, IsOpenedAt, fresh_backlog, ring_depth, disk_depth};
 ghost use Rattle.backlog.specs.Lists.{IsFoundAgain, OnDisk, Stands, WasFound, OpenRefused};

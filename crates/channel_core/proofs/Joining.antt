@@ -3,7 +3,7 @@ use Rattle.std.proofs.Common.{◌≡◌, ℕ, ◌+◌, ◌≤◌, ◌<◌, Bool,
 use Rattle.std.specs.List.{count_by}
 use Rattle.nsq_outside.specs.Files.{Files}
 use Rattle.v2_frame.specs.declared.message.Message.{Message}
-use Rattle.disk_queue.specs.Seen.{Seen as Queue}
+use Rattle.backlog.specs.Queues.{Seen as Queue}
 use Rattle.backlog.specs.Seen.{Seen as Backlog}
 use Rattle.backlog.specs.Lists.{OnDisk, stored}
 use Rattle.backlog.specs.declared.answers.PutOne.{PutOne}

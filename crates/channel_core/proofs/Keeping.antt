@@ -3,7 +3,7 @@ use Rattle.std.proofs.Common.{◌≡◌, ◌≢◌, ℕ, ◌+◌, ◌*◌, ◌�
 use Rattle.std.specs.Prelude.{is_some, IsSome, IfSome}
 use Rattle.nsq_outside.specs.Files.{Files}
 use Rattle.v2_frame.specs.declared.message.Message.{Message}
-use Rattle.disk_queue.specs.Seen.{Seen as Queue}
+use Rattle.backlog.specs.Queues.{Seen as Queue}
 use Rattle.backlog.specs.Seen.{Seen as Backlog, FitsLimit, SameQueue, undone}
 use Rattle.backlog.specs.declared.backlog.Lent.TheVariants as lending
 use Rattle.backlog.specs.declared.answers.PutOne.{PutOne}

@@ -4,7 +4,7 @@ use Rattle.std.specs.List.{count_by}
 use Rattle.std.specs.Prelude.{is_some}
 use Rattle.nsq_outside.specs.Files.{Files}
 use Rattle.v2_frame.specs.declared.message.Message.{Message}
-use Rattle.disk_queue.specs.Seen.{Seen as Queue}
+use Rattle.backlog.specs.Queues.{Seen as Queue}
 use Rattle.backlog.specs.Lists.{OnDisk}
 use Rattle.broker_history.specs.State.{Copy, InFlight, Deferred, counted, is_live}
 use Rattle.broker_history.specs.Channels.{MovesLive, GivesBack, TimesOut, ComesDue, one, copy_at, put_off, put_back, back_in}

@@ -8,7 +8,7 @@ use Rattle.nsq_outside.specs.Files.{Files}
 use Rattle.v2_frame.specs.Written.{message_bytes}
 use Rattle.v2_frame.specs.declared.message.Message.{Message}
 use Rattle.queue_image.specs.Finds.{IsFound, Records}
-use Rattle.disk_queue.specs.Seen.{Seen as Queue}
+use Rattle.backlog.specs.Queues.{Seen as Queue}
 use Rattle.backlog.specs.Seen.{Seen as Backlog, FlushSeen, longest_body}
 use Rattle.backlog.specs.Lists.{OnDisk, QueueFinds, FlushFinds, disk_flushed, stored}
 use Rattle.backlog.specs.declared.answers.PutOne.{PutOne}

@@ -6,7 +6,7 @@ use Rattle.std.proofs.lemmas.Bool.Decides.{eqb_tells}
 use Rattle.nsq_outside.specs.Files.{Files}
 use Rattle.v2_frame.specs.Written.{message_bytes}
 use Rattle.v2_frame.specs.declared.message.Message.{Message}
-use Rattle.disk_queue.specs.Seen.{Seen as Queue}
+use Rattle.backlog.specs.Queues.{Seen as Queue}
 use Rattle.backlog.specs.Seen.{ring_depth, disk_depth, lent_of_ring}
 use Rattle.backlog.specs.Lists.{OnDisk}
 use Rattle.backlog.specs.declared.backlog.Lent.TheVariants.{Nothing}

@@ -3,8 +3,8 @@ use Rattle.std.specs.Prelude.{◌≡◌, ◌⊎◌, ℕ, List, Option, Some, Non
 use Rattle.nsq_outside.specs.Files.{Files}
 use Rattle.nsq_outside.specs.Causes.{Rose}
 use Rattle.v2_frame.specs.declared.message.Message.{Message}
-use Rattle.disk_queue.specs.Seen.{Seen as Queue}
-use Rattle.disk_queue.specs.Emptying.{IsForgotten, IsGone}
+use Rattle.backlog.specs.Queues.{Seen as Queue}
+use Rattle.backlog.specs.Emptying.{IsForgotten, IsGone}
 use Rattle.backlog.specs.Seen.{SameQueue}
 use Rattle.backlog.specs.Lists.{OnDisk, Stands}
 use Rattle.channel_core.specs.declared.answers.DropChannel.{DropChannel}

@@ -1,9 +1,9 @@
 -- A channel as it is made or opened.
 use Rattle.std.specs.Prelude.{◌≡◌, ◌≤◌, ℕ, ◌^◌, false, not, List, [], MatchBool, IsSome, IfSome}
 use Rattle.nsq_base.specs.declared.options.Options.{Options}
-use Rattle.queue_files.specs.declared.options.QueueOptions.{QueueOptions}
-use Rattle.queue_opening.specs.declared.refusal.Open.{Open}
-use Rattle.queue_opening.specs.declared.refusal.Open.TheVariants.{Memory}
+use Rattle.backlog.specs.QueueOptions.{QueueOptions}
+use Rattle.backlog.specs.Open.{Open}
+use Rattle.backlog.specs.Open.TheVariants.{Memory}
 use Rattle.backlog.specs.Seen.{Seen as Backlog, IsOpenedAt, fresh_backlog}
 use Rattle.broker_history.specs.State.{is_ephemeral_channel}
 use Rattle.channel_core.specs.declared.about.About.{About}

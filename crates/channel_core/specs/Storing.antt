@@ -5,8 +5,8 @@ use Rattle.nsq_outside.specs.Causes.{Rose}
 use Rattle.v2_frame.specs.Written.{message_bytes}
 use Rattle.v2_frame.specs.declared.message.Message.{Message}
 use Rattle.queue_image.specs.Finds.{IsFound, Records}
-use Rattle.disk_queue.specs.declared.answers.Emptied.{Emptied}
-use Rattle.disk_queue.specs.declared.answers.Emptied.TheVariants as emptying
+use Rattle.backlog.specs.Emptied.{Emptied}
+use Rattle.backlog.specs.Emptied.TheVariants as emptying
 use Rattle.backlog.specs.Seen.{QueueIsSaved, longest_body}
 use Rattle.backlog.specs.Lists.{OnDisk}
 use Rattle.backlog.specs.declared.answers.Flushed.{Flushed}

@@ -2,8 +2,8 @@ ghost use Rattle.std.specs.Prelude.{◌≡◌, ◌≤◌, ◌^◌, ℕ, List, []
 ghost use Rattle.nsq_outside.specs.Files.{Files};
 ghost use Rattle.queue_image.specs.FileNames.{meta_file};
 ghost use Rattle.queue_image.specs.Metas.{IsIdle};
-ghost use Rattle.queue_opening.specs.Refusals.{OpenFails, OpenCounts};
-ghost use Rattle.disk_queue.specs.Opened.{IsTidied, FilesOfChange};
+ghost use Rattle.backlog.specs.Refusals.{OpenFails, OpenCounts};
+ghost use Rattle.backlog.specs.Opened.{IsTidied, FilesOfChange};
 ghost use Rattle.v2_frame.specs.declared.message.Message.{Message};
 ghost use Rattle.backlog.specs.Lists.{IsFoundAgain, OnDisk, Stands, WasFound, OpenRefused};
 ghost use Rattle.broker_history.specs.State.{flying, is_ephemeral_channel};
@@ -22,12 +22,11 @@ mod settling;
 mod storing;
 
 use crate::{About, Counts, Drawn, Look};
-use backlog::Backlog;
+use backlog::{Backlog, Open};
 use channel_copies::{Clients, Deferred, Flights};
 use making::{backlog_options, is_ephemeral, queue_name};
 use nsq_base::{Chan, Memory, MsgId, Options, Topic};
 use nsq_outside::Folder;
-use queue_opening::Open;
 use std::alloc::Global;
 use std::marker::Model;
 use v2_frame::Message;

@@ -1,8 +1,8 @@
 -- A backlog's ring holds as many after each call.
 use Rattle.std.proofs.Common.{◌≡◌, ap}
 use Rattle.v2_frame.specs.declared.message.Message.{Message}
-use Rattle.disk_queue.specs.declared.answers.Emptied.{Emptied}
-use Rattle.disk_queue.specs.declared.answers.Emptied.TheVariants as emptying
+use Rattle.backlog.specs.Emptied.{Emptied}
+use Rattle.backlog.specs.Emptied.TheVariants as emptying
 use Rattle.backlog.specs.Seen.{Seen as Backlog, PutSeen, DrawSeen, DrawsOne, FindsNone, of_ring, of_disk, no_queue, no_record, SettleSeen, FlushSeen, EmptySeen}
 use Rattle.backlog.specs.declared.backlog.Lent.{Lent}
 use Rattle.backlog.specs.declared.backlog.Lent.TheVariants as lending

@@ -3,13 +3,12 @@ use Rattle.std.proofs.Common.{◌≡◌, ℕ, ◌+◌, ◌*◌, ◌-◌, ◌^◌
 use Rattle.std.specs.List.{count_by}
 use Rattle.std.proofs.Math.Nat.{add-mul}
 use Rattle.std.proofs.lemmas.List.{take_all, drop_all}
-use Rattle.std.proofs.lemmas.List.{take_all, drop_all}
 use Rattle.nsq_outside.specs.Causes.{Rose}
 use Rattle.nsq_outside.specs.Files.{Files, SameFiles}
 use Rattle.v2_frame.specs.declared.message.Message.{Message}
-use Rattle.disk_queue.specs.Seen.{Seen as Queue}
-use Rattle.disk_queue.specs.Holding.{OwnChange}
-use Rattle.disk_queue.proofs.Kept.{own_join}
+use Rattle.backlog.specs.Queues.{Seen as Queue}
+use Rattle.backlog.specs.Holding.{OwnChange}
+use Rattle.backlog.proofs.Kept.{own_join}
 use Rattle.backlog.specs.Seen.{Seen as Backlog, SameQueue, FlushSeen}
 use Rattle.backlog.specs.Lists.{OnDisk, Stands, DiskChanges, PutChanges, stored, disk_flushed}
 use Rattle.backlog.specs.declared.answers.PutOne.{PutOne}

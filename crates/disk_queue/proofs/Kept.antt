@@ -19,16 +19,16 @@ use Rattle.disk_queue.specs.Seen.{Seen, unmarked, forgotten, fresh_queue, after_
 use Rattle.disk_queue.specs.Holding.{Holds, IsNext, staged_part, SaveStands, OwnChange}
 use Rattle.queue_image.specs.Metas.{Says, IsIdle}
 use Rattle.disk_queue.specs.Parts.{IsSound, WritesPlace, StageWrites, place_for, base_for, with_record}
-use Rattle.queue_files.specs.FileCalls.{WritesRecord}
+use Rattle.queue_opening.specs.FileCalls.{WritesRecord}
 use Rattle.disk_queue.specs.Answers.{StageTooLong, StaysWhereTooLong}
-use Rattle.queue_files.specs.Replaced.{OnlyTwoChange}
+use Rattle.queue_opening.specs.Replaced.{OnlyTwoChange}
 use Rattle.disk_queue.specs.declared.standing.Staged.{Staged}
-use Rattle.queue_files.specs.declared.options.QueueOptions.{QueueOptions}
+use Rattle.queue_opening.specs.QueueOptions.{QueueOptions}
 use Rattle.disk_queue.specs.declared.answers.Stage.{Stage}
 use Rattle.disk_queue.specs.declared.answers.Stage.TheVariants.{Staged as IsStaged, Fault, TooLong}
 use Rattle.queue_image.specs.declared.positions.Positions.{Positions}
 use Rattle.disk_queue.specs.declared.standing.LastSave.{LastSave}
-use Rattle.queue_files.proofs.WrittenBytes.{take-cut, cut-inside, length-cut_to, take-written, has-written, take-less, as-long}
+use Rattle.queue_opening.proofs.WrittenBytes.{take-cut, cut-inside, length-cut_to, take-written, has-written, take-less, as-long}
 
 -- nothing changed that is read before a place in a file, from the file on that is read first
 pub record Before (bytes bytes' : ℕ → List ℕ) (from file at : ℕ) : Type 0 where

@@ -18,9 +18,9 @@ use Rattle.queue_image.proofs.Naming.{one_number, metadata_apart}
 use Rattle.disk_queue.specs.Seen.{Seen, unmarked, ended, emptied, after_save}
 use Rattle.disk_queue.specs.Holding.{Holds, SaveStands, OwnChange}
 use Rattle.disk_queue.specs.Answers.{IsKept}
-use Rattle.queue_files.specs.Replaced.{Replaces, OnlyTwoChange}
+use Rattle.queue_opening.specs.Replaced.{Replaces, OnlyTwoChange}
 use Rattle.disk_queue.specs.Parts.{IsSound, OnlySaveChanges, Rewrites}
-use Rattle.queue_files.specs.FileCalls.{Gone, OnlyNumbersChange}
+use Rattle.queue_opening.specs.FileCalls.{Gone, OnlyNumbersChange}
 use Rattle.disk_queue.specs.Emptying.{EmptySeen, EmptyCounts, Deletes, IsForgotten, IsGone}
 use Rattle.disk_queue.specs.declared.answers.Sync.{Sync}
 use Rattle.disk_queue.specs.declared.answers.Sync.TheVariants.{Done as Saved, Failed as Unsaved}

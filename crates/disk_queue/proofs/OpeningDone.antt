@@ -18,7 +18,7 @@ use Rattle.disk_queue.specs.Opened.{IsOpened, IsTidied, IsTidiedAt, RefusedWhere
 use Rattle.queue_opening.specs.Tidied.{IsSetAside, OnlyTidied, IsTidy, IsWritten, OnlyWritten}
 use Rattle.queue_opening.specs.Planned.{IsPlan, IsPlanned, FindsBadMeta}
 use Rattle.queue_image.specs.declared.positions.Positions.{Positions}
-use Rattle.queue_files.specs.declared.options.QueueOptions.{QueueOptions}
+use Rattle.queue_opening.specs.QueueOptions.{QueueOptions}
 use Rattle.queue_opening.specs.declared.refusal.Open.{Open}
 use Rattle.queue_opening.specs.declared.refusal.Open.TheVariants.{Fault, BadMeta as IsBadMeta, Memory}
 use Rattle.queue_opening.specs.declared.plan.Plan.{Plan}

@@ -18,7 +18,7 @@ use Rattle.disk_queue.specs.Reading.IsUnreadable.{short, wrong, passing}
 use Rattle.disk_queue.specs.Peeking.{PeekMakes, HeadFinds}
 use Rattle.disk_queue.specs.Parts.{IsSound}
 use Rattle.disk_queue.specs.declared.queue.reading.Head.{Head}
-use Rattle.queue_files.specs.declared.options.QueueOptions.{QueueOptions}
+use Rattle.queue_opening.specs.QueueOptions.{QueueOptions}
 use Rattle.disk_queue.specs.declared.answers.Peek.{Peek}
 use Rattle.disk_queue.specs.declared.answers.Peek.TheVariants.{Got, Empty, Fault, Damaged}
 use Rattle.disk_queue.proofs.Kept.{stands_kept}

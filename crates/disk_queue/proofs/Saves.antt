@@ -22,9 +22,9 @@ use Rattle.queue_image.proofs.Naming.{one_number, metadata_apart}
 use Rattle.disk_queue.specs.Seen.{Seen, unmarked, committed, staged_more, after_stage, after_save, IsUnchanged}
 use Rattle.disk_queue.specs.Holding.{Holds, staged_part, SaveStands, OwnChange}
 use Rattle.disk_queue.specs.Answers.{IsKept, KeptWhereDone, FoundUnlessFailed, NotDueWhere, Saves, PutSaves}
-use Rattle.queue_files.specs.Replaced.{OnlyTwoChange, Replaces}
+use Rattle.queue_opening.specs.Replaced.{OnlyTwoChange, Replaces}
 use Rattle.disk_queue.specs.Parts.{IsSound, OnlySaveChanges, Rewrites, PutChanges, place_for, with_record}
-use Rattle.queue_files.specs.FileCalls.{OnlyNumbersChange, Gone}
+use Rattle.queue_opening.specs.FileCalls.{OnlyNumbersChange, Gone}
 use Rattle.disk_queue.specs.declared.answers.Stage.TheVariants.{Staged as IsStaged}
 use Rattle.disk_queue.specs.declared.standing.Staged.{Staged}
 use Rattle.disk_queue.specs.declared.answers.Put.TheVariants.{Stored}

@@ -8,7 +8,7 @@ use Rattle.queue_image.specs.Finds.{IsFound, Records}
 use Rattle.disk_queue.specs.Seen.{Seen, unmarked, emptied, after_save}
 use Rattle.disk_queue.specs.Holding.{Holds, SaveStands}
 use Rattle.disk_queue.specs.Answers.{IsKept}
-use Rattle.queue_files.specs.Replaced.{OnlyTwoChange}
+use Rattle.queue_opening.specs.Replaced.{OnlyTwoChange}
 use Rattle.disk_queue.specs.declared.answers.Sync.TheVariants as sync
 use Rattle.disk_queue.specs.declared.answers.Emptied.{Emptied}
 use Rattle.disk_queue.specs.declared.answers.Emptied.TheVariants.{Done, Fault}

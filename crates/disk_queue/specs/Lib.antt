@@ -7,4 +7,7 @@ pub mod Reading
 pub mod Emptying
 pub mod Opened
 pub mod Peeking
-pub use Rattle.queue_files.specs.Replaced
+pub use Rattle.queue_opening.specs.Replaced
+pub use Rattle.queue_opening.specs.Refusals
+pub use Rattle.queue_opening.specs.declared.refusal.Open
+pub use Rattle.queue_opening.specs.QueueOptions

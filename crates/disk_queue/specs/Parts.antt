@@ -10,7 +10,7 @@ use Rattle.queue_image.specs.Metas.{meta_text}
 use Rattle.disk_queue.specs.Seen.{Seen, behind}
 use Rattle.disk_queue.specs.Holding.{staged_part}
 use Rattle.disk_queue.specs.Answers.{IsUnsaved}
-use Rattle.queue_files.specs.Replaced.{OnlyTwoChange}
+use Rattle.queue_opening.specs.Replaced.{OnlyTwoChange}
 use Rattle.queue_image.specs.declared.positions.Positions.{Positions}
 use Rattle.disk_queue.specs.declared.standing.Staged.{Staged}
 use Rattle.disk_queue.specs.declared.answers.Stage.{Stage}

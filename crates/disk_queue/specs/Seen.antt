@@ -2,7 +2,7 @@
 use Rattle.std.specs.Prelude.{ℕ, ◌≡◌, ◌+◌, ◌-◌, ◌^◌, ◌<◌, List, Bool, true, false, min, nat_lt, if◌then◌else◌, Option, Some, None, unwrap_or, IsTrue}
 use Rattle.queue_image.specs.Places.{rolls, start}
 use Rattle.queue_image.specs.declared.positions.Positions.{Positions}
-use Rattle.queue_files.specs.declared.options.QueueOptions.{QueueOptions}
+use Rattle.queue_opening.specs.QueueOptions.{QueueOptions}
 use Rattle.disk_queue.specs.declared.standing.Staged.{Staged}
 use Rattle.disk_queue.specs.declared.standing.LastSave.{LastSave}
 use Rattle.disk_queue.specs.declared.answers.Stage.{Stage}

@@ -2,6 +2,8 @@
 //!
 //! The files always hold the list, also after a call that failed, and an opening finds it once it is saved (`queue_image` says
 //! what an opening finds). No call but `Queue::fresh` and `Queue::open` takes memory.
+//!
+//! It hands on what it is opened with and why an opening is refused, of `queue_opening`.
 #![tactic(auto)]
 
 mod answers;
@@ -11,5 +13,4 @@ mod standing;
 
 pub use answers::{Deleted, Emptied, Peek, Put, Stage, Sync, Take};
 pub use queue::Queue;
-pub use queue_files::{QueueOptions, replace_file, switch, write_temp};
-pub use queue_opening::Open;
+pub use queue_opening::{Open, QueueOptions, replace_file, switch, write_temp};

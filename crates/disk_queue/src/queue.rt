@@ -7,9 +7,9 @@ ghost use Rattle.disk_queue.specs.Seen.{fresh_queue, unmarked, forgotten, commit
 ghost use Rattle.disk_queue.specs.Holding.{Holds, SaveStands, OwnChange};
 ghost use Rattle.queue_image.specs.Metas.{IsIdle};
 ghost use Rattle.disk_queue.specs.Answers.{waiting_after, bodies_after, StaysWhereTooLong, StageTooLong, PutTooLong, StageFails, StageCounts, SyncFails, SyncCounts, PutFails, PutCounts, NotDueWhere, PutDue, Saves, PutSaves, KeptWhereDone, FoundUnlessFailed, PutKept};
-ghost use Rattle.queue_files.specs.Replaced.{OnlyTwoChange};
+ghost use Rattle.queue_opening.specs.Replaced.{OnlyTwoChange};
 ghost use Rattle.disk_queue.specs.Parts.{IsSound, OnlySaveChanges, Rewrites, PutChanges, PutWrites, StageWrites, WritesPlace, base_for, first_base, place_for};
-ghost use Rattle.queue_files.specs.FileCalls.{Gone, CountsNone};
+ghost use Rattle.queue_opening.specs.FileCalls.{Gone, CountsNone};
 
 mod emptying;
 mod opening;
@@ -19,8 +19,8 @@ use crate::standing::{LastSave, Staged};
 use crate::{Put, QueueOptions, Stage, Sync};
 use nsq_base::Memory;
 use nsq_outside::{Did, Folder};
-use queue_files::QueueFiles;
 use queue_image::{LAST_FILE, Positions};
+use queue_opening::QueueFiles;
 use std::alloc::Global;
 use std::marker::Model;
 

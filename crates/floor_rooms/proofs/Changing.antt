@@ -14,7 +14,7 @@ use Rattle.path_image.specs.Found.{Pairwise}
 use Rattle.broker_history.specs.State.{Channel, Topic, State, topic_of, channel_of, with_topic, with_channel}
 use Rattle.broker_history.specs.Changes.{AtChannel}
 use Rattle.broker_history.proofs.Lists.{find_put, find_passes, exact_bytes, same_bytes}
-use Rattle.backlog.specs.Lists.{Stands}
+use Rattle.channel_core.specs.Lists.{Stands}
 use Rattle.topic_core.specs.Seen.{Seen as Queue}
 use Rattle.topic_core.specs.Rows.{IsTopicOf}
 use Rattle.topic_core.specs.Laws.{DiskStays}

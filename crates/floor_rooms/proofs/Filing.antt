@@ -5,8 +5,8 @@ use Rattle.nsq_base.specs.Name.{IsName}
 use Rattle.nsq_outside.specs.Files.{Files}
 use Rattle.queue_image.specs.FileNames.{IsQueueName}
 use Rattle.queue_image.specs.FileNames.IsQueueName.{of_topic, of_channel}
-use Rattle.disk_queue.specs.Seen.{Seen as Queue}
-use Rattle.backlog.specs.Lists.{DiskChanges}
+use Rattle.channel_core.specs.Queues.{Seen as Queue}
+use Rattle.channel_core.specs.Lists.{DiskChanges}
 use Rattle.channel_core.specs.Seen.{queue_name}
 use Rattle.floor_rooms.specs.Changes.{OnlyQueueFiles}
 

@@ -13,13 +13,13 @@ use Rattle.nsq_base.specs.Places.{BelongsAt, StandsAt}
 use Rattle.nsq_base.proofs.PutBy.{IsAscendingBy-put_by, put_by-belongs}
 use Rattle.nsq_base.specs.declared.options.Options.{Options}
 use Rattle.nsq_outside.specs.Files.{Files}
-use Rattle.queue_files.specs.declared.options.QueueOptions.{QueueOptions}
+use Rattle.channel_core.specs.QueueOptions.{QueueOptions}
 use Rattle.queue_image.specs.FileNames.{meta_file}
 use Rattle.queue_image.specs.Metas.{IsIdle}
 use Rattle.path_image.specs.Found.{Pairwise}
-use Rattle.disk_queue.specs.Seen.{Seen as Queue, fresh_queue}
-use Rattle.backlog.specs.Seen.{QueueIsSaved}
-use Rattle.backlog.specs.Lists.{Stands}
+use Rattle.channel_core.specs.Queues.{Seen as Queue, fresh_queue}
+use Rattle.channel_core.specs.Backlogs.{QueueIsSaved}
+use Rattle.channel_core.specs.Lists.{Stands}
 use Rattle.broker_history.specs.State.{Topic, State, is_empty, new_topic, topic_of, with_topic}
 use Rattle.broker_history.specs.Changes.{made_topic}
 use Rattle.broker_history.proofs.Lists.{exact_bytes, find_passes}

@@ -15,13 +15,13 @@ use Rattle.nsq_base.specs.Places.{BelongsAt, StandsAt}
 use Rattle.nsq_base.specs.declared.options.Options.{Options}
 use Rattle.nsq_base.proofs.PutBy.{All-put_by, IsAscendingBy-put_by}
 use Rattle.nsq_outside.specs.Files.{Files}
-use Rattle.queue_files.specs.declared.options.QueueOptions.{QueueOptions}
+use Rattle.channel_core.specs.QueueOptions.{QueueOptions}
 use Rattle.queue_image.specs.FileNames.{meta_file}
 use Rattle.queue_image.specs.Metas.{IsIdle}
 use Rattle.path_image.specs.Found.{Pairwise}
-use Rattle.disk_queue.specs.Seen.{fresh_queue}
-use Rattle.backlog.specs.Seen.{QueueIsSaved, ring_depth, disk_depth}
-use Rattle.backlog.specs.Lists.{OnDisk, Stands}
+use Rattle.channel_core.specs.Queues.{fresh_queue}
+use Rattle.channel_core.specs.Backlogs.{QueueIsSaved, ring_depth, disk_depth}
+use Rattle.channel_core.specs.Lists.{OnDisk, Stands}
 use Rattle.broker_history.specs.State.{Client, Phase, Fresh, Subscribed, Closing, Lost, Route, Channel, Topic, State, has_channel, is_empty, is_ephemeral_channel, is_lost, is_on, new_channel, new_topic, channel_of, channel_or_new, with_channel, with_topic}
 use Rattle.broker_history.specs.Channels.{IsKept}
 use Rattle.broker_history.specs.Changes.{made_channel}
@@ -29,7 +29,7 @@ use Rattle.broker_history.proofs.Lists.{exact_bytes, find_put}
 use Rattle.topic_core.specs.Kept.{IsNamed}
 use Rattle.topic_core.specs.Rows.{IsTopicOf}
 use Rattle.topic_core.specs.Seen.{Seen as TopicSeen, fresh_topic, owed_of, queue_options as topic_options}
-use Rattle.channel_copies.specs.Clients.{client_of}
+use Rattle.channel_core.specs.Clients.{client_of}
 use Rattle.channel_core.specs.Answers.{all_due}
 use Rattle.channel_core.specs.Made.{FitsRun, IsFresh, about_of, queue_options}
 use Rattle.channel_core.specs.Seen.{Seen as ChannelSeen, channel_with, queue_name, seen_channel}

@@ -11,7 +11,7 @@ use Rattle.broker_history.specs.State.{Channel, Topic, State, with_topic}
 use Rattle.broker_history.proofs.Lists.{exact_bytes, find_put}
 use Rattle.floor_laws.proofs.Pairs.{pairs_put}
 use Rattle.broker_history.specs.Channels.{IsKept}
-use Rattle.backlog.specs.Lists.{OnDisk, Stands}
+use Rattle.channel_core.specs.Lists.{OnDisk, Stands}
 use Rattle.topic_core.specs.Seen.{Seen as TopicSeen}
 use Rattle.topic_core.specs.Rows.{IsTopicOf}
 use Rattle.channel_core.specs.Seen.{Seen as ChannelSeen, seen_channel}

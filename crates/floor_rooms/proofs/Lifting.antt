@@ -3,7 +3,7 @@ use Rattle.std.proofs.Common.{◌≡◌, ℕ, List, ◌++◌, sym, ap, subst, �
 use Rattle.nsq_base.specs.declared.options.Options.{Options}
 use Rattle.nsq_outside.specs.Files.{Files}
 use Rattle.v2_frame.specs.declared.message.Message.{Message}
-use Rattle.backlog.specs.Lists.{OnDisk, Stands}
+use Rattle.channel_core.specs.Lists.{OnDisk, Stands}
 use Rattle.broker_history.specs.State.{Channel, State, is_ephemeral_channel}
 use Rattle.broker_history.specs.Channels.{Room as Space, Moves, MovesLive, Joins, JoinsLive, Sends, Finishes, Touches, GivesBack, TimesOut, ComesDue, HoldsBack, Gets}
 use Rattle.broker_history.specs.Step.{room_of}

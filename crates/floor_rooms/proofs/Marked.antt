@@ -8,7 +8,7 @@ use Rattle.std.proofs.lemmas.Option.{get_or_from_slice_get}
 use Rattle.nsq_outside.specs.Files.{Files}
 use Rattle.v2_frame.specs.declared.message.Message.{Message}
 use Rattle.broker_history.specs.State.{State}
-use Rattle.channel_copies.specs.Clients.{client_of}
+use Rattle.channel_core.specs.Clients.{client_of}
 use Rattle.channel_core.specs.Answers.{IsNextDue}
 use Rattle.channel_core.specs.Seen.{Seen as ChannelSeen, channel_with}
 use Rattle.floor_rooms.specs.declared.stall.Stall.{Stall}

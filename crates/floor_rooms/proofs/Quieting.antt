@@ -5,7 +5,7 @@ use Rattle.std.proofs.lemmas.Bool.{false≢true, eqb-true}
 use Rattle.nsq_outside.specs.Files.{Files}
 use Rattle.path_image.specs.Found.{Pairwise}
 use Rattle.v2_frame.specs.declared.message.Message.{Message}
-use Rattle.backlog.specs.Seen.{ring_depth, disk_depth}
+use Rattle.channel_core.specs.Backlogs.{ring_depth, disk_depth}
 use Rattle.broker_history.specs.State.{Channel, Topic, State, is_due, is_empty}
 use Rattle.broker_history.specs.Topics.{takes, owes, has_due}
 use Rattle.broker_history.specs.Before.{is_topic_due, is_any_due}

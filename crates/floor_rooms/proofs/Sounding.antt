@@ -12,13 +12,13 @@ use Rattle.nsq_base.specs.Names.{IsAscendingBy}
 use Rattle.nsq_base.specs.Options.{IsInRange}
 use Rattle.nsq_base.specs.declared.options.Options.{Options}
 use Rattle.nsq_base.proofs.PutBy.{All-put_by, IsAscendingBy-put_by}
-use Rattle.queue_files.specs.declared.options.QueueOptions.{QueueOptions}
-use Rattle.disk_queue.specs.Seen.{Seen as Queue}
-use Rattle.backlog.specs.Seen.{SameQueue}
+use Rattle.channel_core.specs.QueueOptions.{QueueOptions}
+use Rattle.channel_core.specs.Queues.{Seen as Queue}
+use Rattle.channel_core.specs.Backlogs.{SameQueue}
 use Rattle.broker_history.specs.State.{Client, Route, is_empty, is_ephemeral_channel}
 use Rattle.broker_history.proofs.Lists.{exact_bytes, find_put}
 use Rattle.topic_core.specs.Seen.{owed_of, queue_options as topic_options}
-use Rattle.channel_copies.specs.Clients.{client_of}
+use Rattle.channel_core.specs.Clients.{client_of}
 use Rattle.channel_core.specs.declared.about.About.{About}
 use Rattle.channel_core.specs.Made.{about_of, queue_options}
 use Rattle.channel_core.specs.Seen.{Seen as ChannelSeen, queue_name}

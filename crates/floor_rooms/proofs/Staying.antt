@@ -8,8 +8,8 @@ use Rattle.queue_image.specs.FileNames.{meta_file}
 use Rattle.queue_image.specs.FileNames.IsOwnFile.{metadata}
 use Rattle.queue_image.specs.Metas.{IsIdle}
 use Rattle.queue_image.proofs.Naming.{one_channel, no_channel}
-use Rattle.disk_queue.specs.Seen.{Seen as Queue}
-use Rattle.backlog.specs.Lists.{DiskChanges}
+use Rattle.channel_core.specs.Queues.{Seen as Queue}
+use Rattle.channel_core.specs.Lists.{DiskChanges}
 use Rattle.broker_history.specs.State.{Channel, Topic}
 use Rattle.topic_core.specs.Rows.{IsTopicOf}
 use Rattle.topic_core.specs.Laws.{OwnFilesStay, DiskStays}

@@ -3,10 +3,10 @@ use Rattle.std.specs.Prelude.{◌≡◌, ◌≢◌, ◌⊎◌, ◌≤◌, ℕ, B
 use Rattle.nsq_outside.specs.Files.{Files}
 use Rattle.queue_image.specs.FileNames.{IsOwnFile, IsQueueName}
 use Rattle.path_image.specs.Found.{Pairwise}
-use Rattle.backlog.specs.Seen.{SameQueue}
+use Rattle.channel_core.specs.Backlogs.{SameQueue}
 use Rattle.topic_core.specs.Laws.{OwnFilesStay}
 use Rattle.topic_core.specs.Seen.{IsSettled, owed_of}
-use Rattle.channel_copies.specs.Clients.{client_of}
+use Rattle.channel_core.specs.Clients.{client_of}
 use Rattle.channel_core.specs.Seen.{queue_name}
 use Rattle.channel_core.specs.declared.drawn.Drawn.TheVariants.{Nothing}
 use Rattle.floor_rooms.specs.declared.stall.Stall.{Stall}

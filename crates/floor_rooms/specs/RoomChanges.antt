@@ -1,7 +1,7 @@
 -- What changes of a hall as one of its topics does with its own queue.
 use Rattle.std.specs.Prelude.{◌≡◌, ◌≤◌, ℕ, List, All, Some, IfSome}
 use Rattle.nsq_outside.specs.Files.{Files}
-use Rattle.backlog.specs.Lists.{Stands}
+use Rattle.channel_core.specs.Lists.{Stands}
 use Rattle.broker_history.specs.State.{Topic}
 use Rattle.topic_core.specs.Rows.{IsTopicOf}
 use Rattle.floor_rooms.specs.declared.room.Room.{Room}

@@ -5,14 +5,14 @@ use Rattle.nsq_base.specs.Name.{IsName}
 use Rattle.nsq_base.specs.Names.{IsAscendingBy}
 use Rattle.nsq_base.specs.Options.{IsInRange}
 use Rattle.nsq_base.specs.declared.options.Options.{Options}
-use Rattle.disk_queue.specs.Seen.{Seen as Queue}
-use Rattle.backlog.specs.Seen.{QueueIsSaved, ring_depth, disk_depth}
+use Rattle.channel_core.specs.Queues.{Seen as Queue}
+use Rattle.channel_core.specs.Backlogs.{QueueIsSaved, ring_depth, disk_depth}
 use Rattle.broker_history.specs.State.{Client, is_empty, is_ephemeral_channel, is_fresh, has_channel}
-use Rattle.queue_files.specs.declared.options.QueueOptions.{QueueOptions}
+use Rattle.channel_core.specs.QueueOptions.{QueueOptions}
 use Rattle.topic_core.specs.Seen.{IsSettled, owed_of, queue_options as topic_options}
 use Rattle.topic_core.specs.Kept.{IsNamed}
-use Rattle.channel_copies.specs.Clients.{client_of}
-use Rattle.channel_copies.specs.declared.clients.Client as copies
+use Rattle.channel_core.specs.Clients.{client_of}
+use Rattle.channel_core.specs.Client as copies
 use Rattle.channel_core.specs.Answers.{all_due}
 use Rattle.channel_core.specs.Made.{about_of, queue_options}
 use Rattle.channel_core.specs.Seen.{Seen as ChannelSeen, channel_with, queue_name}

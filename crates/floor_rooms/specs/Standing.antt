@@ -6,7 +6,7 @@ use Rattle.queue_image.specs.FileNames.{meta_file}
 use Rattle.queue_image.specs.Metas.{IsIdle}
 use Rattle.v2_frame.specs.declared.message.Message.{Message}
 use Rattle.path_image.specs.Found.{Pairwise}
-use Rattle.backlog.specs.Lists.{OnDisk, Stands}
+use Rattle.channel_core.specs.Lists.{OnDisk, Stands}
 use Rattle.broker_history.specs.State.{Channel, Topic, State, is_ephemeral_channel}
 use Rattle.broker_history.specs.Channels.{IsKept}
 use Rattle.topic_core.specs.Rows.{IsTopicOf}

@@ -7,3 +7,4 @@ pub mod Tidies
 pub mod FoundReads
 pub mod Lists
 pub mod FoundAgain
+pub use Rattle.queue_files.proofs.WrittenBytes

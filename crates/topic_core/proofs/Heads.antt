@@ -7,7 +7,7 @@ use Rattle.std.proofs.lemmas.Bool.Decides.{eqb_tells}
 use Rattle.v2_frame.specs.Written.{message_bytes}
 use Rattle.nsq_outside.specs.Files.{Files}
 use Rattle.v2_frame.specs.declared.message.Message.{Message}
-use Rattle.disk_queue.specs.Seen.{Seen as Queue}
+use Rattle.backlog.specs.Queues.{Seen as Queue}
 use Rattle.backlog.specs.Seen.{Seen as Backlog, with_lent, undone, ring_depth, disk_depth, lent_of_ring}
 use Rattle.backlog.specs.Lists.{OnDisk, IsFirstMessage, SettlesFirst, list_with, disk_settled}
 use Rattle.backlog.specs.declared.backlog.Lent.{Lent}

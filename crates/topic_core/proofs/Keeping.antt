@@ -10,9 +10,9 @@ use Rattle.queue_image.proofs.Keeping.{finding_keeps}
 use Rattle.v2_frame.specs.declared.message.Message.{Message}
 use Rattle.v2_frame.specs.Written.{message_bytes}
 use Rattle.path_image.specs.Found.{HasMessages}
-use Rattle.disk_queue.specs.Seen.{Seen as Queue}
-use Rattle.disk_queue.specs.Opened.{FilesOfChange}
-use Rattle.disk_queue.proofs.Others.{holding_keeps, standing_keeps}
+use Rattle.backlog.specs.Queues.{Seen as Queue}
+use Rattle.backlog.specs.Opened.{FilesOfChange}
+use Rattle.backlog.proofs.Others.{holding_keeps, standing_keeps}
 use Rattle.backlog.specs.Lists.{OnDisk, Stands, DiskChanges}
 use Rattle.broker_history.specs.State.{Topic}
 use Rattle.topic_core.specs.Seen.{Seen}

@@ -6,14 +6,14 @@ use Rattle.std.proofs.lemmas.Bool.{false≢true}
 use Rattle.std.proofs.lemmas.List.{append-nil, map-append, take_all, drop_all, length-drop}
 use Rattle.std.proofs.lemmas.List.Elements.{All-nil, All-cons, All-head, All-tail}
 use Rattle.nsq_base.specs.Name.{is_ephemeral}
-use Rattle.queue_files.specs.declared.options.QueueOptions.{QueueOptions}
+use Rattle.backlog.specs.QueueOptions.{QueueOptions}
 use Rattle.nsq_outside.specs.Files.{Files, SameFiles}
 use Rattle.v2_frame.specs.declared.message.Message.{Message}
 use Rattle.v2_frame.specs.Written.{message_bytes}
 use Rattle.queue_image.specs.Finds.{IsFound, Records}
-use Rattle.disk_queue.specs.Seen.{Seen as Queue}
-use Rattle.disk_queue.specs.Holding.{OwnChange}
-use Rattle.disk_queue.proofs.Kept.{own_join}
+use Rattle.backlog.specs.Queues.{Seen as Queue}
+use Rattle.backlog.specs.Holding.{OwnChange}
+use Rattle.backlog.proofs.Kept.{own_join}
 use Rattle.backlog.specs.Answers.{FlushFails}
 use Rattle.path_image.specs.Found.{Pairwise, IsRecordOf, HasMessages}
 use Rattle.backlog.specs.Seen.{Seen as Backlog, PutSeen, PutWhere, FlushSeen, QueueIsSaved, SameQueue, IsOpenedAt, longest_body}

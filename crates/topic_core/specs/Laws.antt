@@ -3,8 +3,8 @@ use Rattle.std.specs.Prelude.{ℕ, ◌≡◌, ◌≢◌, List, Option, IfSome}
 use Rattle.nsq_outside.specs.Files.{Files}
 use Rattle.queue_image.specs.FileNames.{IsOwnFile}
 use Rattle.v2_frame.specs.declared.message.Message.{Message}
-use Rattle.disk_queue.specs.Seen.{Seen as Queue}
-use Rattle.disk_queue.specs.Opened.{FilesOfChange}
+use Rattle.backlog.specs.Queues.{Seen as Queue}
+use Rattle.backlog.specs.Opened.{FilesOfChange}
 use Rattle.backlog.specs.Lists.{Stands, DiskChanges}
 use Rattle.broker_history.specs.State.{Topic}
 use Rattle.topic_core.specs.Seen.{Seen}

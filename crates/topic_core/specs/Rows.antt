@@ -4,8 +4,8 @@ use Rattle.nsq_base.specs.Name.{is_ephemeral}
 use Rattle.nsq_outside.specs.Files.{Files}
 use Rattle.v2_frame.specs.declared.message.Message.{Message}
 use Rattle.path_image.specs.Found.{HasMessages}
-use Rattle.disk_queue.specs.declared.answers.Emptied.{Emptied}
-use Rattle.disk_queue.specs.declared.answers.Emptied.TheVariants as emptying
+use Rattle.backlog.specs.Emptied.{Emptied}
+use Rattle.backlog.specs.Emptied.TheVariants as emptying
 use Rattle.backlog.specs.Seen.{Seen as Backlog}
 use Rattle.backlog.specs.Lists.{OnDisk, IsFirstMessage, list_with}
 use Rattle.backlog.specs.declared.backlog.Lent.{Lent}

@@ -2,9 +2,9 @@
 use Rattle.std.specs.Prelude.{ℕ, ◌≡◌, ◌≢◌, ◌+◌, ◌-◌, ◌^◌, List, [], length, take, min, Bool, false, not, if◌then◌else◌, MatchBool, Option, Some, None, IfSome}
 use Rattle.nsq_base.specs.Name.{is_ephemeral}
 use Rattle.nsq_base.specs.declared.options.Options.{Options}
-use Rattle.queue_files.specs.declared.options.QueueOptions.{QueueOptions}
-use Rattle.queue_opening.specs.declared.refusal.Open.{Open}
-use Rattle.queue_opening.specs.declared.refusal.Open.TheVariants.{Memory}
+use Rattle.backlog.specs.QueueOptions.{QueueOptions}
+use Rattle.backlog.specs.Open.{Open}
+use Rattle.backlog.specs.Open.TheVariants.{Memory}
 use Rattle.v2_frame.specs.declared.message.Message.{Message}
 use Rattle.backlog.specs.Seen.{Seen as Backlog, fresh_backlog, longest_body, room, IsOpenedAt}
 use Rattle.backlog.specs.declared.backlog.Lent.TheVariants.{Nothing}

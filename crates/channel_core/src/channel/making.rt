@@ -9,10 +9,9 @@ ghost use Rattle.channel_core.specs.Seen.{queue_name};
 
 use super::Channel;
 use crate::{About, Drawn};
-use backlog::Backlog;
+use backlog::{Backlog, QueueOptions};
 use channel_copies::{Clients, Deferred, Flights};
 use nsq_base::{Chan, Memory, Options, Topic};
-use queue_files::QueueOptions;
 use std::alloc::Global;
 
 impl Channel {

@@ -1,5 +1,5 @@
 ghost use Rattle.std.specs.Prelude.{◌≡◌, ◌^◌, ◌≤◌, List, length, true, IsTrue};
-ghost use Rattle.disk_queue.specs.Answers.{SyncFails};
+ghost use Rattle.backlog.specs.QueueAnswers.{SyncFails};
 ghost use Rattle.v2_frame.specs.declared.message.Message.{Message};
 ghost use Rattle.backlog.specs.Seen.{FitsLimit, SyncSeen};
 ghost use Rattle.backlog.specs.Lists.{OnDisk, Stands, DiskChanges, SyncFinds, EmptyFinds};
@@ -17,10 +17,9 @@ ghost use Rattle.channel_core.specs.Deleting.{Deletes, DeleteSeen, DeleteStands,
 use super::Channel;
 use super::making::is_ephemeral;
 use crate::{DropChannel, Offer};
-use backlog::{Flushed, Gone, PutOne};
+use backlog::{Emptied, Flushed, Gone, PutOne, Sync};
 use channel_copies::{Deferred, Flights, put_back};
 use channel_storing::{write_deferred, write_flights};
-use disk_queue::{Emptied, Sync};
 use nsq_base::Steps;
 use nsq_outside::Folder;
 use std::sync::ledger::Ledger;

@@ -2,11 +2,11 @@ ghost use Rattle.std.specs.Prelude.{◌≡◌, ◌+◌, ◌≤◌, ℕ, List, Is
 ghost use Rattle.nsq_outside.specs.Causes.{DidFails, DidCounts};
 ghost use Rattle.queue_image.specs.FileNames.{meta_file, meta_temp};
 ghost use Rattle.queue_image.specs.Metas.{meta_text};
-ghost use Rattle.queue_files.specs.Replaced.{Replaces, OnlyTwoChange};
+ghost use Rattle.queue_opening.specs.Replaced.{Replaces, OnlyTwoChange};
 ghost use Rattle.disk_queue.specs.Seen.{emptied, ended};
 ghost use Rattle.disk_queue.specs.Holding.{Holds, SaveStands, OwnChange};
 ghost use Rattle.disk_queue.specs.Parts.{IsSound, OnlySaveChanges};
-ghost use Rattle.queue_files.specs.FileCalls.{Gone, OnlyNumbersChange, RemovalFails};
+ghost use Rattle.queue_opening.specs.FileCalls.{Gone, OnlyNumbersChange, RemovalFails};
 ghost use Rattle.disk_queue.specs.Emptying.{Deletes, EmptySeen, EmptyKept, EmptyFound, EmptySaves, EmptyFails, EmptyCounts, DeleteSeen, DeleteHolds, DeleteStands, DeleteSaves, DeleteFound, DeleteGone, DeleteOrder, DeleteFails, DeleteCounts, bodies_left};
 
 use super::Queue;

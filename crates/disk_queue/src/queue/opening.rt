@@ -9,9 +9,8 @@ use super::Queue;
 use crate::standing::{LastSave, Staged};
 use crate::{Open, QueueOptions};
 use nsq_outside::{Did, Folder};
-use queue_files::QueueFiles;
 use queue_image::Positions;
-use queue_opening::{Names, make_plan, tidy, write_down};
+use queue_opening::{Names, QueueFiles, make_plan, tidy, write_down};
 use std::alloc::Global;
 
 /// Opening.

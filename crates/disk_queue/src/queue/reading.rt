@@ -14,7 +14,7 @@ ghost use Rattle.disk_queue.specs.Reading.{left_of, Turns, PeekSeen, PeekSize, P
 use super::Queue;
 use crate::{Peek, Sync, Take};
 use nsq_outside::{Folder, ReadAt};
-use queue_files::size_spelled;
+use queue_opening::size_spelled;
 
 /// The reading side.
 impl Queue {

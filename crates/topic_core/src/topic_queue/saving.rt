@@ -1,6 +1,6 @@
 ghost use Rattle.std.specs.Prelude.{◌≡◌, ◌≤◌, List, [], length, true, IsTrue, IsSome};
 ghost use Rattle.nsq_base.specs.Name.{is_ephemeral};
-ghost use Rattle.disk_queue.specs.Answers.{SyncFails, SyncCounts};
+ghost use Rattle.backlog.specs.QueueAnswers.{SyncFails, SyncCounts};
 ghost use Rattle.v2_frame.specs.declared.message.Message.{Message};
 ghost use Rattle.backlog.specs.Seen.{SyncSeen, EmptySeen, SameQueue};
 ghost use Rattle.backlog.specs.Lists.{OnDisk, Stands, DiskChanges, SyncFinds, EmptyFinds};
@@ -15,8 +15,7 @@ ghost use Rattle.topic_core.specs.Deleting.{DropSeen, DropStays, backlog_gone};
 
 use super::TopicQueue;
 use crate::DropTopic;
-use backlog::{Flushed, Gone, PutOne};
-use disk_queue::{Emptied, Sync};
+use backlog::{Emptied, Flushed, Gone, PutOne, Sync};
 use nsq_outside::Folder;
 
 /// Saving and emptying.

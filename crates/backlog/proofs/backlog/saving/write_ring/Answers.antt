@@ -1,5 +1,5 @@
 use Rattle.std.proofs.Common.{◌≡◌, length, take, sym, ap, refl, arith}
-use Rattle.queue_files.specs.declared.options.QueueOptions.{QueueOptions}
+use Rattle.disk_queue.specs.QueueOptions.{QueueOptions}
 use Rattle.backlog.specs.Seen.{FitsLimit}
 use Rattle.backlog.proofs.Drawing.{ring_empty}
 use Rattle.backlog.proofs.Saving.{moving_more, moving_refused, not_stored, put_rose, moved, first_left, short_left, record_long, left_over}

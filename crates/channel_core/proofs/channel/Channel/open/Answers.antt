@@ -1,5 +1,5 @@
 use Rattle.std.proofs.Common.{ℕ, ◌∙◌, List, subst}
-use Rattle.disk_queue.specs.Opened.{FilesOfChange}
+use Rattle.backlog.specs.Opened.{FilesOfChange}
 use Rattle.backlog.specs.Lists.{IsFoundAgain}
 use Rattle.channel_core.proofs.channel.Channel.open.Goals as goal
 

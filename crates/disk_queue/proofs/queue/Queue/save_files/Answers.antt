@@ -1,5 +1,5 @@
 use Rattle.std.proofs.Common.{subst}
-use Rattle.queue_files.specs.FileCalls.{OnlyNumbersChange}
+use Rattle.queue_opening.specs.FileCalls.{OnlyNumbersChange}
 use Rattle.disk_queue.proofs.Saves.{rewritten, not_rewritten}
 use Rattle.disk_queue.proofs.queue.Queue.save_files.Goals as goal
 

@@ -1,7 +1,7 @@
 use Rattle.std.proofs.Common.{arith, ap, ◌∙◌, subst, sym, length, ◌+◌}
 use Rattle.queue_image.specs.FileNames.{data_file}
 use Rattle.disk_queue.specs.Answers.{StageTooLong}
-use Rattle.queue_files.specs.Replaced.{OnlyTwoChange}
+use Rattle.queue_opening.specs.Replaced.{OnlyTwoChange}
 use Rattle.disk_queue.specs.Holding.{SaveStands}
 use Rattle.disk_queue.specs.declared.answers.Stage.TheVariants.{Fault}
 use Rattle.disk_queue.proofs.Kept.{back, back_staged, holds_unmarked, own_two, two_join, stands_staged, stands_after, fits_stays, meta_two, stage_writes}

@@ -1,5 +1,5 @@
 use Rattle.std.proofs.Common.{rules, ℕ, ◌≡◌, List, false, subst, sym}
-use Rattle.disk_queue.specs.Opened.{FilesOfChange}
+use Rattle.backlog.specs.Opened.{FilesOfChange}
 use Rattle.nsq_base.specs.Name.{is_ephemeral}
 use Rattle.v2_frame.specs.declared.message.Message.{Message}
 use Rattle.backlog.specs.Lists.{IsFoundAgain, OnDisk, WasFound}

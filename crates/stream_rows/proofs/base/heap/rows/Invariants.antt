@@ -1,4 +1,4 @@
-use Rattle.stream_rows.proofs.heap.rows.Given as goal
+use Rattle.stream_rows.proofs.base.heap.rows.Given as goal
 
 -- the ledger that the blank is for
 abbrev pub ghosts-wrong_row : goal.ghosts-wrong_row

@@ -22,7 +22,7 @@ use std::marker::Model;
 use v2_frame::Message;
 
 /// Where the message came from that was drawn and isn't settled yet.
-#[derive(Clone, Copy, Debug, PartialEq, Eq)]
+#[derive(Clone, Copy)]
 enum Lent {
     /// None was drawn.
     Nothing,

@@ -15,7 +15,7 @@ pub enum PutOne {
 }
 
 /// The answer of `Backlog::put_all`.
-#[derive(Clone, Copy, Debug, PartialEq, Eq)]
+#[derive(Clone, Copy, PartialEq)]
 pub enum PutAll {
     /// None is left with the caller: the ring has the first, as far as it has room; the others are on disk or, where there is no disk,
     /// dropped.
@@ -40,7 +40,7 @@ pub enum Drawn {
 }
 
 /// The answer of `Backlog::flush`.
-#[derive(Clone, Copy, Debug, PartialEq, Eq)]
+#[derive(Clone, Copy, PartialEq)]
 pub enum Flushed {
     /// All is on disk, and saved.
     Done,
@@ -58,7 +58,7 @@ pub enum Gone {
 }
 
 /// How many messages wait, and where. A message that was drawn and isn't settled is counted where it came from.
-#[derive(Clone, Copy, Debug, PartialEq, Eq)]
+#[derive(Clone, Copy, PartialEq, Eq)]
 pub struct Depths {
     /// In the ring.
     pub ring: u64,

@@ -22,7 +22,7 @@ use std::marker::Model;
 use v2_frame::Message;
 
 /// Where the message came from that was drawn and isn't settled yet.
-#[derive(Clone, Copy, Debug, PartialEq, Eq)]
+#[derive(Clone, Copy)]
 enum Lent {
     /// None was drawn.
     Nothing,
@@ -74,6 +74,7 @@ impl Backlog {
         ensures list { IfOk result (λ b. (files : Files) → OnDisk b.queue files []) }
         ensures stands { IfOk result (λ b. (files : Files) → IsIdle (files (meta_file name.now)) → Stands b.queue files) }
     {
+        let ring = HeapCircularBuffer::with_capacity(alloc, ring)?;
         let queue = if durable {
             Some(Queue::fresh(alloc, name, options)?)
         } else {
@@ -81,7 +82,7 @@ impl Backlog {
         };
         Ok(Backlog {
             alloc,
-            ring: HeapCircularBuffer::with_capacity(alloc, ring)?,
+            ring,
             queue,
             lent: Lent::Nothing,
         })

@@ -1,10 +1,10 @@
-use crate::commands::{did, publish, sent};
-use crate::moves::{moved, one, same};
+use crate::commands::{did, publish, sent, with_one};
+use crate::moves::{moved, one, one_made, same};
 use broker_changes::state::{deleted, deleted_first, emptied, gone, made, set_paused};
 use broker_history::{Act, Ask, Entry, Said};
 use broker_plain::{Phase, default_heartbeat};
 use broker_state::{Client, State};
-use nsq_base::{Body, Memory};
+use nsq_base::{Body, Chan, Memory, Topic};
 use nsq_outside::End;
 use std::alloc::Global;
 use v2_frame::{Frame, FrameKind};
@@ -34,8 +34,7 @@ pub fn acted(alloc: Global, state: &State, entry: &Entry, end: End) -> Result<Ve
 
 // The state after a client went.
 fn left(alloc: Global, state: &State, number: u64) -> Result<Vec<State>, Memory> {
-    let state = gone(alloc, state.copy(alloc)?, number)?;
-    one(alloc, state)
+    one_made(alloc, gone(alloc, state.copy(alloc)?, number))
 }
 
 // The state after a stop.
@@ -55,8 +54,21 @@ fn by_move(alloc: Global, state: &State, entry: &Entry, end: End) -> Result<Vec<
 
 // The state with a client that began (`begun`): its heartbeat is on, and its time for a message is the option's.
 fn begun(alloc: Global, state: &State, at: u64, number: u64) -> Result<Vec<State>, Memory> {
+    let state = with_begun(alloc, state, number)?;
+    let client = fresh(alloc, &state, at, number);
+    one_made(alloc, state.with_client(alloc, client))
+}
+
+// The state in which a connection of this number began.
+fn with_begun(alloc: Global, state: &State, number: u64) -> Result<State, Memory> {
     let mut state = state.copy(alloc)?;
-    let client = Client {
+    state.began.push(number)?;
+    Ok(state)
+}
+
+// A client that began.
+fn fresh(alloc: Global, state: &State, at: u64, number: u64) -> Client {
+    Client {
         number,
         phase: Phase::Fresh,
         route: None,
@@ -71,10 +83,7 @@ fn begun(alloc: Global, state: &State, at: u64, number: u64) -> Result<Vec<State
         finish_count: 0,
         message_count: 0,
         requeue_count: 0,
-    };
-    state.began.push(number)?;
-    let state = state.with_client(alloc, client)?;
-    one(alloc, state)
+    }
 }
 
 // The state after a heartbeat, from which the client's next one counts.
@@ -84,8 +93,7 @@ fn beaten(alloc: Global, state: &State, at: u64, number: u64) -> Result<Vec<Stat
     };
     let mut client = client.copy(alloc)?;
     client.beat_from = at;
-    let state = state.copy(alloc)?.with_client(alloc, client)?;
-    one(alloc, state)
+    one_made(alloc, with_one(alloc, state, client))
 }
 
 // Whether a command with this reply and end is kept from being carried out (`is_kept_off`): it was refused, or met a disk fault.
@@ -114,51 +122,60 @@ fn asked(
     said: &Said,
     end: End,
 ) -> Result<Vec<State>, Memory> {
-    let state = state.copy(alloc)?;
     match end {
         End::Done => if says_done(said) {
             carried_out(alloc, state, at, ask)
         } else {
-            one(alloc, state)
+            same(alloc, state)
         },
         End::Faulted(count) => broken_off(alloc, state, ask, count),
-        End::Skip => one(alloc, state),
+        End::Skip => same(alloc, state),
     }
 }
 
 // The states after something was asked and done.
-fn carried_out(alloc: Global, state: State, at: u64, ask: &Ask) -> Result<Vec<State>, Memory> {
+fn carried_out(alloc: Global, state: &State, at: u64, ask: &Ask) -> Result<Vec<State>, Memory> {
     match ask {
         Ask::Publish(topic, delay, bodies) => {
-            publish(alloc, &state, at, *delay, topic, bodies.as_slice())
+            publish(alloc, state, at, *delay, topic, bodies.as_slice())
         }
-        _ => {
-            let state = changed(alloc, state, ask)?;
-            one(alloc, state)
-        }
+        _ => one_made(alloc, changed(alloc, state, ask)),
     }
 }
 
 // The state after something was asked and done that is no publish.
-fn changed(alloc: Global, state: State, ask: &Ask) -> Result<State, Memory> {
+fn changed(alloc: Global, state: &State, ask: &Ask) -> Result<State, Memory> {
     match ask {
-        Ask::Publish(_, _, _) | Ask::Stats(_, _) => Ok(state),
-        Ask::Create(topic, channel) => made(alloc, state, topic, channel),
-        Ask::Delete(topic, channel) => deleted(alloc, state, topic, channel),
-        Ask::Empty(topic, channel) => emptied(alloc, state, topic, channel),
-        Ask::Pause(topic, channel) => set_paused(alloc, state, true, topic, channel),
-        Ask::Unpause(topic, channel) => set_paused(alloc, state, false, topic, channel),
+        Ask::Publish(_, _, _) | Ask::Stats(_, _) => state.copy(alloc),
+        Ask::Create(topic, channel) => made(alloc, state.copy(alloc)?, topic, channel),
+        Ask::Delete(topic, channel) => deleted(alloc, state.copy(alloc)?, topic, channel),
+        Ask::Empty(topic, channel) => emptied(alloc, state.copy(alloc)?, topic, channel),
+        Ask::Pause(topic, channel) => paused(alloc, state, true, topic, channel),
+        Ask::Unpause(topic, channel) => paused(alloc, state, false, topic, channel),
     }
 }
 
+// The state after a topic or a channel was paused, or isn't any more.
+fn paused(
+    alloc: Global,
+    state: &State,
+    on: bool,
+    topic: &Topic,
+    channel: &Option<Chan>,
+) -> Result<State, Memory> {
+    set_paused(alloc, state.copy(alloc)?, on, topic, channel)
+}
+
 // What a disk fault leaves of what was asked: of a topic's deletion the channels that were deleted.
-fn broken_off(alloc: Global, state: State, ask: &Ask, count: u64) -> Result<Vec<State>, Memory> {
+fn broken_off(alloc: Global, state: &State, ask: &Ask, count: u64) -> Result<Vec<State>, Memory> {
     match ask {
         Ask::Delete(topic, None) => {
-            let state = deleted_first(alloc, state, topic, count)?;
-            one(alloc, state)
+            one_made(
+                alloc,
+                deleted_first(alloc, state.copy(alloc)?, topic, count),
+            )
         }
-        _ => one(alloc, state),
+        _ => same(alloc, state),
     }
 }
 

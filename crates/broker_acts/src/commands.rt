@@ -1,6 +1,6 @@
 ghost use Rattle.std.specs.Prelude.{◌↔◌, ◌+◌, ◌≤◌, ◌^◌, IsTrue};
 
-use crate::moves::{at_channel, one, room_of, same, standing};
+use crate::moves::{at_channel, one, one_made, room_of, same, standing};
 use broker_changes::channels::{counted, finishes, gives_back, sends, touches};
 use broker_changes::state::{made_channel, published};
 use broker_plain::{Identity, Phase, are_left, identity_of};
@@ -22,18 +22,36 @@ pub(crate) fn did(
     let Some(client) = state.client_of(number) else {
         return Ok(Vec::new(alloc));
     };
-    let client = spoke(alloc, at, client)?;
-    let state = with_copy(alloc, state.copy(alloc)?, &client)?;
-    if kept_off {
-        return one(alloc, state);
-    }
-    carried_out(alloc, &state, at, &client, command)
+    let state = with_one(alloc, state, spoke(alloc, at, client)?)?;
+    done(alloc, &state, at, number, command, kept_off)
 }
 
-// The state with a copy of this client.
-fn with_copy(alloc: Global, state: State, client: &Client) -> Result<State, Memory> {
-    let client = client.copy(alloc)?;
-    state.with_client(alloc, client)
+// The states that a command leads to, in which its client of this number just gave it.
+fn done(
+    alloc: Global,
+    state: &State,
+    at: u64,
+    number: u64,
+    command: &Command,
+    kept_off: bool,
+) -> Result<Vec<State>, Memory> {
+    if kept_off {
+        return same(alloc, state);
+    }
+    match state.client_of(number) {
+        Some(client) => carried_out(alloc, state, at, client, command),
+        None => Ok(Vec::new(alloc)),
+    }
+}
+
+// The state with this client.
+pub(crate) fn with_one(alloc: Global, state: &State, client: Client) -> Result<State, Memory> {
+    state.copy(alloc)?.with_client(alloc, client)
+}
+
+// One state, with this client.
+fn only(alloc: Global, state: &State, client: Client) -> Result<Vec<State>, Memory> {
+    one_made(alloc, with_one(alloc, state, client))
 }
 
 // A client that just gave a command.
@@ -88,7 +106,7 @@ fn identified(
         None => same(alloc, state),
         Some(identity) => {
             let client = known(alloc, client, at, identity)?;
-            with_one(alloc, state, client)
+            only(alloc, state, client)
         }
     }
 }
@@ -105,12 +123,6 @@ fn known(alloc: Global, client: &Client, at: u64, identity: Identity) -> Result<
     Ok(known)
 }
 
-// One state, with this client.
-fn with_one(alloc: Global, state: &State, client: Client) -> Result<Vec<State>, Memory> {
-    let state = state.copy(alloc)?.with_client(alloc, client)?;
-    one(alloc, state)
-}
-
 // The state after SUB.
 fn subscribed(
     alloc: Global,
@@ -119,9 +131,9 @@ fn subscribed(
     topic: &Topic,
     channel: &Chan,
 ) -> Result<Vec<State>, Memory> {
-    let state = made_channel(alloc, state.copy(alloc)?, topic, channel)?;
     let client = subscriber(alloc, client, topic, channel)?;
-    with_one(alloc, &state, client)
+    let state = with_one(alloc, state, client)?;
+    one_made(alloc, made_channel(alloc, state, topic, channel))
 }
 
 // A client that subscribed to a channel.
@@ -149,8 +161,7 @@ fn publish_one(
     topic: &Topic,
     body: &Body,
 ) -> Result<Vec<State>, Memory> {
-    let mut bodies = Vec::new(alloc);
-    bodies.push(Body::copy(alloc, body.bytes())?)?;
+    let bodies = one(alloc, Body::copy(alloc, body.bytes())?)?;
     publish(alloc, state, at, delay, topic, &bodies)
 }
 
@@ -166,8 +177,10 @@ pub(crate) fn publish(
     if !has_ids(state.ids_used, bodies.len() as u64) {
         return Ok(Vec::new(alloc));
     }
-    let state = published(alloc, state.copy(alloc)?, at, delay, topic, bodies)?;
-    one(alloc, state)
+    one_made(
+        alloc,
+        published(alloc, state.copy(alloc)?, at, delay, topic, bodies),
+    )
 }
 
 // Whether so many further ids are left.
@@ -188,7 +201,7 @@ fn readied(
     if client.phase == Phase::Subscribed {
         client.ready = count_of(count);
     }
-    with_one(alloc, state, client)
+    only(alloc, state, client)
 }
 
 // How many messages RDY asks for.
@@ -200,7 +213,7 @@ fn count_of(count: i64) -> u64 {
 fn closing(alloc: Global, state: &State, client: &Client) -> Result<Vec<State>, Memory> {
     let mut client = client.copy(alloc)?;
     client.phase = Phase::Closing;
-    with_one(alloc, state, client)
+    only(alloc, state, client)
 }
 
 // The states after FIN.
@@ -216,7 +229,7 @@ fn finished(
     let channels = finishes(alloc, channel, client.number, id)?;
     let mut client = client.copy(alloc)?;
     client.finish_count = counted(client.finish_count);
-    at_own(alloc, state, topic, channels, &client)
+    at_own(alloc, state, topic, channels, client)
 }
 
 // The states after REQ: the delay is brought into the range of 0 to the longest one.
@@ -236,7 +249,7 @@ fn given_back(
     let channels = gives_back(alloc, channel, room, client.number, id, at, delay)?;
     let mut client = client.copy(alloc)?;
     client.requeue_count = counted(client.requeue_count);
-    at_own(alloc, state, topic, channels, &client)
+    at_own(alloc, state, topic, channels, client)
 }
 
 // The states after TOUCH.
@@ -252,7 +265,7 @@ fn touched(
     };
     let most = state.options.max_msg_timeout;
     let channels = touches(alloc, channel, client.number, id, at, client.timeout, most)?;
-    at_own(alloc, state, topic, channels, client)
+    at_own(alloc, state, topic, channels, client.copy(alloc)?)
 }
 
 // The states that a message's being sent leads to (`DoesSend`).
@@ -272,7 +285,7 @@ pub(crate) fn sent(
     let channels = sends(alloc, channel, number, at, client.timeout, message)?;
     let mut client = client.copy(alloc)?;
     client.message_count = counted(client.message_count);
-    at_own(alloc, state, topic, channels, &client)
+    at_own(alloc, state, topic, channels, client)
 }
 
 // The topic and the channel of a client, where they are there.
@@ -292,11 +305,8 @@ fn at_own(
     state: &State,
     topic: &TopicState,
     channels: Vec<ChannelState>,
-    client: &Client,
+    client: Client,
 ) -> Result<Vec<State>, Memory> {
-    let mut states = Vec::new(alloc);
-    for state in at_channel(alloc, state, topic, channels)? {
-        states.push(with_copy(alloc, state, client)?)?;
-    }
-    Ok(states)
+    let state = with_one(alloc, state, client)?;
+    at_channel(alloc, &state, topic, channels)
 }

@@ -7,17 +7,27 @@ use nsq_base::{Chan, Memory, MsgId, Names, Topic};
 use std::alloc::Global;
 use v2_frame::Message;
 
-// One state.
-pub(crate) fn one(alloc: Global, state: State) -> Result<Vec<State>, Memory> {
-    let mut states = Vec::new(alloc);
-    states.push(state)?;
-    Ok(states)
+// Adds one behind a list. It goes with the refusal where memory is wanting.
+pub(crate) fn put_last<T: Drop>(list: &mut Vec<T>, one: T) -> Result<(), Memory> {
+    list.push(one)?;
+    Ok(())
+}
+
+// A list of one.
+pub(crate) fn one<T: Drop>(alloc: Global, one: T) -> Result<Vec<T>, Memory> {
+    let mut list = Vec::new(alloc);
+    list.push(one)?;
+    Ok(list)
+}
+
+// One state, where memory didn't want.
+pub(crate) fn one_made(alloc: Global, made: Result<State, Memory>) -> Result<Vec<State>, Memory> {
+    one(alloc, made?)
 }
 
 // The same state.
 pub(crate) fn same(alloc: Global, state: &State) -> Result<Vec<State>, Memory> {
-    let state = state.copy(alloc)?;
-    one(alloc, state)
+    one_made(alloc, state.copy(alloc))
 }
 
 // How much room a channel of a topic has (`room_of`).
@@ -56,7 +66,7 @@ fn by_took(
         return Ok(states);
     };
     for topic in took(alloc, topic, message, names)? {
-        states.push(at_topic(alloc, state, topic)?)?;
+        put_last(&mut states, at_topic(alloc, state, topic)?)?;
     }
     Ok(states)
 }
@@ -76,10 +86,7 @@ fn by_copied(
     let room = room_of(state, name, channel);
     match copied(alloc, topic, channel, room, at, message)? {
         None => Ok(Vec::new(alloc)),
-        Some(topic) => {
-            let state = at_topic(alloc, state, topic)?;
-            one(alloc, state)
-        }
+        Some(topic) => one_made(alloc, at_topic(alloc, state, topic)),
     }
 }
 
@@ -162,8 +169,18 @@ pub(crate) fn at_channel(
 ) -> Result<Vec<State>, Memory> {
     let mut states = Vec::new(alloc);
     for channel in channels {
-        let topic = topic.copy(alloc)?.with_channel(alloc, channel)?;
-        states.push(at_topic(alloc, state, topic)?)?;
+        put_last(&mut states, with_channel(alloc, state, topic, channel)?)?;
     }
     Ok(states)
+}
+
+// The state with the channel in the topic.
+fn with_channel(
+    alloc: Global,
+    state: &State,
+    topic: &TopicState,
+    channel: ChannelState,
+) -> Result<State, Memory> {
+    let topic = topic.copy(alloc)?.with_channel(alloc, channel)?;
+    at_topic(alloc, state, topic)
 }

@@ -4,7 +4,7 @@ ghost use Rattle.broker_history.specs.Channels as rows;
 ghost use Rattle.broker_state.specs.Places.{place_of};
 ghost use Rattle.broker_changes.specs.Rooms.{room_of};
 
-use crate::rows::{Row, moved};
+use crate::rows::{Row, moved, put_last, sent};
 use broker_state::{ChannelState, MessageCopy, Place, copy_all, flying, flying_of, queued};
 use nsq_base::{Memory, MsgId};
 use std::alloc::Global;
@@ -67,8 +67,12 @@ pub fn sends(
     timeout: u64,
     message: &Message,
 ) -> Result<Vec<ChannelState>, Memory> {
-    let row = Row::Sent(client, at, timeout, message.copy(alloc)?);
-    moved(alloc, channel, &row)
+    let in_flight = Place::InFlight {
+        client,
+        due: u128::from(at) + u128::from(timeout),
+        sent: at,
+    };
+    sent(alloc, channel, message, in_flight)
 }
 
 /// The channels that FIN makes of one (`Finishes`).
@@ -160,7 +164,7 @@ pub(crate) fn gets(
 ) -> Result<ChannelState, Memory> {
     let place = put_off(at, message.delay, back_in(room, channel));
     let mut copies = copy_all(alloc, &channel.copies)?;
-    copies.push(copy_at(alloc, message, place)?)?;
+    put_last(&mut copies, copy_at(alloc, message, place)?)?;
     let mut got = channel.with_copies(copies);
     if !is_dropped(place) {
         got.message_count = counted(got.message_count);
@@ -187,7 +191,7 @@ fn is_dropped(place: Place) -> bool {
 pub(crate) fn emptied(alloc: Global, channel: &ChannelState) -> Result<ChannelState, Memory> {
     let mut copies = Vec::new(alloc);
     for copy in &channel.copies {
-        copies.push(emptied_copy(alloc, copy)?)?;
+        put_last(&mut copies, emptied_copy(alloc, copy)?)?;
     }
     Ok(channel.with_copies(copies))
 }

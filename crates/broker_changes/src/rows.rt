@@ -1,4 +1,4 @@
-ghost use Rattle.std.specs.Prelude.{◌≡◌, ◌↔◌, ◌<◌, length, IfOk, IsTrue};
+ghost use Rattle.std.specs.Prelude.{◌≡◌, ◌↔◌, IfOk, IsTrue};
 ghost use Rattle.broker_history.specs.State.{IsSame, raised};
 ghost use Rattle.broker_state.specs.Places.{place_of};
 ghost use Rattle.broker_changes.specs.Rows.{sent_at};
@@ -8,11 +8,9 @@ use nsq_base::{Memory, MsgId};
 use std::alloc::Global;
 use v2_frame::Message;
 
-// What makes one copy of a channel another (`IsSent` to `IsHeldBack`). Moments and spans are in nanoseconds.
-#[derive(Drop)]
+// What makes one copy of a channel another (`IsFinished` to `IsHeldBack`). Moments and spans are in nanoseconds.
+#[derive(Clone, Copy)]
 pub(crate) enum Row {
-    // A queued copy that becomes this message with one more attempt is sent to a client, at a moment, for a time.
-    Sent(u64, u64, u64, Message),
     // A copy in flight with the client is finished.
     Finished(u64, MsgId),
     // A copy in flight with the client is due after a time from a moment on, and no later than so long after it was sent.
@@ -27,6 +25,15 @@ pub(crate) enum Row {
     HeldBack(MsgId, u128),
 }
 
+// What becomes of a copy.
+#[derive(Clone, Copy)]
+enum Change {
+    // It gets one more attempt, and goes to a place.
+    Raised(Place),
+    // It goes to a place.
+    Moved(Place),
+}
+
 // The channels that one copy's becoming another by the row makes of this one (`Moves`): one for each copy that may.
 pub(crate) fn moved(
     alloc: Global,
@@ -36,101 +43,134 @@ pub(crate) fn moved(
     let copies = channel.copies.as_slice();
     let mut made = Vec::new(alloc);
     for i in 0..copies.len() {
-        match changed(alloc, &copies[i], row)? {
-            Some(copy) => {
-                let all = replaced(alloc, copies, i, copy)?;
-                made.push(channel.with_copies(all))?;
-            }
+        match change_by(&copies[i], row) {
+            Some(change) => put_last(&mut made, with_changed(alloc, channel, i, change)?)?,
             None => {}
         }
     }
     Ok(made)
 }
 
-// The copies with another one at a place.
-fn replaced(
+// The channels that a queued copy's becoming this message with one more attempt, in flight, makes of this one (`Moves` by `IsSent`).
+pub(crate) fn sent(
+    alloc: Global,
+    channel: &ChannelState,
+    message: &Message,
+    in_flight: Place,
+) -> Result<Vec<ChannelState>, Memory> {
+    let copies = channel.copies.as_slice();
+    let mut made = Vec::new(alloc);
+    for i in 0..copies.len() {
+        if is_sent(&copies[i], message) {
+            let change = Change::Raised(in_flight);
+            put_last(&mut made, with_changed(alloc, channel, i, change)?)?;
+        }
+    }
+    Ok(made)
+}
+
+// Whether the copy is queued, and becomes this message with one more attempt.
+fn is_sent(copy: &MessageCopy, message: &Message) -> bool {
+    copy.place.is_queued() && is_raised(&copy.message, message)
+}
+
+// The channel whose copy at a place is changed.
+fn with_changed(
+    alloc: Global,
+    channel: &ChannelState,
+    i: usize,
+    change: Change,
+) -> Result<ChannelState, Memory> {
+    let copies = copies_with(alloc, &channel.copies, i, change)?;
+    Ok(channel.with_copies(copies))
+}
+
+// The copies, of which the one at a place is changed.
+fn copies_with(
     alloc: Global,
     copies: &[MessageCopy],
     i: usize,
-    copy: MessageCopy,
-) -> Result<Vec<MessageCopy>, Memory>
-    requires { i < length copies.now }
-{
+    change: Change,
+) -> Result<Vec<MessageCopy>, Memory> {
     let mut all = Vec::new(alloc);
-    for before in 0..i {
-        all.push(copies[before].copy(alloc)?)?;
-    }
-    all.push(copy)?;
-    for after in i + 1..copies.len() {
-        all.push(copies[after].copy(alloc)?)?;
+    for j in 0..copies.len() {
+        put_last(&mut all, changed_if(alloc, &copies[j], i == j, change)?)?;
     }
     Ok(all)
 }
 
-// What the copy becomes by the row; None where the row isn't one of this copy.
-fn changed(alloc: Global, copy: &MessageCopy, row: &Row) -> Result<Option<MessageCopy>, Memory> {
-    match row {
-        Row::Sent(client, at, timeout, message) => {
-            sent(alloc, copy, *client, *at, *timeout, message)
-        }
-        Row::Finished(client, id) => given_back(alloc, copy, *client, id, Place::Finished),
-        Row::Touched(client, id, at, timeout, most) => {
-            touched(alloc, copy, *client, id, *at, *timeout, *most)
-        }
-        Row::GivenBack(client, id, place) => given_back(alloc, copy, *client, id, *place),
-        Row::TimedOut(id, at, back) => timed_out(alloc, copy, id, *at, *back),
-        Row::CameDue(id, at, back) => came_due(alloc, copy, id, *at, *back),
-        Row::HeldBack(id, until) => held_back(alloc, copy, id, *until),
+// The copy, changed where it is chosen.
+fn changed_if(
+    alloc: Global,
+    copy: &MessageCopy,
+    is_chosen: bool,
+    change: Change,
+) -> Result<MessageCopy, Memory> {
+    if is_chosen {
+        changed(alloc, copy, change)
+    } else {
+        copy.copy(alloc)
     }
 }
 
-// A queued copy gets one more attempt, and is in flight with the client for the client's time.
-fn sent(
-    alloc: Global,
-    copy: &MessageCopy,
-    client: u64,
-    at: u64,
-    timeout: u64,
-    message: &Message,
-) -> Result<Option<MessageCopy>, Memory> {
-    if !copy.place.is_queued() {
-        return Ok(None);
+// The copy after a change.
+fn changed(alloc: Global, copy: &MessageCopy, change: Change) -> Result<MessageCopy, Memory> {
+    match change {
+        Change::Raised(place) => Ok(MessageCopy {
+            message: raised(alloc, &copy.message)?,
+            place,
+        }),
+        Change::Moved(place) => copy.at(alloc, place),
     }
-    let raised = raised(alloc, &copy.message)?;
-    if !is_same(&raised, message) {
-        return Ok(None);
+}
+
+// What becomes of the copy by the row; None where the row isn't one of this copy.
+fn change_by(copy: &MessageCopy, row: &Row) -> Option<Change> {
+    match row {
+        Row::Finished(client, id) => given_back(copy, *client, id, Place::Finished),
+        Row::Touched(client, id, at, timeout, most) => {
+            touched(copy, *client, id, *at, *timeout, *most)
+        }
+        Row::GivenBack(client, id, place) => given_back(copy, *client, id, *place),
+        Row::TimedOut(id, at, back) => timed_out(copy, id, *at, *back),
+        Row::CameDue(id, at, back) => came_due(copy, id, *at, *back),
+        Row::HeldBack(id, until) => held_back(copy, id, *until),
     }
-    Ok(Some(MessageCopy {
-        message: raised,
-        place: Place::InFlight {
-            client,
-            due: u128::from(at) + u128::from(timeout),
-            sent: at,
-        },
-    }))
+}
+
+// The move to a place, where it is one.
+fn moved_if(is_one: bool, place: Place) -> Option<Change> {
+    if is_one {
+        Some(Change::Moved(place))
+    } else {
+        None
+    }
+}
+
+// Whether one message is the other with one more attempt, but for their delays.
+fn is_raised(message: &Message, more: &Message) -> bool {
+    message.stamp == more.stamp
+        && message.attempts.saturating_add(1) == more.attempts
+        && same(message.id.bytes(), more.id.bytes())
+        && same(message.body.bytes(), more.body.bytes())
 }
 
 // A copy in flight with the client is due after the client's time from now on, and no later than so long after it was sent.
 fn touched(
-    alloc: Global,
     copy: &MessageCopy,
     client: u64,
     id: &MsgId,
     at: u64,
     timeout: u64,
     most: u64,
-) -> Result<Option<MessageCopy>, Memory> {
+) -> Option<Change> {
     let Some(sent) = sent_at(copy.place, client) else {
-        return Ok(None);
+        return None;
     };
-    if !copy.is_of(id) {
-        return Ok(None);
-    }
     let wanted = u128::from(at) + u128::from(timeout);
     let last = u128::from(sent) + u128::from(most);
     let due = wanted.min(last);
-    let place = Place::InFlight { client, due, sent };
-    Ok(Some(copy.at(alloc, place)?))
+    moved_if(copy.is_of(id), Place::InFlight { client, due, sent })
 }
 
 // The moment at which a copy was sent that is in flight with the client.
@@ -144,77 +184,34 @@ fn sent_at(place: Place, number: u64) -> Option<u64>
 }
 
 // A copy in flight with the client goes to a place.
-fn given_back(
-    alloc: Global,
-    copy: &MessageCopy,
-    client: u64,
-    id: &MsgId,
-    place: Place,
-) -> Result<Option<MessageCopy>, Memory> {
-    if !copy.place.is_with(client) {
-        return Ok(None);
-    }
-    if !copy.is_of(id) {
-        return Ok(None);
-    }
-    Ok(Some(copy.at(alloc, place)?))
+fn given_back(copy: &MessageCopy, client: u64, id: &MsgId, place: Place) -> Option<Change> {
+    moved_if(copy.place.is_with(client) && copy.is_of(id), place)
 }
 
 // A copy in flight was due.
-fn timed_out(
-    alloc: Global,
-    copy: &MessageCopy,
-    id: &MsgId,
-    at: u64,
-    back: Place,
-) -> Result<Option<MessageCopy>, Memory> {
-    if !copy.place.is_in_flight() {
-        return Ok(None);
-    }
-    if !copy.place.is_due(at) {
-        return Ok(None);
-    }
-    if !copy.is_of(id) {
-        return Ok(None);
-    }
-    Ok(Some(copy.at(alloc, back)?))
+fn timed_out(copy: &MessageCopy, id: &MsgId, at: u64, back: Place) -> Option<Change> {
+    let place = copy.place;
+    moved_if(
+        place.is_in_flight() && place.is_due(at) && copy.is_of(id),
+        back,
+    )
 }
 
 // A deferred copy was due.
-fn came_due(
-    alloc: Global,
-    copy: &MessageCopy,
-    id: &MsgId,
-    at: u64,
-    back: Place,
-) -> Result<Option<MessageCopy>, Memory> {
-    if !copy.place.is_deferred() {
-        return Ok(None);
-    }
-    if !copy.place.is_due(at) {
-        return Ok(None);
-    }
-    if !copy.is_of(id) {
-        return Ok(None);
-    }
-    Ok(Some(copy.at(alloc, back)?))
+fn came_due(copy: &MessageCopy, id: &MsgId, at: u64, back: Place) -> Option<Change> {
+    let place = copy.place;
+    moved_if(
+        place.is_deferred() && place.is_due(at) && copy.is_of(id),
+        back,
+    )
 }
 
 // A queued copy is deferred.
-fn held_back(
-    alloc: Global,
-    copy: &MessageCopy,
-    id: &MsgId,
-    until: u128,
-) -> Result<Option<MessageCopy>, Memory> {
-    if !copy.place.is_queued() {
-        return Ok(None);
-    }
-    if !copy.is_of(id) {
-        return Ok(None);
-    }
-    let place = Place::Deferred { due: until };
-    Ok(Some(copy.at(alloc, place)?))
+fn held_back(copy: &MessageCopy, id: &MsgId, until: u128) -> Option<Change> {
+    moved_if(
+        copy.place.is_queued() && copy.is_of(id),
+        Place::Deferred { due: until },
+    )
 }
 
 // A message after one more attempt; there are 65535 at most.
@@ -232,6 +229,19 @@ pub(crate) fn is_same(a: &Message, b: &Message) -> bool
 {
     a.stamp == b.stamp
         && a.attempts == b.attempts
-        && a.id.bytes() == b.id.bytes()
-        && a.body.bytes() == b.body.bytes()
+        && same(a.id.bytes(), b.id.bytes())
+        && same(a.body.bytes(), b.body.bytes())
+}
+
+// Adds one behind a list. It goes with the refusal where memory is wanting.
+pub(crate) fn put_last<T: Drop>(list: &mut Vec<T>, one: T) -> Result<(), Memory> {
+    list.push(one)?;
+    Ok(())
+}
+
+// Whether two texts are equal.
+pub(crate) fn same(one: &[u8], other: &[u8]) -> bool
+    ensures { IsTrue result ↔ (one.now ≡ other.now) }
+{
+    one == other
 }

@@ -1,9 +1,10 @@
 ghost use Rattle.std.specs.Prelude.{◌≤◌, ◌+◌, ◌^◌, length};
 
 use crate::channels;
+use crate::rows::put_last;
 use crate::topics::{Publishing, channel_names, owed_no_more, put_bodies};
 use broker_plain::Phase;
-use broker_state::{ChannelState, Client, Route, State, TopicState, copy_route};
+use broker_state::{ChannelState, Client, Route, State, TakenMessage, TopicState, copy_route};
 use nsq_base::{Body, Chan, Memory, Topic};
 use std::alloc::Global;
 
@@ -35,6 +36,22 @@ pub fn published(
 ) -> Result<State, Memory>
     requires { state.ids_used + length bodies.now ≤ 2 ^ 40 }
 {
+    let topic = topic_with_bodies(alloc, &state, at, delay, name, bodies)?;
+    state.ids_used += bodies.len() as u64;
+    state.with_topic(alloc, topic)
+}
+
+// The topic of this name after messages of these bodies were published.
+fn topic_with_bodies(
+    alloc: Global,
+    state: &State,
+    at: u64,
+    delay: u64,
+    name: &Topic,
+    bodies: &[Body],
+) -> Result<TopicState, Memory>
+    requires { state.now.ids_used + length bodies.now ≤ 2 ^ 40 }
+{
     let publishing = Publishing {
         mem: state.options.mem_queue_size,
         epoch: state.epoch,
@@ -42,10 +59,9 @@ pub fn published(
         at,
         delay,
     };
-    let topic = topic_or_new(alloc, &state, name)?;
-    let topic = put_bodies(alloc, topic, publishing, bodies)?;
-    state.ids_used += bodies.len() as u64;
-    state.with_topic(alloc, topic)
+    let mut topic = topic_or_new(alloc, state, name)?;
+    put_bodies(alloc, &mut topic, publishing, bodies)?;
+    Ok(topic)
 }
 
 /// The state with this topic, or with this channel in it (`made`); what isn't there yet is made.
@@ -55,12 +71,20 @@ pub fn made(
     name: &Topic,
     channel: &Option<Chan>,
 ) -> Result<State, Memory> {
+    let topic = made_topic(alloc, &state, name, channel)?;
+    state.with_topic(alloc, topic)
+}
+
+// The topic of this name, and with this channel in it where one is named.
+fn made_topic(
+    alloc: Global,
+    state: &State,
+    name: &Topic,
+    channel: &Option<Chan>,
+) -> Result<TopicState, Memory> {
     match channel {
-        None => {
-            let topic = topic_or_new(alloc, &state, name)?;
-            state.with_topic(alloc, topic)
-        }
-        Some(channel) => made_channel(alloc, state, name, channel),
+        None => topic_or_new(alloc, state, name),
+        Some(channel) => topic_with_new(alloc, state, name, channel),
     }
 }
 
@@ -102,7 +126,7 @@ fn other_topics(
     let mut others = Vec::new(alloc);
     for topic in topics {
         if !topic.is_named(name) {
-            others.push(topic.copy(alloc)?)?;
+            put_last(&mut others, topic.copy(alloc)?)?;
         }
     }
     Ok(others)
@@ -112,10 +136,18 @@ fn other_topics(
 fn without_channel(alloc: Global, topic: &TopicState, name: &Chan) -> Result<TopicState, Memory> {
     let taken = owed_no_more(alloc, &topic.taken, name)?;
     let channels = other_channels(alloc, &topic.channels, name)?;
-    let mut fewer = topic.copy(alloc)?;
-    fewer.taken = taken;
-    fewer.channels = channels;
-    Ok(fewer)
+    Ok(with_channels(topic.copy(alloc)?, taken, channels))
+}
+
+// The topic with these channels, which took this.
+fn with_channels(
+    mut topic: TopicState,
+    taken: Option<TakenMessage>,
+    channels: Vec<ChannelState>,
+) -> TopicState {
+    topic.taken = taken;
+    topic.channels = channels;
+    topic
 }
 
 // Copies of the channels but the one of this name.
@@ -127,7 +159,7 @@ fn other_channels(
     let mut others = Vec::new(alloc);
     for channel in channels {
         if !channel.is_named(name) {
-            others.push(channel.copy(alloc)?)?;
+            put_last(&mut others, channel.copy(alloc)?)?;
         }
     }
     Ok(others)
@@ -151,7 +183,7 @@ fn lost(
 ) -> Result<Vec<Client>, Memory> {
     let mut others = Vec::new(alloc);
     for client in clients {
-        others.push(lost_client(alloc, client, topic, channel)?)?;
+        put_last(&mut others, lost_client(alloc, client, topic, channel)?)?;
     }
     Ok(others)
 }
@@ -272,11 +304,20 @@ pub fn emptied(
     name: &Topic,
     channel: &Option<Chan>,
 ) -> Result<State, Memory> {
-    let changed = match channel {
-        None => emptied_topic(alloc, state.topic_of(name))?,
-        Some(channel) => emptied_channel(alloc, state.topic_of(name), channel)?,
-    };
+    let changed = emptied_in(alloc, state.topic_of(name), channel)?;
     with_changed(alloc, state, changed)
+}
+
+// The topic after it or a channel of it was emptied.
+fn emptied_in(
+    alloc: Global,
+    topic: Option<&TopicState>,
+    channel: &Option<Chan>,
+) -> Result<Option<TopicState>, Memory> {
+    match channel {
+        None => emptied_topic(alloc, topic),
+        Some(channel) => emptied_channel(alloc, topic, channel),
+    }
 }
 
 // The topic after it was emptied.
@@ -313,11 +354,21 @@ pub fn set_paused(
     name: &Topic,
     channel: &Option<Chan>,
 ) -> Result<State, Memory> {
-    let changed = match channel {
-        None => paused_topic(alloc, on, state.topic_of(name))?,
-        Some(channel) => paused_channel(alloc, on, state.topic_of(name), channel)?,
-    };
+    let changed = paused_in(alloc, on, state.topic_of(name), channel)?;
     with_changed(alloc, state, changed)
+}
+
+// The topic with its pause or that of a channel of it set.
+fn paused_in(
+    alloc: Global,
+    on: bool,
+    topic: Option<&TopicState>,
+    channel: &Option<Chan>,
+) -> Result<Option<TopicState>, Memory> {
+    match channel {
+        None => paused_topic(alloc, on, topic),
+        Some(channel) => paused_channel(alloc, on, topic, channel),
+    }
 }
 
 // The topic, paused or not.
@@ -357,7 +408,7 @@ fn without_client(alloc: Global, clients: &[Client], number: u64) -> Result<Vec<
     let mut others = Vec::new(alloc);
     for client in clients {
         if client.number != number {
-            others.push(client.copy(alloc)?)?;
+            put_last(&mut others, client.copy(alloc)?)?;
         }
     }
     Ok(others)

@@ -1,21 +1,20 @@
 ghost use Rattle.std.specs.Prelude.{◌<◌, ◌≤◌, ◌+◌, ◌^◌, length};
 
 use crate::channels::{Room, counted, gets, has_due};
-use crate::rows::is_same;
+use crate::rows::{is_same, put_last, same};
 use broker_state::{ChannelState, TakenMessage, TopicState, Waiting};
 use nsq_base::{Body, Chan, Memory, MsgId, Names};
 use std::alloc::Global;
 use v2_frame::Message;
 
-// The topic after a message was put (`put_message`), where so many messages find room in memory: an ephemeral topic drops what finds no room.
-fn put_message(mut topic: TopicState, mem: u64, message: Message) -> Result<TopicState, Memory> {
+// Puts a message into the topic (`put_message`), where so many messages find room in memory: an ephemeral topic drops what finds no room.
+fn put_message(topic: &mut TopicState, mem: u64, message: Message) -> Result<(), Memory> {
     let loose = mem <= topic.waiting.len() as u64;
     if topic.name.ephemeral() && loose {
-        return Ok(topic);
+        return Ok(());
     }
     topic.message_count = counted(topic.message_count);
-    topic.waiting.push(Waiting { message, loose })?;
-    Ok(topic)
+    put_last(&mut topic.waiting, Waiting { message, loose })
 }
 
 // What is the same of all messages of a publish.
@@ -33,28 +32,38 @@ pub(crate) struct Publishing {
     pub delay: u64,
 }
 
-// The topic after messages of these bodies were put in order (`put_bodies`), with the ids from the first one on that wasn't used.
+// Puts messages of these bodies into the topic in order (`put_bodies`), with the ids from the first one on that wasn't used.
 pub(crate) fn put_bodies(
     alloc: Global,
-    topic: TopicState,
+    topic: &mut TopicState,
     publishing: Publishing,
     bodies: &[Body],
-) -> Result<TopicState, Memory>
+) -> Result<(), Memory>
     requires epoch { publishing.epoch < 2 ^ 24 }
     requires ids { publishing.used + length bodies.now ≤ 2 ^ 40 }
 {
-    let mut topic = topic;
     for i in 0..bodies.len() {
-        let message = Message {
-            stamp: publishing.at,
-            attempts: 0,
-            id: MsgId::make(publishing.epoch, publishing.used + i as u64),
-            body: Body::copy(alloc, bodies[i].bytes())?,
-            delay: publishing.delay,
-        };
-        topic = put_message(topic, publishing.mem, message)?;
+        let id = MsgId::make(publishing.epoch, publishing.used + i as u64);
+        let message = new_message(alloc, publishing, id, &bodies[i])?;
+        put_message(topic, publishing.mem, message)?;
     }
-    Ok(topic)
+    Ok(())
+}
+
+// A message of a publish, of this id and body.
+fn new_message(
+    alloc: Global,
+    publishing: Publishing,
+    id: MsgId,
+    body: &Body,
+) -> Result<Message, Memory> {
+    Ok(Message {
+        stamp: publishing.at,
+        attempts: 0,
+        id,
+        body: Body::copy(alloc, body.bytes())?,
+        delay: publishing.delay,
+    })
 }
 
 /// Whether a Took is due (`takes`): the topic isn't paused, has a channel and a waiting message, and has taken none.
@@ -118,7 +127,7 @@ pub fn took(
     }
     for i in 0..topic.waiting.len() {
         if fits(&topic.waiting[i], message) {
-            topics.push(took_at(alloc, topic, i, message)?)?;
+            put_last(&mut topics, took_at(alloc, topic, i, message)?)?;
         }
     }
     Ok(topics)
@@ -130,27 +139,26 @@ fn took_at(
     topic: &TopicState,
     i: usize,
     message: &Message,
-) -> Result<TopicState, Memory>
-    requires { i < length topic.now.waiting }
-{
+) -> Result<TopicState, Memory> {
     let waiting = without_waiting(alloc, &topic.waiting, i)?;
     let taken = taken_by(alloc, &topic.channels, message)?;
-    let mut took = topic.copy(alloc)?;
-    took.waiting = waiting;
-    took.taken = Some(taken);
-    Ok(took)
+    Ok(with_taken(topic.copy(alloc)?, waiting, taken))
+}
+
+// The topic in which these messages wait, and this one was taken.
+fn with_taken(mut topic: TopicState, waiting: Vec<Waiting>, taken: TakenMessage) -> TopicState {
+    topic.waiting = waiting;
+    topic.taken = Some(taken);
+    topic
 }
 
 // Copies of the waiting messages but the one at a place.
-fn without_waiting(alloc: Global, waiting: &[Waiting], i: usize) -> Result<Vec<Waiting>, Memory>
-    requires { i < length waiting.now }
-{
+fn without_waiting(alloc: Global, waiting: &[Waiting], i: usize) -> Result<Vec<Waiting>, Memory> {
     let mut others = Vec::new(alloc);
-    for before in 0..i {
-        others.push(waiting[before].copy(alloc)?)?;
-    }
-    for after in i + 1..waiting.len() {
-        others.push(waiting[after].copy(alloc)?)?;
+    for j in 0..waiting.len() {
+        if j != i {
+            put_last(&mut others, waiting[j].copy(alloc)?)?;
+        }
     }
     Ok(others)
 }
@@ -187,10 +195,7 @@ fn is_listed(topic: &TopicState, names: &Names) -> bool {
 pub fn is_topic_at(topic: &TopicState, names: &Names, i: usize) -> bool
     requires { i < length names.now }
 {
-    if names.topic(i).bytes() != topic.name.bytes() {
-        return false;
-    }
-    are_named(&topic.channels, names.channels(i))
+    topic.is_named(&names.topic(i)) && are_named(&topic.channels, names.channels(i))
 }
 
 // Whether the channels have these names, in this order.
@@ -198,12 +203,20 @@ fn are_named(channels: &[ChannelState], names: &[Chan]) -> bool {
     if channels.len() != names.len() {
         return false;
     }
-    for (channel, name) in channels.iter().zip(names) {
-        if !channel.is_named(name) {
+    for i in 0..channels.len() {
+        if !is_name_at(&channels[i], names, i) {
             return false;
         }
     }
     true
+}
+
+// Whether the channel's name stands at a place of these.
+fn is_name_at(channel: &ChannelState, names: &[Chan], i: usize) -> bool {
+    match names.get(i) {
+        Some(name) => channel.is_named(name),
+        None => false,
+    }
 }
 
 // What is taken after a channel is owed no more (`owed_no_more`): with the last owed channel it goes.
@@ -229,7 +242,7 @@ pub(crate) fn owed_no_more(
 fn without_name(alloc: Global, names: &[Chan], name: &Chan) -> Result<Vec<Chan>, Memory> {
     let mut others = Vec::new(alloc);
     for other in names {
-        if other.bytes() != name.bytes() {
+        if !same(other.bytes(), name.bytes()) {
             others.push(*other)?;
         }
     }
@@ -253,7 +266,7 @@ fn is_owed(taken: &Option<TakenMessage>, name: &Chan, message: &Message) -> bool
 // Whether a name is among these.
 fn is_among(names: &[Chan], name: &Chan) -> bool {
     for other in names {
-        if other.bytes() == name.bytes() {
+        if same(other.bytes(), name.bytes()) {
             return true;
         }
     }

@@ -1,3 +1,4 @@
+use crate::growing::put_last;
 use broker_state::{ChannelState, MessageCopy, State, TakenMessage, TopicState, Waiting};
 use nsq_base::Memory;
 use path_plain::{FoundChannel, FoundNames, FoundTopic, KeptChannel, KeptNames, KeptTopic};
@@ -37,7 +38,7 @@ fn are_left_topics(
 fn is_left_topic(alloc: Global, topic: &TopicState, found: &FoundTopic) -> Result<bool, Memory> {
     let left = left_in_topic(alloc, &topic.waiting, &topic.taken)?;
     Ok(
-        topic.name.bytes() == found.name.bytes()
+        topic.is_named(&found.name)
             && topic.paused == found.paused
             && same_messages(&left, &found.messages)
             && are_left_channels(alloc, &topic.channels, &found.channels)?,
@@ -73,7 +74,7 @@ fn is_left_channel(
 ) -> Result<bool, Memory> {
     let left = left_in_channel(alloc, &channel.copies)?;
     Ok(
-        channel.name.bytes() == found.name.bytes()
+        channel.is_named(&found.name)
             && channel.paused == found.paused
             && same_messages(&left, &found.messages),
     )
@@ -86,7 +87,7 @@ fn left_in_channel(alloc: Global, copies: &[MessageCopy]) -> Result<Vec<Message>
         if !copy.place.is_live() {
             continue;
         }
-        left.push(copy.message.copy(alloc)?)?;
+        put_last(&mut left, copy.message.copy(alloc)?)?;
     }
     Ok(left)
 }
@@ -100,7 +101,7 @@ fn left_in_topic(
     let mut left = waiting_messages(alloc, waiting)?;
     match taken {
         Some(taken) => {
-            left.push(taken.message.copy(alloc)?)?;
+            put_last(&mut left, taken.message.copy(alloc)?)?;
             Ok(left)
         }
         None => Ok(left),
@@ -111,7 +112,7 @@ fn left_in_topic(
 fn waiting_messages(alloc: Global, waiting: &[Waiting]) -> Result<Vec<Message>, Memory> {
     let mut left = Vec::new(alloc);
     for waits in waiting {
-        left.push(waits.message.copy(alloc)?)?;
+        put_last(&mut left, waits.message.copy(alloc)?)?;
     }
     Ok(left)
 }
@@ -170,7 +171,7 @@ fn kept_topics(alloc: Global, topics: &[TopicState]) -> Result<Vec<KeptTopic>, M
         if topic.name.ephemeral() {
             continue;
         }
-        kept.push(kept_topic(alloc, topic)?)?;
+        put_last(&mut kept, kept_topic(alloc, topic)?)?;
     }
     Ok(kept)
 }
@@ -193,7 +194,7 @@ fn kept_channels(alloc: Global, channels: &[ChannelState]) -> Result<Vec<KeptCha
         }
         let name = channel.name;
         let paused = channel.paused;
-        kept.push(KeptChannel { name, paused })?;
+        put_last(&mut kept, KeptChannel { name, paused })?;
     }
     Ok(kept)
 }

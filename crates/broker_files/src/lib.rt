@@ -2,6 +2,7 @@
 //! and the text of the file of names. What an opening finds, and how the text is read, is the plain program of the queues' history.
 #![tactic(auto)]
 
+mod growing;
 mod left;
 mod starting;
 mod text;

@@ -1,5 +1,6 @@
 ghost use Rattle.std.specs.Prelude.{◌<◌};
 
+use crate::growing::put_last;
 use broker_state::{ChannelState, MessageCopy, Place, State, TopicState, Waiting};
 use nsq_base::{Memory, Options};
 use path_plain::{FoundChannel, FoundNames, FoundTopic};
@@ -17,15 +18,17 @@ pub fn start(
 ) -> Result<State, Memory>
     requires { found.now.epoch < 16777215 }
 {
+    let topics = started_topics(alloc, &found.topics)?;
+    let options = options.copy(alloc)?;
     Ok(State {
-        options: options.copy(alloc)?,
+        options,
         epoch: found.epoch + 1,
         ids_used: 0,
         moment,
         stopped: false,
         began: Vec::new(alloc),
         clients: Vec::new(alloc),
-        topics: started_topics(alloc, &found.topics)?,
+        topics,
     })
 }
 
@@ -33,20 +36,22 @@ pub fn start(
 fn started_topics(alloc: Global, found: &[FoundTopic]) -> Result<Vec<TopicState>, Memory> {
     let mut topics = Vec::new(alloc);
     for topic in found {
-        topics.push(started(alloc, topic)?)?;
+        put_last(&mut topics, started(alloc, topic)?)?;
     }
     Ok(topics)
 }
 
 // A topic at the start of a run: none of its messages is loose, since none has a delay.
 fn started(alloc: Global, found: &FoundTopic) -> Result<TopicState, Memory> {
+    let channels = started_channels(alloc, &found.channels)?;
+    let waiting = waiting(alloc, &found.messages)?;
     Ok(TopicState {
         name: found.name,
         paused: found.paused,
         message_count: 0,
-        waiting: waiting(alloc, &found.messages)?,
+        waiting,
         taken: None,
-        channels: started_channels(alloc, &found.channels)?,
+        channels,
     })
 }
 
@@ -56,7 +61,7 @@ fn waiting(alloc: Global, messages: &[Message]) -> Result<Vec<Waiting>, Memory> 
     for message in messages {
         let message = message.copy(alloc)?;
         let loose = false;
-        waiting.push(Waiting { message, loose })?;
+        put_last(&mut waiting, Waiting { message, loose })?;
     }
     Ok(waiting)
 }
@@ -65,7 +70,7 @@ fn waiting(alloc: Global, messages: &[Message]) -> Result<Vec<Waiting>, Memory> 
 fn started_channels(alloc: Global, found: &[FoundChannel]) -> Result<Vec<ChannelState>, Memory> {
     let mut channels = Vec::new(alloc);
     for channel in found {
-        channels.push(started_channel(alloc, channel)?)?;
+        put_last(&mut channels, started_channel(alloc, channel)?)?;
     }
     Ok(channels)
 }
@@ -86,7 +91,7 @@ fn started_channel(alloc: Global, found: &FoundChannel) -> Result<ChannelState, 
 fn queued_copies(alloc: Global, messages: &[Message]) -> Result<Vec<MessageCopy>, Memory> {
     let mut copies = Vec::new(alloc);
     for message in messages {
-        copies.push(queued_copy(alloc, message)?)?;
+        put_last(&mut copies, queued_copy(alloc, message)?)?;
     }
     Ok(copies)
 }

@@ -6,62 +6,49 @@ use std::alloc::Global;
 /// The text of the file of names, `nsqd.dat`: an object in JSON without spaces, its members in byte order; a name needs no escape. Want
 /// of memory is the only error. It has no contract: it is a second reading of the definitions by hand.
 pub fn names_text(alloc: Global, kept: &KeptNames) -> Result<Vec<u8>, Memory> {
-    let topics = topics_text(alloc, &kept.topics)?;
-    let mut digits = Buffer::new();
-    let epoch = digits.format(kept.epoch).as_bytes();
-    let mut text = Vec::from_slice(alloc, br#"{"id_epoch":"#)?;
-    text.extend_from_slice(epoch)?;
-    text.extend_from_slice(br#","topics":"#)?;
-    text.extend_from_slice(&topics)?;
-    text.extend_from_slice(br#","version":"1.0.0"}"#)?;
+    let mut text = Vec::new(alloc);
+    put_names(&mut text, kept)?;
     Ok(text)
 }
 
-// The text of a list of topics.
-fn topics_text(alloc: Global, topics: &[KeptTopic]) -> Result<Vec<u8>, Memory> {
-    let mut text = Vec::from_slice(alloc, b"[")?;
+// Adds what the file keeps.
+fn put_names(text: &mut Vec<u8>, kept: &KeptNames) -> Result<(), Memory> {
+    put(text, br#"{"id_epoch":"#)?;
+    put_number(text, kept.epoch)?;
+    put(text, br#","topics":["#)?;
+    put_topics(text, &kept.topics)?;
+    put(text, br#"],"version":"1.0.0"}"#)
+}
+
+// Adds topics.
+fn put_topics(text: &mut Vec<u8>, topics: &[KeptTopic]) -> Result<(), Memory> {
     let mut later = false;
     for topic in topics {
-        let item = topic_text(alloc, topic)?;
-        text.extend_from_slice(comma_if(later))?;
-        text.extend_from_slice(&item)?;
+        put(text, comma_if(later))?;
+        put_topic(text, topic)?;
         later = true;
     }
-    text.extend_from_slice(b"]")?;
-    Ok(text)
+    Ok(())
 }
 
-// The text of a topic.
-fn topic_text(alloc: Global, topic: &KeptTopic) -> Result<Vec<u8>, Memory> {
-    let channels = channels_text(alloc, &topic.channels)?;
-    let end = end_text(alloc, topic.name.bytes(), topic.paused)?;
-    let mut text = Vec::from_slice(alloc, br#"{"channels":"#)?;
-    text.extend_from_slice(&channels)?;
-    text.extend_from_slice(b",")?;
-    text.extend_from_slice(&end)?;
-    Ok(text)
+// Adds a topic.
+fn put_topic(text: &mut Vec<u8>, topic: &KeptTopic) -> Result<(), Memory> {
+    put(text, br#"{"channels":["#)?;
+    put_channels(text, &topic.channels)?;
+    put(text, b"],")?;
+    put_end(text, topic.name.bytes(), topic.paused)
 }
 
-// The text of a list of channels.
-fn channels_text(alloc: Global, channels: &[KeptChannel]) -> Result<Vec<u8>, Memory> {
-    let mut text = Vec::from_slice(alloc, b"[")?;
+// Adds channels.
+fn put_channels(text: &mut Vec<u8>, channels: &[KeptChannel]) -> Result<(), Memory> {
     let mut later = false;
     for channel in channels {
-        let item = channel_text(alloc, channel)?;
-        text.extend_from_slice(comma_if(later))?;
-        text.extend_from_slice(&item)?;
+        put(text, comma_if(later))?;
+        put(text, b"{")?;
+        put_end(text, channel.name.bytes(), channel.paused)?;
         later = true;
     }
-    text.extend_from_slice(b"]")?;
-    Ok(text)
-}
-
-// The text of a channel.
-fn channel_text(alloc: Global, channel: &KeptChannel) -> Result<Vec<u8>, Memory> {
-    let end = end_text(alloc, channel.name.bytes(), channel.paused)?;
-    let mut text = Vec::from_slice(alloc, b"{")?;
-    text.extend_from_slice(&end)?;
-    Ok(text)
+    Ok(())
 }
 
 // A comma, where something stands before.
@@ -69,17 +56,28 @@ fn comma_if(later: bool) -> &'static [u8] {
     if later { b"," } else { b"" }
 }
 
-// The end of the text of a topic or a channel: its name, and whether it is paused.
-fn end_text(alloc: Global, name: &[u8], paused: bool) -> Result<Vec<u8>, Memory> {
-    let mut text = Vec::from_slice(alloc, br#""name":""#)?;
-    text.extend_from_slice(name)?;
-    text.extend_from_slice(br#"","paused":"#)?;
-    text.extend_from_slice(flag_text(paused))?;
-    text.extend_from_slice(b"}")?;
-    Ok(text)
+// Adds the end of a topic or a channel: its name, and whether it is paused.
+fn put_end(text: &mut Vec<u8>, name: &[u8], paused: bool) -> Result<(), Memory> {
+    put(text, br#""name":""#)?;
+    put(text, name)?;
+    put(text, br#"","paused":"#)?;
+    put(text, flag_text(paused))?;
+    put(text, b"}")
 }
 
 // The text of a truth value.
 fn flag_text(flag: bool) -> &'static [u8] {
     if flag { b"true" } else { b"false" }
+}
+
+// Adds a number.
+fn put_number(text: &mut Vec<u8>, number: u32) -> Result<(), Memory> {
+    let mut digits = Buffer::new();
+    put(text, digits.format(number).as_bytes())
+}
+
+// Adds a text.
+fn put(text: &mut Vec<u8>, more: &[u8]) -> Result<(), Memory> {
+    text.extend_from_slice(more)?;
+    Ok(())
 }

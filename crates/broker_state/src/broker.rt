@@ -7,6 +7,7 @@ ghost use Rattle.broker_history.specs.State.{at_moment, channel_at, client_chann
 use crate::by_name::put;
 use crate::channel::ChannelState;
 use crate::client::{Client, Route};
+use crate::growing::put_last;
 use crate::topic::TopicState;
 use nsq_base::{Chan, Memory, Options, Topic};
 use std::alloc::Global;
@@ -115,27 +116,43 @@ impl State {
     }
 
     /// The state at another moment.
-    pub fn at_moment(mut self, at: u64) -> State
+    pub fn at_moment(self, at: u64) -> State
         ensures { result ≡ at_moment self at }
     {
-        self.moment = at;
-        self
+        State { moment: at, ..self }
     }
 
     /// A copy of it. Want of memory is the only error.
     pub fn copy(&self, alloc: Global) -> Result<State, Memory>
         ensures { IfOk result (λ state. state ≡ self.now) }
     {
-        Ok(State {
-            options: self.options.copy(alloc)?,
+        let topics = copy_topics(alloc, &self.topics)?;
+        let clients = copy_clients(alloc, &self.clients)?;
+        let began = Vec::from_slice(alloc, &self.began)?;
+        let options = self.options.copy(alloc)?;
+        Ok(self.with_parts(options, began, clients, topics))
+    }
+
+    // The state with these options and lists.
+    fn with_parts(
+        &self,
+        options: Options,
+        began: Vec<u64>,
+        clients: Vec<Client>,
+        topics: Vec<TopicState>,
+    ) -> State
+        ensures { result ≡ record self.now { options = options; began = began.items; clients = clients.items; topics = topics.items } }
+    {
+        State {
+            options,
             epoch: self.epoch,
             ids_used: self.ids_used,
             moment: self.moment,
             stopped: self.stopped,
-            began: Vec::from_slice(alloc, &self.began)?,
-            clients: copy_clients(alloc, &self.clients)?,
-            topics: copy_topics(alloc, &self.topics)?,
-        })
+            began,
+            clients,
+            topics,
+        }
     }
 }
 
@@ -175,7 +192,7 @@ fn clients_with(
     let mut kept = Vec::new(alloc);
     for client in clients {
         if client.has_channel(topic, channel) {
-            kept.push(client.copy(alloc)?)?;
+            put_last(&mut kept, client.copy(alloc)?)?;
         }
     }
     Ok(kept)
@@ -185,11 +202,9 @@ fn clients_with(
 fn put_client(alloc: Global, clients: Vec<Client>, client: Client) -> Result<Vec<Client>, Memory>
     ensures { IfOk result (λ all. all.items ≡ put_client clients.items client) }
 {
-    let (mut all, after) = parted(alloc, clients, &client)?;
-    all.push(client)?;
-    for later in after {
-        all.push(later)?;
-    }
+    let (mut all, mut after) = parted(alloc, clients, &client)?;
+    put_last(&mut all, client)?;
+    all.append(&mut after)?;
     Ok(all)
 }
 
@@ -220,7 +235,7 @@ fn copy_clients(alloc: Global, clients: &[Client]) -> Result<Vec<Client>, Memory
 {
     let mut copies = Vec::new(alloc);
     for client in clients {
-        copies.push(client.copy(alloc)?)?;
+        put_last(&mut copies, client.copy(alloc)?)?;
     }
     Ok(copies)
 }
@@ -231,7 +246,7 @@ fn copy_topics(alloc: Global, topics: &[TopicState]) -> Result<Vec<TopicState>, 
 {
     let mut copies = Vec::new(alloc);
     for topic in topics {
-        copies.push(topic.copy(alloc)?)?;
+        put_last(&mut copies, topic.copy(alloc)?)?;
     }
     Ok(copies)
 }

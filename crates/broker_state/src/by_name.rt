@@ -18,11 +18,9 @@ pub(crate) trait Named: Drop {
 pub(crate) fn put<X: Named>(alloc: Global, kept: Vec<X>, one: X) -> Result<Vec<X>, Memory>
     ensures { IfOk result (λ all. all.items ≡ put_by X.name_of kept.items one) }
 {
-    let (mut all, after) = split(alloc, kept, &one)?;
+    let (mut all, mut after) = split(alloc, kept, &one)?;
     all.push(one)?;
-    for other in after {
-        all.push(other)?;
-    }
+    all.append(&mut after)?;
     Ok(all)
 }
 

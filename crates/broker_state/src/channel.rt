@@ -4,6 +4,7 @@ ghost use Rattle.broker_history.specs.State.{new_channel};
 
 use crate::by_name::Named;
 use crate::copies::{MessageCopy, copy_all};
+use crate::texts::same;
 use nsq_base::{Chan, Memory};
 use std::alloc::Global;
 use std::marker::Model;
@@ -60,7 +61,7 @@ impl ChannelState {
     pub fn is_named(&self, name: &Chan) -> bool
         ensures { result ≡ bytes_eq name.now self.now.name }
     {
-        name.bytes() == self.name.bytes()
+        same(name.bytes(), self.name.bytes())
     }
 
     /// A copy of it. Want of memory is the only error.

@@ -1,6 +1,7 @@
 ghost use Rattle.std.specs.Prelude.{◌≡◌, ◌==◌, nat_lt, IfOk};
 ghost use Rattle.broker_history.specs.State.{has_channel, is_on};
 
+use crate::texts::same;
 use broker_plain::Phase;
 use nsq_base::{Body, Chan, Memory, Topic};
 use std::alloc::Global;
@@ -94,22 +95,32 @@ impl Client {
     pub fn copy(&self, alloc: Global) -> Result<Client, Memory>
         ensures { IfOk result (λ client. client ≡ self.now) }
     {
-        Ok(Client {
+        let client_id = Body::copy(alloc, self.client_id.bytes())?;
+        let hostname = Body::copy(alloc, self.hostname.bytes())?;
+        let user_agent = Body::copy(alloc, self.user_agent.bytes())?;
+        Ok(self.with_texts(client_id, hostname, user_agent))
+    }
+
+    // The client with these texts.
+    fn with_texts(&self, client_id: Body, hostname: Body, user_agent: Body) -> Client
+        ensures { result ≡ record self.now { client_id = client_id; hostname = hostname; user_agent = user_agent } }
+    {
+        Client {
             number: self.number,
             phase: self.phase,
             route: copy_route(&self.route),
             ready: self.ready,
             heartbeat: self.heartbeat,
             timeout: self.timeout,
-            client_id: Body::copy(alloc, self.client_id.bytes())?,
-            hostname: Body::copy(alloc, self.hostname.bytes())?,
-            user_agent: Body::copy(alloc, self.user_agent.bytes())?,
+            client_id,
+            hostname,
+            user_agent,
             last_command: self.last_command,
             beat_from: self.beat_from,
             finish_count: self.finish_count,
             message_count: self.message_count,
             requeue_count: self.requeue_count,
-        })
+        }
     }
 }
 
@@ -133,8 +144,8 @@ fn is_on(route: &Option<Route>, topic: &Topic, channel: &Chan) -> bool
     match route {
         None => false,
         Some(route) => {
-            if topic.bytes() == route.topic.bytes() {
-                channel.bytes() == route.channel.bytes()
+            if same(topic.bytes(), route.topic.bytes()) {
+                same(channel.bytes(), route.channel.bytes())
             } else {
                 false
             }

@@ -4,7 +4,9 @@ ghost use Rattle.broker_history.specs.State as state;
 ghost use Rattle.broker_state.specs.Places.{place_of};
 ghost use Rattle.broker_state.specs.Tests.{passes};
 
+use crate::growing::put_last;
 use crate::place::Place;
+use crate::texts::same;
 use nsq_base::{Memory, MsgId};
 use std::alloc::Global;
 use std::marker::Model;
@@ -33,10 +35,7 @@ impl MessageCopy {
     pub fn copy(&self, alloc: Global) -> Result<MessageCopy, Memory>
         ensures { IfOk result (λ copy. copy ≡ self.now) }
     {
-        Ok(MessageCopy {
-            message: self.message.copy(alloc)?,
-            place: self.place,
-        })
+        self.at(alloc, self.place)
     }
 
     /// The same message at another place. Want of memory is the only error.
@@ -53,7 +52,7 @@ impl MessageCopy {
     pub fn is_of(&self, id: &MsgId) -> bool
         ensures { result ≡ bytes_eq id.now self.now.message.id }
     {
-        id.bytes() == self.message.id.bytes()
+        same(id.bytes(), self.message.id.bytes())
     }
 
     // Whether its place passes the test, and its message has this id.
@@ -161,7 +160,7 @@ pub fn copy_all(alloc: Global, copies: &[MessageCopy]) -> Result<Vec<MessageCopy
 {
     let mut all = Vec::new(alloc);
     for copy in copies {
-        all.push(copy.copy(alloc)?)?;
+        put_last(&mut all, copy.copy(alloc)?)?;
     }
     Ok(all)
 }

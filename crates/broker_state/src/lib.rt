@@ -8,7 +8,9 @@ mod by_name;
 mod channel;
 mod client;
 mod copies;
+mod growing;
 mod place;
+mod texts;
 mod topic;
 
 pub use broker::State;

@@ -6,6 +6,8 @@ ghost use Rattle.broker_history.specs.State.{channel_in, new_topic, with_channel
 
 use crate::by_name::{Named, put};
 use crate::channel::ChannelState;
+use crate::growing::put_last;
+use crate::texts::same;
 use nsq_base::{Chan, Memory, Topic};
 use std::alloc::Global;
 use std::marker::Model;
@@ -121,7 +123,7 @@ impl TopicState {
     pub fn is_named(&self, name: &Topic) -> bool
         ensures { result ≡ bytes_eq name.now self.now.name }
     {
-        name.bytes() == self.name.bytes()
+        same(name.bytes(), self.name.bytes())
     }
 
     /// The channel of this name, where there is one.
@@ -143,14 +145,29 @@ impl TopicState {
     pub fn copy(&self, alloc: Global) -> Result<TopicState, Memory>
         ensures { IfOk result (λ topic. topic ≡ self.now) }
     {
-        Ok(TopicState {
+        let channels = copy_channels(alloc, &self.channels)?;
+        let waiting = copy_waiting(alloc, &self.waiting)?;
+        let taken = copy_taken(alloc, &self.taken)?;
+        Ok(self.with_parts(waiting, taken, channels))
+    }
+
+    // The topic in which these messages wait, which took this one, and with these channels.
+    fn with_parts(
+        &self,
+        waiting: Vec<Waiting>,
+        taken: Option<TakenMessage>,
+        channels: Vec<ChannelState>,
+    ) -> TopicState
+        ensures { result ≡ record self.now { waiting = waiting.items; taken = taken; channels = channels.items } }
+    {
+        TopicState {
             name: self.name,
             paused: self.paused,
             message_count: self.message_count,
-            waiting: copy_waiting(alloc, &self.waiting)?,
-            taken: copy_taken(alloc, &self.taken)?,
-            channels: copy_channels(alloc, &self.channels)?,
-        })
+            waiting,
+            taken,
+            channels,
+        }
     }
 }
 
@@ -172,7 +189,7 @@ fn copy_waiting(alloc: Global, waiting: &[Waiting]) -> Result<Vec<Waiting>, Memo
 {
     let mut copies = Vec::new(alloc);
     for message in waiting {
-        copies.push(message.copy(alloc)?)?;
+        put_last(&mut copies, message.copy(alloc)?)?;
     }
     Ok(copies)
 }
@@ -193,7 +210,7 @@ fn copy_channels(alloc: Global, channels: &[ChannelState]) -> Result<Vec<Channel
 {
     let mut copies = Vec::new(alloc);
     for channel in channels {
-        copies.push(channel.copy(alloc)?)?;
+        put_last(&mut copies, channel.copy(alloc)?)?;
     }
     Ok(copies)
 }

@@ -1,5 +1,6 @@
 //! Histories that are legal, each beside those that aren't: stories of what happened, and what may happen next, as tables over the plain
-//! program that says to which states a history leads. There is nothing here but tests.
+//! program that says to which states a history leads; and worked examples, which are histories and conversations. There is nothing here but
+//! tests.
 #![tactic(auto)]
 
 #[cfg(test)]
@@ -18,3 +19,5 @@ mod story;
 mod told;
 #[cfg(test)]
 mod turns;
+#[cfg(test)]
+mod worked;

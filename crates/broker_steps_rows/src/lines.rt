@@ -425,6 +425,7 @@ pub fn topic(name: &str) -> Result<Topic, Memory> {
     }
 }
 
+/// The channel of this name.
 pub fn channel(name: &str) -> Result<Chan, Memory> {
     match Chan::read(name.as_bytes()) {
         Some(channel) => Ok(channel),
@@ -454,7 +455,8 @@ fn names_of(alloc: Global, listed: Option<(&str, &[&str])>) -> Result<Names, Mem
     Ok(names)
 }
 
-fn add_names(names: &mut Names, name: Topic, channels: &[&str]) -> Result<(), Memory> {
+/// Adds a topic with these channels.
+pub fn add_names(names: &mut Names, name: Topic, channels: &[&str]) -> Result<(), Memory> {
     names.add(name)?;
     for of in channels {
         names.add_channel(name, channel(of)?)?;

@@ -1,17 +1,17 @@
-use crate::parts::{Part, part_of};
-use broker_history::Entry;
+use crate::output::put;
+use crate::parts::Part;
 use nsq_base::{Body, Memory};
 use nsq_outside::End;
 use std::alloc::Global;
 use v2_frame::{Command, Frame, FrameKind, Message};
 
-/// What the client got by an entry with its end.
-pub fn answered(alloc: Global, entry: &Entry, end: End) -> Result<Option<Frame>, Memory> {
-    match part_of(&entry.act) {
+/// What the client got by an entry that is this part of its conversation, with this end.
+pub fn answered(alloc: Global, part: Part<'_>, end: End) -> Result<Option<Frame>, Memory> {
+    match part {
         Part::Took(command, reply) => did_answered(alloc, command, reply, end),
-        Part::Refused(_, frame) => Ok(Some(frame.copy(alloc)?)),
-        Part::Sent(message) => Ok(Some(message_frame(alloc, message)?)),
-        Part::Beat => Ok(Some(frame(alloc, FrameKind::Response, b"_heartbeat_")?)),
+        Part::Refused(_, frame) => copied(alloc, frame),
+        Part::Sent(message) => message_frame(alloc, message),
+        Part::Beat => beat_frame(alloc),
         _ => Ok(None),
     }
 }
@@ -33,18 +33,23 @@ fn did_answered(
 // A copy of a reply, if there is one.
 fn copy_reply(alloc: Global, reply: &Option<Frame>) -> Result<Option<Frame>, Memory> {
     match reply {
-        Some(frame) => Ok(Some(frame.copy(alloc)?)),
+        Some(frame) => copied(alloc, frame),
         None => Ok(None),
     }
+}
+
+// A copy of a frame.
+fn copied(alloc: Global, frame: &Frame) -> Result<Option<Frame>, Memory> {
+    Ok(Some(frame.copy(alloc)?))
 }
 
 // The reply to a command that a disk fault kept from being carried out, if there is one.
 fn disk_reply(alloc: Global, command: &Command) -> Result<Option<Frame>, Memory> {
     match command {
-        Command::Pub(_, _) => Ok(Some(disk_fault(alloc, b"E_PUB_FAILED disk fault")?)),
-        Command::Mpub(_, _) => Ok(Some(disk_fault(alloc, b"E_MPUB_FAILED disk fault")?)),
-        Command::Dpub(_, _, _) => Ok(Some(disk_fault(alloc, b"E_DPUB_FAILED disk fault")?)),
-        Command::Req(_, _) => Ok(Some(disk_fault(alloc, b"E_REQ_FAILED disk fault")?)),
+        Command::Pub(_, _) => disk_fault(alloc, b"E_PUB_FAILED disk fault"),
+        Command::Mpub(_, _) => disk_fault(alloc, b"E_MPUB_FAILED disk fault"),
+        Command::Dpub(_, _, _) => disk_fault(alloc, b"E_DPUB_FAILED disk fault"),
+        Command::Req(_, _) => disk_fault(alloc, b"E_REQ_FAILED disk fault"),
         Command::Identify(_)
         | Command::Sub(_, _)
         | Command::Rdy(_)
@@ -56,21 +61,31 @@ fn disk_reply(alloc: Global, command: &Command) -> Result<Option<Frame>, Memory>
 }
 
 // The error of this text.
-fn disk_fault(alloc: Global, text: &[u8]) -> Result<Frame, Memory> {
-    frame(alloc, FrameKind::Error, text)
+fn disk_fault(alloc: Global, text: &[u8]) -> Result<Option<Frame>, Memory> {
+    Ok(Some(frame(alloc, FrameKind::Error, text)?))
+}
+
+// The heartbeat.
+fn beat_frame(alloc: Global) -> Result<Option<Frame>, Memory> {
+    Ok(Some(frame(alloc, FrameKind::Response, b"_heartbeat_")?))
 }
 
 // The frame of a message.
-fn message_frame(alloc: Global, message: &Message) -> Result<Frame, Memory> {
+fn message_frame(alloc: Global, message: &Message) -> Result<Option<Frame>, Memory> {
     let mut bytes = Vec::new(alloc);
-    bytes.extend_from_slice(&message.stamp.to_be_bytes())?;
-    bytes.extend_from_slice(&message.attempts.to_be_bytes())?;
-    bytes.extend_from_slice(message.id.bytes())?;
-    bytes.extend_from_slice(message.body.bytes())?;
-    Ok(Frame {
+    put_message(&mut bytes, message)?;
+    Ok(Some(Frame {
         kind: FrameKind::Message,
         body: Body::of(bytes),
-    })
+    }))
+}
+
+// Adds the bytes of a message.
+fn put_message(bytes: &mut Vec<u8>, message: &Message) -> Result<(), Memory> {
+    put(bytes, &message.stamp.to_be_bytes())?;
+    put(bytes, &message.attempts.to_be_bytes())?;
+    put(bytes, message.id.bytes())?;
+    put(bytes, message.body.bytes())
 }
 
 // A frame of a kind and a text.

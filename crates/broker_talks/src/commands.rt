@@ -1,22 +1,24 @@
+use crate::output::same;
 use nsq_base::Bodies;
 use v2_frame::Command;
 
 /// Whether two commands are equal.
 pub fn same_command(a: &Command, b: &Command) -> bool {
     match (a, b) {
-        (Command::Identify(a), Command::Identify(b)) => a.bytes() == b.bytes(),
-        (Command::Sub(a, c), Command::Sub(b, d)) => a.bytes() == b.bytes()
-            && c.bytes() == d.bytes(),
-        (Command::Pub(a, c), Command::Pub(b, d)) => a.bytes() == b.bytes()
-            && c.bytes() == d.bytes(),
-        (Command::Mpub(a, c), Command::Mpub(b, d)) => a.bytes() == b.bytes() && same_bodies(c, d),
-        (Command::Dpub(a, c, e), Command::Dpub(b, d, f)) => {
-            a.bytes() == b.bytes() && c == d && e.bytes() == f.bytes()
-        }
+        (Command::Identify(a), Command::Identify(b)) => same(a.bytes(), b.bytes()),
+        (Command::Sub(a, c), Command::Sub(b, d)) => same(a.bytes(), b.bytes())
+            && same(c.bytes(), d.bytes()),
+        (Command::Pub(a, c), Command::Pub(b, d)) => same(a.bytes(), b.bytes())
+            && same(c.bytes(), d.bytes()),
+        (Command::Mpub(a, c), Command::Mpub(b, d)) => same(a.bytes(), b.bytes())
+            && same_bodies(c, d),
+        (Command::Dpub(a, c, e), Command::Dpub(b, d, f)) => same(a.bytes(), b.bytes())
+            && c == d
+            && same(e.bytes(), f.bytes()),
         (Command::Rdy(a), Command::Rdy(b)) => a == b,
-        (Command::Fin(a), Command::Fin(b)) => a.bytes() == b.bytes(),
-        (Command::Req(a, c), Command::Req(b, d)) => a.bytes() == b.bytes() && c == d,
-        (Command::Touch(a), Command::Touch(b)) => a.bytes() == b.bytes(),
+        (Command::Fin(a), Command::Fin(b)) => same(a.bytes(), b.bytes()),
+        (Command::Req(a, c), Command::Req(b, d)) => same(a.bytes(), b.bytes()) && c == d,
+        (Command::Touch(a), Command::Touch(b)) => same(a.bytes(), b.bytes()),
         (Command::Cls, Command::Cls) => true,
         (Command::Nop, Command::Nop) => true,
         _ => false,

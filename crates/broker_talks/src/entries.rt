@@ -1,34 +1,33 @@
 use crate::parts::{Part, part_of};
 use broker_history::{Act, Entry};
 use nsq_base::Memory;
-use nsq_outside::{End, Twin};
+use nsq_outside::End;
 use std::alloc::Global;
 
-/// The entries of a connection, in order: those that name it and aren't common.
+/// What the entries of a connection are in its conversation, in order: of those that name it and aren't common.
 pub fn own(
     alloc: Global,
     number: u64,
     history: &[(Entry, End)],
-) -> Result<Vec<(Entry, End)>, Memory> {
+) -> Result<Vec<(Part<'_>, End)>, Memory> {
     let mut own = Vec::new(alloc);
-    for pair in history {
-        if is_own(number, pair) {
-            own.push((pair.0.twin(alloc)?, pair.1))?;
+    for (entry, end) in history {
+        if let Some(part) = own_part(number, entry) {
+            own.push((part, *end))?;
         }
     }
     Ok(own)
 }
 
-// Whether the entry is one of a connection's own.
-fn is_own(number: u64, pair: &(Entry, End)) -> bool {
-    pair.0.conn == number && !is_common(&pair.0.act)
-}
-
-// Whether the act names the daemon and stands in turns of any connection: a move, the daemon's Stuck, or a Ticked.
-fn is_common(act: &Act) -> bool {
-    match part_of(act) {
-        Part::Common => true,
-        _ => false,
+// What the entry is in the conversation of a connection, where it is one of its own: no move, nor the daemon's Stuck, nor a Ticked, which
+// name the daemon and stand in turns of any connection.
+fn own_part(number: u64, entry: &Entry) -> Option<Part<'_>> {
+    if entry.conn != number {
+        return None;
+    }
+    match part_of(&entry.act) {
+        Part::Common => None,
+        part => Some(part),
     }
 }
 

@@ -1,36 +1,44 @@
 use crate::answers::{answered, memory_frame};
-use broker_history::Entry;
+use crate::parts::Part;
 use nsq_base::Memory;
 use nsq_outside::End;
 use std::alloc::Global;
 use v2_frame::{Frame, FrameKind};
 
-/// The bytes that these entries write to their client, in order.
-pub fn frames(alloc: Global, entries: &[(Entry, End)]) -> Result<Vec<u8>, Memory> {
+/// Whether two texts are equal.
+pub fn same(one: &[u8], other: &[u8]) -> bool {
+    one == other
+}
+
+/// Adds a text.
+pub fn put(bytes: &mut Vec<u8>, text: &[u8]) -> Result<(), Memory> {
+    bytes.extend_from_slice(text)?;
+    Ok(())
+}
+
+/// The bytes that entries of these parts write to their client, in order.
+pub fn frames(alloc: Global, parts: &[(Part<'_>, End)]) -> Result<Vec<u8>, Memory> {
     let mut bytes = Vec::new(alloc);
-    for (entry, end) in entries {
-        let written = written_by(alloc, entry, *end)?;
-        bytes.extend_from_slice(&written)?;
+    for (part, end) in parts {
+        put_answer(alloc, &mut bytes, *part, *end)?;
     }
     Ok(bytes)
 }
 
-// The bytes that an entry writes to its client.
-fn written_by(alloc: Global, entry: &Entry, end: End) -> Result<Vec<u8>, Memory> {
-    match answered(alloc, entry, end)? {
-        Some(frame) => frame_bytes(alloc, &frame),
-        None => Ok(Vec::new(alloc)),
+// Adds the bytes that an entry writes to its client.
+fn put_answer(alloc: Global, bytes: &mut Vec<u8>, part: Part<'_>, end: End) -> Result<(), Memory> {
+    match answered(alloc, part, end)? {
+        Some(frame) => put_frame(bytes, &frame),
+        None => Ok(()),
     }
 }
 
-// The bytes of a frame.
-fn frame_bytes(alloc: Global, frame: &Frame) -> Result<Vec<u8>, Memory> {
+// Adds the bytes of a frame.
+fn put_frame(bytes: &mut Vec<u8>, frame: &Frame) -> Result<(), Memory> {
     let body = frame.body.bytes();
-    let mut bytes = Vec::new(alloc);
-    bytes.extend_from_slice(&size4(4 + body.len() as u64))?;
-    bytes.extend_from_slice(&size4(type_of(frame.kind)))?;
-    bytes.extend_from_slice(body)?;
-    Ok(bytes)
+    put(bytes, &size4(4 + body.len() as u64))?;
+    put(bytes, &size4(type_of(frame.kind)))?;
+    put(bytes, body)
 }
 
 // The number of a frame's type.
@@ -49,30 +57,45 @@ fn size4(size: u64) -> [u8; 4] {
 }
 
 /// Whether all answers but the last entry's were written, and of that one the first bytes.
-pub fn is_cut_short(alloc: Global, entries: &[(Entry, End)], out: &[u8]) -> Result<bool, Memory> {
-    let Some((last, before)) = entries.split_last() else {
+pub fn is_cut_short(alloc: Global, parts: &[(Part<'_>, End)], out: &[u8]) -> Result<bool, Memory> {
+    let Some(((last, end), before)) = parts.split_last() else {
         return Ok(false);
     };
-    if answered(alloc, &last.0, last.1)?.is_none() {
+    let mut text = Vec::new(alloc);
+    put_answer(alloc, &mut text, *last, *end)?;
+    if text.is_empty() {
         return Ok(false);
     }
-    let front = frames(alloc, before)?;
-    let text = written_by(alloc, &last.0, last.1)?;
-    Ok(is_cut(out, &front, &text))
+    is_behind(alloc, before, out, &text)
 }
 
 /// Whether all answers were written, or all but the last entry's, and then the first bytes of the frame for want of memory.
-pub fn is_given_up(alloc: Global, entries: &[(Entry, End)], out: &[u8]) -> Result<bool, Memory> {
-    let text = frame_bytes(alloc, &memory_frame(alloc)?)?;
-    let all = frames(alloc, entries)?;
-    if is_cut(out, &all, &text) {
+pub fn is_given_up(alloc: Global, parts: &[(Part<'_>, End)], out: &[u8]) -> Result<bool, Memory> {
+    let text = memory_text(alloc)?;
+    if is_behind(alloc, parts, out, &text)? {
         return Ok(true);
     }
-    let Some((_, before)) = entries.split_last() else {
-        return Ok(false);
-    };
-    let front = frames(alloc, before)?;
-    Ok(is_cut(out, &front, &text))
+    match parts.split_last() {
+        Some((_, before)) => is_behind(alloc, before, out, &text),
+        None => Ok(false),
+    }
+}
+
+// The bytes of the frame for want of memory.
+fn memory_text(alloc: Global) -> Result<Vec<u8>, Memory> {
+    let mut text = Vec::new(alloc);
+    put_frame(&mut text, &memory_frame(alloc)?)?;
+    Ok(text)
+}
+
+// Whether the bytes are all answers of these entries, and then some first bytes of the text.
+fn is_behind(
+    alloc: Global,
+    parts: &[(Part<'_>, End)],
+    bytes: &[u8],
+    text: &[u8],
+) -> Result<bool, Memory> {
+    Ok(is_cut(bytes, &frames(alloc, parts)?, text))
 }
 
 // Whether the bytes are the front and then some first bytes of the text.

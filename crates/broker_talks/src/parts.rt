@@ -1,4 +1,7 @@
-use broker_history::Act;
+use broker_history::{Act, Entry};
+use nsq_base::Memory;
+use nsq_outside::End;
+use std::alloc::Global;
 use v2_frame::{Command, Fault, Frame, Message};
 
 /// What an act is in the conversation of its connection.
@@ -53,4 +56,13 @@ pub fn part_of(act: &Act) -> Part<'_> {
         | Act::CameDue(_, _, _)
         | Act::HeldBack(_, _, _) => Part::Common,
     }
+}
+
+/// What these entries are in the conversation of their connection, each with its end.
+pub fn parts_of(alloc: Global, entries: &[(Entry, End)]) -> Result<Vec<(Part<'_>, End)>, Memory> {
+    let mut parts = Vec::new(alloc);
+    for (entry, end) in entries {
+        parts.push((part_of(&entry.act), *end))?;
+    }
+    Ok(parts)
 }

@@ -1,44 +1,54 @@
 use crate::answers::{answered, closes_answer};
-use crate::commands::same_command;
-use crate::parts::{Part, part_of};
-use crate::standing::{MOST_SENT, Round, Standing, settle};
-use broker_history::Entry;
+use crate::parts::Part;
+use crate::standing::{Front, MAGIC, MOST_SENT, Round, Standing, judged, settle};
 use nsq_base::{Body, Memory};
 use nsq_outside::End;
 use std::alloc::Global;
-use v2_frame::{Command, Fault, FaultKind, Found, Limits, judge_front};
+use v2_frame::{Command, Fault, FaultKind, Limits};
 
 /// The place from which on faults are told as at this place.
 const LAST_PLACE: u64 = 1 << 63;
 
-/// Whether the conversation goes on behind these entries, with all pieces read.
+/// Whether the conversation goes on behind these parts, with all pieces read.
 pub fn is_open(
     alloc: Global,
     limits: Limits,
     pieces: &[Body],
-    entries: &[(Entry, End)],
+    parts: &[(Part<'_>, End)],
 ) -> Result<bool, Memory> {
-    for standing in &standings(alloc, limits, pieces, entries)? {
-        if standing.read == pieces.len() {
-            return Ok(true);
-        }
-    }
-    Ok(false)
+    let standings = standings(alloc, limits, pieces, parts)?;
+    Ok(has_read(&standings, pieces.len()))
 }
 
-/// Whether the conversation is to read behind these entries, with all pieces read.
+// Whether one of them read so many pieces.
+fn has_read(standings: &[Standing], count: usize) -> bool {
+    for standing in standings {
+        if standing.read == count {
+            return true;
+        }
+    }
+    false
+}
+
+/// Whether the conversation is to read behind these parts, with all pieces read.
 pub fn is_waiting(
     alloc: Global,
     limits: Limits,
     pieces: &[Body],
-    entries: &[(Entry, End)],
+    parts: &[(Part<'_>, End)],
 ) -> Result<bool, Memory> {
-    for standing in &standings(alloc, limits, pieces, entries)? {
-        if standing.read == pieces.len() && standing.round == Round::Reading {
-            return Ok(true);
+    let standings = standings(alloc, limits, pieces, parts)?;
+    Ok(is_one_waiting(&standings, pieces.len()))
+}
+
+// Whether one of them is to read, and read so many pieces.
+fn is_one_waiting(standings: &[Standing], count: usize) -> bool {
+    for standing in standings {
+        if standing.read == count && standing.is_reading() {
+            return true;
         }
     }
-    Ok(false)
+    false
 }
 
 /// Whether the last of these entries ended the conversation, with all pieces read.
@@ -46,14 +56,27 @@ pub fn is_closed(
     alloc: Global,
     limits: Limits,
     pieces: &[Body],
-    entries: &[(Entry, End)],
+    parts: &[(Part<'_>, End)],
 ) -> Result<bool, Memory> {
-    let Some((last, before)) = entries.split_last() else {
+    let Some(((last, end), before)) = parts.split_last() else {
         return Ok(false);
     };
-    for standing in &standings(alloc, limits, pieces, before)? {
+    let standings = standings(alloc, limits, pieces, before)?;
+    is_one_closed(alloc, limits, pieces, &standings, *last, *end)
+}
+
+// Whether the part ends the conversation that stands in one of these ways, with all pieces read.
+fn is_one_closed(
+    alloc: Global,
+    limits: Limits,
+    pieces: &[Body],
+    standings: &[Standing],
+    part: Part<'_>,
+    end: End,
+) -> Result<bool, Memory> {
+    for standing in standings {
         if standing.read == pieces.len()
-            && is_closed_by(alloc, limits, pieces, *standing, &last.0, last.1)?
+            && is_closed_by(alloc, limits, pieces, *standing, part, end)?
         {
             return Ok(true);
         }
@@ -61,22 +84,22 @@ pub fn is_closed(
     Ok(false)
 }
 
-// Where the conversation may stand behind these entries, by how the pieces may have been read between them.
+// Where the conversation may stand behind these parts, by how the pieces may have been read between them.
 fn standings(
     alloc: Global,
     limits: Limits,
     pieces: &[Body],
-    entries: &[(Entry, End)],
+    parts: &[(Part<'_>, End)],
 ) -> Result<Vec<Standing>, Memory> {
     let mut standings = Vec::new(alloc);
-    let Some(((first, _), rest)) = entries.split_first() else {
+    let Some(((first, _), rest)) = parts.split_first() else {
         return Ok(standings);
     };
-    if let Part::Began = part_of(&first.act) {
+    if let Part::Began = first {
         settle(alloc, limits, pieces, &mut standings, Standing::first())?;
     }
-    for (entry, end) in rest {
-        standings = behind(alloc, limits, pieces, &standings, entry, *end)?;
+    for (part, end) in rest {
+        standings = behind(alloc, limits, pieces, &standings, *part, *end)?;
     }
     Ok(standings)
 }
@@ -87,12 +110,12 @@ fn behind(
     limits: Limits,
     pieces: &[Body],
     standings: &[Standing],
-    entry: &Entry,
+    part: Part<'_>,
     end: End,
 ) -> Result<Vec<Standing>, Memory> {
     let mut next = Vec::new(alloc);
     for standing in standings {
-        if let Some(led) = led_to(alloc, limits, pieces, *standing, entry, end)? {
+        if let Some(led) = led_to(alloc, limits, pieces, *standing, part, end)? {
             settle(alloc, limits, pieces, &mut next, led)?;
         }
     }
@@ -105,22 +128,24 @@ fn led_to(
     limits: Limits,
     pieces: &[Body],
     standing: Standing,
-    entry: &Entry,
+    part: Part<'_>,
     end: End,
 ) -> Result<Option<Standing>, Memory> {
     match standing.round {
-        Round::Sending(sent) => Ok(led_sending(standing, sent, part_of(&entry.act))),
+        Round::Sending(sent) => Ok(led_sending(standing, sent, part)),
         Round::Reading => Ok(None),
-        Round::Doing => match part_of(&entry.act) {
-            Part::Took(command, _) => {
-                if closes_answer(&answered(alloc, entry, end)?) {
-                    return Ok(None);
-                }
-                led_doing(alloc, limits, pieces, standing, command)
+        Round::Doing => {
+            if closes(alloc, part, end)? {
+                return Ok(None);
             }
-            _ => Ok(None),
-        },
+            led_doing(alloc, limits, pieces, standing, part)
+        }
     }
+}
+
+// Whether the connection is closed after what the client got by this.
+fn closes(alloc: Global, part: Part<'_>, end: End) -> Result<bool, Memory> {
+    Ok(closes_answer(&answered(alloc, part, end)?))
 }
 
 // The same where so many were sent in its round.
@@ -135,27 +160,23 @@ fn led_sending(standing: Standing, sent: u64, part: Part<'_>) -> Option<Standing
     }
 }
 
-// The same where its round does what was read, and the entry took this command.
+// The same where its round does what was read, and the entry took a command.
 fn led_doing(
     alloc: Global,
     limits: Limits,
     pieces: &[Body],
     standing: Standing,
-    command: &Command,
+    part: Part<'_>,
 ) -> Result<Option<Standing>, Memory> {
-    if !standing.greeted {
+    let Part::Took(command, _) = part else {
         return Ok(None);
-    }
-    let pending = standing.pending(alloc, pieces)?;
-    match judge_front(alloc, limits, &pending)? {
-        Found::Whole(next, taken) => if same_command(&next, command) {
+    };
+    match judged(alloc, limits, pieces, standing, Some(command))? {
+        Front::Whole(taken) => {
             let done = standing.done.saturating_add(taken);
             Ok(Some(Standing { done, ..standing }))
-        } else {
-            Ok(None)
-        },
-        Found::Faulty(_, _) => Ok(None),
-        Found::Unfinished => Ok(None),
+        }
+        _ => Ok(None),
     }
 }
 
@@ -165,13 +186,13 @@ fn is_closed_by(
     limits: Limits,
     pieces: &[Body],
     standing: Standing,
-    entry: &Entry,
+    part: Part<'_>,
     end: End,
 ) -> Result<bool, Memory> {
     match standing.round {
-        Round::Sending(sent) => Ok(closes_sending(sent, part_of(&entry.act))),
+        Round::Sending(sent) => Ok(closes_sending(sent, part)),
         Round::Reading => Ok(false),
-        Round::Doing => closes_doing(alloc, limits, pieces, standing, entry, end),
+        Round::Doing => closes_doing(alloc, limits, pieces, standing, part, end),
     }
 }
 
@@ -190,15 +211,15 @@ fn closes_doing(
     limits: Limits,
     pieces: &[Body],
     standing: Standing,
-    entry: &Entry,
+    part: Part<'_>,
     end: End,
 ) -> Result<bool, Memory> {
-    match part_of(&entry.act) {
-        Part::Took(command, _) => {
-            if !closes_answer(&answered(alloc, entry, end)?) {
+    match part {
+        Part::Took(_, _) => {
+            if !closes(alloc, part, end)? {
                 return Ok(false);
             }
-            Ok(led_doing(alloc, limits, pieces, standing, command)?.is_some())
+            Ok(led_doing(alloc, limits, pieces, standing, part)?.is_some())
         }
         Part::Refused(fault, _) => has_fault(alloc, limits, pieces, standing, fault),
         Part::Dropped => has_command(alloc, limits, pieces, standing),
@@ -213,14 +234,9 @@ fn has_command(
     pieces: &[Body],
     standing: Standing,
 ) -> Result<bool, Memory> {
-    if !standing.greeted {
-        return Ok(false);
-    }
-    let pending = standing.pending(alloc, pieces)?;
-    match judge_front(alloc, limits, &pending)? {
-        Found::Whole(_, _) => Ok(true),
-        Found::Faulty(_, _) => Ok(false),
-        Found::Unfinished => Ok(false),
+    match judged(alloc, limits, pieces, standing, None)? {
+        Front::Whole(_) => Ok(true),
+        _ => Ok(false),
     }
 }
 
@@ -232,18 +248,22 @@ fn has_fault(
     standing: Standing,
     fault: Fault,
 ) -> Result<bool, Memory> {
-    let pending = standing.pending(alloc, pieces)?;
     if !standing.greeted {
         let kind = FaultKind::BadMagic;
-        let is_bad = pending.len() >= 4 && !pending.starts_with(b"  V2");
-        return Ok(is_bad && fault == Fault { kind, at: 0 });
+        return Ok(
+            fault == Fault { kind, at: 0 } && is_bad_magic(&standing.pending(alloc, pieces)?),
+        );
     }
-    match judge_front(alloc, limits, &pending)? {
-        Found::Faulty(kind, at) => {
+    match judged(alloc, limits, pieces, standing, None)? {
+        Front::Faulty(kind, at) => {
             let at = (standing.done.saturating_add(at) as u64).min(LAST_PLACE);
             Ok(fault == Fault { kind, at })
         }
-        Found::Whole(_, _) => Ok(false),
-        Found::Unfinished => Ok(false),
+        _ => Ok(false),
     }
+}
+
+// Whether a stream of these first bytes doesn't begin with the magic.
+fn is_bad_magic(bytes: &[u8]) -> bool {
+    bytes.len() >= MAGIC.len() && !bytes.starts_with(MAGIC)
 }

@@ -1,9 +1,10 @@
+use crate::commands::same_command;
 use nsq_base::{Body, Memory};
 use std::alloc::Global;
-use v2_frame::{Found, Limits, judge_front};
+use v2_frame::{Command, FaultKind, Found, Limits, judge_front};
 
 /// The four bytes that a stream begins with.
-const MAGIC: &[u8] = b"  V2";
+pub const MAGIC: &[u8] = b"  V2";
 
 /// The most bytes that one read gives.
 const LONGEST_PIECE: usize = 16384;
@@ -12,7 +13,7 @@ const LONGEST_PIECE: usize = 16384;
 pub const MOST_SENT: u64 = 64;
 
 /// Where a round stands.
-#[derive(Clone, Copy, PartialEq, Eq)]
+#[derive(Clone, Copy, PartialEq)]
 pub enum Round {
     /// So many were sent in it.
     Sending(u64),
@@ -23,7 +24,7 @@ pub enum Round {
 }
 
 /// Where a conversation may stand behind its entries.
-#[derive(Clone, Copy, PartialEq, Eq)]
+#[derive(Clone, Copy, PartialEq)]
 pub struct Standing {
     /// How many pieces were read.
     pub read: usize,
@@ -51,16 +52,88 @@ impl Standing {
         Standing { round, ..self }
     }
 
+    /// Whether its round is to read.
+    pub fn is_reading(self) -> bool {
+        match self.round {
+            Round::Reading => true,
+            Round::Sending(_) | Round::Doing => false,
+        }
+    }
+
     /// The bytes of the pieces read that aren't done.
     pub fn pending(&self, alloc: Global, pieces: &[Body]) -> Result<Vec<u8>, Memory> {
-        let mut bytes = Vec::new(alloc);
-        for piece in pieces.iter().take(self.read) {
-            bytes.extend_from_slice(piece.bytes())?;
-        }
+        let bytes = joined(alloc, firsts(pieces, self.read))?;
         match bytes.get(self.done..) {
             Some(pending) => Ok(Vec::from_slice(alloc, pending)?),
             None => Ok(Vec::new(alloc)),
         }
+    }
+}
+
+// So many of the first pieces, or all.
+fn firsts(pieces: &[Body], count: usize) -> &[Body] {
+    match pieces.get(..count) {
+        Some(firsts) => firsts,
+        None => pieces,
+    }
+}
+
+// The bytes of pieces, one behind another.
+fn joined(alloc: Global, pieces: &[Body]) -> Result<Vec<u8>, Memory> {
+    let mut bytes = Vec::new(alloc);
+    for piece in pieces {
+        bytes.extend_from_slice(piece.bytes())?;
+    }
+    Ok(bytes)
+}
+
+/// What stands at the front of the bytes that aren't done, behind the magic.
+#[derive(Clone, Copy)]
+pub enum Front {
+    /// The wanted command, or any where none is, of so many bytes.
+    Whole(usize),
+    /// This fault, at this place.
+    Faulty(FaultKind, usize),
+    /// Another command than the wanted one, or the magic isn't done.
+    Other,
+    /// None of these yet.
+    Unfinished,
+}
+
+/// What stands at the front of the bytes of a conversation that stands so.
+pub fn judged(
+    alloc: Global,
+    limits: Limits,
+    pieces: &[Body],
+    standing: Standing,
+    wanted: Option<&Command>,
+) -> Result<Front, Memory> {
+    if !standing.greeted {
+        return Ok(Front::Other);
+    }
+    let pending = standing.pending(alloc, pieces)?;
+    let found = judge_front(alloc, limits, &pending)?;
+    Ok(front_of(&found, wanted))
+}
+
+// The same of what was found there.
+fn front_of(found: &Found, wanted: Option<&Command>) -> Front {
+    match found {
+        Found::Whole(command, taken) => if is_wanted(command, wanted) {
+            Front::Whole(*taken)
+        } else {
+            Front::Other
+        },
+        Found::Faulty(kind, at) => Front::Faulty(*kind, *at),
+        Found::Unfinished => Front::Unfinished,
+    }
+}
+
+// Whether the command is the wanted one, or none is wanted.
+fn is_wanted(command: &Command, wanted: Option<&Command>) -> bool {
+    match wanted {
+        Some(wanted) => same_command(command, wanted),
+        None => true,
     }
 }
 
@@ -153,11 +226,9 @@ fn settle_greeted(
     standings: &mut Vec<Standing>,
     standing: Standing,
 ) -> Result<(), Memory> {
-    let pending = standing.pending(alloc, pieces)?;
-    match judge_front(alloc, limits, &pending)? {
-        Found::Unfinished => add(standings, standing.at(Round::Sending(0))),
-        Found::Whole(_, _) => Ok(()),
-        Found::Faulty(_, _) => Ok(()),
+    match judged(alloc, limits, pieces, standing, None)? {
+        Front::Unfinished => add(standings, standing.at(Round::Sending(0))),
+        _ => Ok(()),
     }
 }
 

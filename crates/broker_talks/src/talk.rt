@@ -1,6 +1,6 @@
 use crate::entries::{own, stops_before_gone};
-use crate::output::{frames, is_cut_short, is_given_up};
-use crate::parts::{Part, part_of};
+use crate::output::{frames, is_cut_short, is_given_up, same};
+use crate::parts::{Part, parts_of};
 use crate::rounds::{is_closed, is_open, is_waiting};
 use broker_history::{Ended, Entry};
 use nsq_base::{Body, Memory};
@@ -22,18 +22,8 @@ pub fn is_talk(
     out: &[u8],
     ended: Ended,
 ) -> Result<bool, Memory> {
-    if let Some(entries) = without_gone(own) {
-        if finishes(alloc, limits, stopped, pieces, entries, out, ended)? {
-            return Ok(true);
-        }
-    }
-    if wanted > 0
-        && may_lack_gone(ended)
-        && finishes(alloc, limits, stopped, pieces, own, out, ended)?
-    {
-        return Ok(true);
-    }
-    never_begins(alloc, pieces, own, out, ended)
+    let parts = parts_of(alloc, own)?;
+    is_talk_of(alloc, limits, stopped, wanted, pieces, &parts, out, ended)
 }
 
 /// The same of the connection of a number in a history: its entries and its Stop are those of the history. It has no contract
@@ -49,24 +39,46 @@ pub fn is_talk_in(
     ended: Ended,
 ) -> Result<bool, Memory> {
     let stopped = stops_before_gone(number, history);
-    let entries = own(alloc, number, history)?;
-    is_talk(alloc, limits, stopped, wanted, pieces, &entries, out, ended)
+    let parts = own(alloc, number, history)?;
+    is_talk_of(alloc, limits, stopped, wanted, pieces, &parts, out, ended)
 }
 
-// Whether the conversation came to its end behind these entries, and this was written.
+// The same of what the connection's entries are in its conversation.
+fn is_talk_of(
+    alloc: Global,
+    limits: Limits,
+    stopped: bool,
+    wanted: u64,
+    pieces: &[Body],
+    own: &[(Part<'_>, End)],
+    out: &[u8],
+    ended: Ended,
+) -> Result<bool, Memory> {
+    if let Some(parts) = without_gone(own) {
+        if finishes(alloc, limits, stopped, pieces, parts, out, ended)? {
+            return Ok(true);
+        }
+    }
+    if wanted > 0
+        && may_lack_gone(ended)
+        && finishes(alloc, limits, stopped, pieces, own, out, ended)?
+    {
+        return Ok(true);
+    }
+    never_begins(alloc, pieces, own, out, ended)
+}
+
+// Whether the conversation came to its end behind these parts, and this was written.
 fn finishes(
     alloc: Global,
     limits: Limits,
     stopped: bool,
     pieces: &[Body],
-    entries: &[(Entry, End)],
+    parts: &[(Part<'_>, End)],
     out: &[u8],
     ended: Ended,
 ) -> Result<bool, Memory> {
-    Ok(
-        writes(alloc, entries, out, ended)?
-            && reaches(alloc, limits, stopped, pieces, entries, ended)?,
-    )
+    Ok(writes(alloc, parts, out, ended)? && reaches(alloc, limits, stopped, pieces, parts, ended)?)
 }
 
 // Whether a conversation that ended so may have stood behind these entries.
@@ -75,18 +87,18 @@ fn reaches(
     limits: Limits,
     stopped: bool,
     pieces: &[Body],
-    entries: &[(Entry, End)],
+    parts: &[(Part<'_>, End)],
     ended: Ended,
 ) -> Result<bool, Memory> {
     match ended {
-        Ended::EndOfInput => is_waiting(alloc, limits, pieces, entries),
-        Ended::ReadFault => is_waiting(alloc, limits, pieces, entries),
+        Ended::EndOfInput => is_waiting(alloc, limits, pieces, parts),
+        Ended::ReadFault => is_waiting(alloc, limits, pieces, parts),
         Ended::Closed => Ok(
-            is_closed(alloc, limits, pieces, entries)?
-                || stopped && is_open(alloc, limits, pieces, entries)?,
+            is_closed(alloc, limits, pieces, parts)?
+                || stopped && is_open(alloc, limits, pieces, parts)?,
         ),
-        Ended::WriteFault => is_reached(alloc, limits, pieces, entries),
-        Ended::Memory => is_reached(alloc, limits, pieces, entries),
+        Ended::WriteFault => is_reached(alloc, limits, pieces, parts),
+        Ended::Memory => is_reached(alloc, limits, pieces, parts),
     }
 }
 
@@ -95,30 +107,30 @@ fn is_reached(
     alloc: Global,
     limits: Limits,
     pieces: &[Body],
-    entries: &[(Entry, End)],
+    parts: &[(Part<'_>, End)],
 ) -> Result<bool, Memory> {
-    Ok(is_closed(alloc, limits, pieces, entries)? || is_open(alloc, limits, pieces, entries)?)
+    Ok(is_closed(alloc, limits, pieces, parts)? || is_open(alloc, limits, pieces, parts)?)
 }
 
 // Whether these bytes are what a conversation that ended so wrote for its entries.
 fn writes(
     alloc: Global,
-    entries: &[(Entry, End)],
+    parts: &[(Part<'_>, End)],
     out: &[u8],
     ended: Ended,
 ) -> Result<bool, Memory> {
     match ended {
-        Ended::EndOfInput => is_all(alloc, entries, out),
-        Ended::Closed => is_all(alloc, entries, out),
-        Ended::ReadFault => is_all(alloc, entries, out),
-        Ended::WriteFault => is_cut_short(alloc, entries, out),
-        Ended::Memory => is_given_up(alloc, entries, out),
+        Ended::EndOfInput => is_all(alloc, parts, out),
+        Ended::Closed => is_all(alloc, parts, out),
+        Ended::ReadFault => is_all(alloc, parts, out),
+        Ended::WriteFault => is_cut_short(alloc, parts, out),
+        Ended::Memory => is_given_up(alloc, parts, out),
     }
 }
 
 // Whether all answers were written.
-fn is_all(alloc: Global, entries: &[(Entry, End)], out: &[u8]) -> Result<bool, Memory> {
-    Ok(out == frames(alloc, entries)?.as_slice())
+fn is_all(alloc: Global, parts: &[(Part<'_>, End)], out: &[u8]) -> Result<bool, Memory> {
+    Ok(same(out, &frames(alloc, parts)?))
 }
 
 // Whether a conversation that ended so may lack its Gone, where the desk wanted memory.
@@ -133,9 +145,9 @@ fn may_lack_gone(ended: Ended) -> bool {
 }
 
 // The entries before the Gone, where a Gone is the last.
-fn without_gone(own: &[(Entry, End)]) -> Option<&[(Entry, End)]> {
-    let (last, before) = own.split_last()?;
-    match part_of(&last.0.act) {
+fn without_gone<'a>(own: &'a [(Part<'a>, End)]) -> Option<&'a [(Part<'a>, End)]> {
+    let ((last, _), before) = own.split_last()?;
+    match last {
         Part::Gone => Some(before),
         _ => None,
     }
@@ -145,7 +157,7 @@ fn without_gone(own: &[(Entry, End)]) -> Option<&[(Entry, End)]> {
 fn never_begins(
     alloc: Global,
     pieces: &[Body],
-    own: &[(Entry, End)],
+    own: &[(Part<'_>, End)],
     out: &[u8],
     ended: Ended,
 ) -> Result<bool, Memory> {

@@ -2,6 +2,8 @@
 #![tactic(auto)]
 
 #[cfg(test)]
+mod broker;
+#[cfg(test)]
 mod calls;
 #[cfg(test)]
 mod dice;

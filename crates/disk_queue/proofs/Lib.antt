@@ -8,3 +8,4 @@ pub mod Peeked
 pub mod Advances
 pub mod ListDropped
 pub mod OpeningDone
+pub mod Joined

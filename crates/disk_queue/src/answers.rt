@@ -1,7 +1,7 @@
 use crate::Queue;
 
 /// The answer of `Queue::stage`.
-#[derive(Clone, Copy, Debug, PartialEq, Eq)]
+#[derive(Clone, Copy, PartialEq)]
 pub enum Stage {
     /// The record is staged.
     Staged,
@@ -12,7 +12,7 @@ pub enum Stage {
 }
 
 /// The answer of a call that may save.
-#[derive(Clone, Copy, Debug, PartialEq, Eq)]
+#[derive(Clone, Copy, PartialEq)]
 pub enum Sync {
     /// No save was due.
     NotDue,
@@ -24,7 +24,7 @@ pub enum Sync {
 }
 
 /// The answer of `Queue::put`.
-#[derive(Clone, Copy, Debug, PartialEq, Eq)]
+#[derive(Clone, Copy, PartialEq)]
 pub enum Put {
     /// The record is in the list; and whether that was saved.
     Stored(Sync),
@@ -35,7 +35,7 @@ pub enum Put {
 }
 
 /// The answer of `Queue::peek`.
-#[derive(Clone, Copy, Debug, PartialEq, Eq)]
+#[derive(Clone, Copy, PartialEq)]
 pub enum Peek {
     /// The first record has so many bytes, which stand at the start of the buffer.
     Got(usize),
@@ -49,7 +49,7 @@ pub enum Peek {
 }
 
 /// The answer of `Queue::take`.
-#[derive(Clone, Copy, Debug, PartialEq, Eq)]
+#[derive(Clone, Copy, PartialEq)]
 pub enum Take {
     /// The first record had so many bytes, which stand at the start of the buffer, and is taken; and whether that was saved.
     Got(usize, Sync),
@@ -62,7 +62,7 @@ pub enum Take {
 }
 
 /// The answer of `Queue::empty`.
-#[derive(Clone, Copy, Debug, PartialEq, Eq)]
+#[derive(Clone, Copy, PartialEq)]
 pub enum Emptied {
     /// The list is empty, and that is saved. Files that were read may still be there where their removal failed; the next save tries
     /// that again.

@@ -1,5 +1,5 @@
 //! Rows of the daemon's one turn: transcripts of calls with their answers and the entries that they note, each of which the plain program of the
-//! whole broker finds legal, and random turns beside that program.
+//! whole broker finds legal, random turns beside that program, and data paths over several runs.
 //!
 //! The crate has nothing but tests. A row is a transcript; one function says whether it holds, and one test names the row and the line that
 //! doesn't.
@@ -19,6 +19,8 @@ mod outside;
 mod plain;
 #[cfg(test)]
 mod random;
+#[cfg(test)]
+mod restarts;
 #[cfg(test)]
 mod rows;
 #[cfg(test)]

@@ -4,6 +4,7 @@ ghost use Rattle.http_calls.specs.Messages.{message_in, lines_in, batch_in, mess
 
 use crate::Refusal;
 use crate::argument::argument;
+use crate::bytes::same;
 use http_wire::Request;
 use nsq_base::{Bodies, Body, Memory, Options};
 use std::alloc::Global;
@@ -30,7 +31,7 @@ fn is_binary(argument: Option<&[u8]>) -> bool
 {
     match argument {
         None => false,
-        Some(value) => !matches!(value, b"false" | b"0"),
+        Some(value) => !same(value, b"false") && !same(value, b"0"),
     }
 }
 

@@ -3,6 +3,7 @@ ghost use Rattle.nsq_base.specs.Options.{IsInRange};
 ghost use Rattle.http_calls.specs.Calls.{asks, is_served, called, call_for, CanBeAsked, HasStatus};
 
 use crate::answer::{json_answer, text_answer};
+use crate::bytes::same;
 use crate::info::info_text;
 use crate::publish::{publish, publish_many};
 use crate::route::{Route, route_of};
@@ -33,10 +34,11 @@ pub fn call_of(
     if !is_served(options, route) {
         return Ok(HttpCall::Refused(Refusal::NotFound));
     }
-    if request.method.bytes() != route.method() {
+    if !same(request.method.bytes(), route.method()) {
         return Ok(HttpCall::Refused(Refusal::MethodNotAllowed));
     }
-    called(alloc, options, began, route, request)
+    let mut request = request;
+    called(alloc, options, began, route, &mut request)
 }
 
 /// Whether the call is served: a stop only where the options say so.
@@ -49,25 +51,25 @@ fn is_served(options: &Options, route: Route) -> bool
     }
 }
 
-/// What a request of this call is.
+/// What a request of this call is. A body that is published whole is taken out of it.
 fn called(
     alloc: Global,
     options: &Options,
     began: u64,
     route: Route,
-    request: Request,
+    request: &mut Request,
 ) -> Result<HttpCall, Memory>
     requires { IsInRange options.now }
-    ensures { IfOk result (λ call. call ≡ called options.now began request route) }
+    ensures { IfOk result (λ call. call ≡ called options.now began request.old route) }
 {
     match route {
         Route::Ping => Ok(HttpCall::Answered(text_answer(alloc, b"OK")?)),
         Route::Info => Ok(HttpCall::Answered(json_answer(info_text(alloc, options, began)?))),
-        Route::Stats => Ok(asks(stats_in(&request))),
+        Route::Stats => Ok(asks(stats_in(request))),
         Route::Publish => publish(alloc, options, request),
-        Route::PublishMany => publish_many(alloc, options, &request),
-        Route::OnTopic(verb) => Ok(asks(on_topic_in(verb, &request))),
-        Route::OnChannel(verb) => Ok(asks(on_channel_in(verb, &request))),
+        Route::PublishMany => publish_many(alloc, options, request),
+        Route::OnTopic(verb) => Ok(asks(on_topic_in(verb, request))),
+        Route::OnChannel(verb) => Ok(asks(on_channel_in(verb, request))),
         Route::Stop => Ok(HttpCall::Stops),
     }
 }

@@ -9,6 +9,7 @@ mod answer;
 mod append;
 mod argument;
 mod batch;
+mod bytes;
 mod call;
 mod calls;
 mod delay;

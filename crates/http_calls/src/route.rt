@@ -1,6 +1,8 @@
-ghost use Rattle.std.specs.Prelude.{◌≡◌, ◌≢◌, MatchOption};
+ghost use Rattle.std.specs.Prelude.{◌≡◌, find};
+ghost use Rattle.std.specs.Str.{bytes_eq};
 ghost use Rattle.http_calls.specs.Routes.{path_of, route_at, method_of};
-ghost use Rattle.http_calls.specs.declared.route.Route.{Route};
+
+use crate::bytes::same;
 
 /// What is done to a topic or to a channel.
 #[derive(Clone, Copy)]
@@ -38,39 +40,70 @@ pub(crate) enum Route {
     Stop,
 }
 
+/// All calls.
+static ROUTES: [Route; 16] = [
+    Route::Ping,
+    Route::Info,
+    Route::Stats,
+    Route::Publish,
+    Route::PublishMany,
+    Route::OnTopic(Verb::Create),
+    Route::OnTopic(Verb::Delete),
+    Route::OnTopic(Verb::Empty),
+    Route::OnTopic(Verb::Pause),
+    Route::OnTopic(Verb::Unpause),
+    Route::OnChannel(Verb::Create),
+    Route::OnChannel(Verb::Delete),
+    Route::OnChannel(Verb::Empty),
+    Route::OnChannel(Verb::Pause),
+    Route::OnChannel(Verb::Unpause),
+    Route::Stop,
+];
+
 /// The call that the path names, or None exactly where it names none.
 pub(crate) fn route_of(path: &[u8]) -> Option<Route>
     ensures { result ≡ route_at path.now }
 {
-    named(path)
+    first_at(path, &ROUTES)
 }
 
-/// The call of this path, or None exactly where no call has it.
-fn named(path: &[u8]) -> Option<Route>
-    ensures { MatchOption result ((route : Route) → path.now ≢ path_of route) (λ route. path.now ≡ path_of route) }
+/// The first of these calls that has this path.
+fn first_at(path: &[u8], routes: &[Route]) -> Option<Route>
+    ensures { result ≡ find (λ named. bytes_eq path.now (path_of named)) routes.now }
 {
-    match path {
-        b"/ping" => Some(Route::Ping),
-        b"/info" => Some(Route::Info),
-        b"/stats" => Some(Route::Stats),
-        b"/pub" => Some(Route::Publish),
-        b"/mpub" => Some(Route::PublishMany),
-        b"/topic/create" => Some(Route::OnTopic(Verb::Create)),
-        b"/topic/delete" => Some(Route::OnTopic(Verb::Delete)),
-        b"/topic/empty" => Some(Route::OnTopic(Verb::Empty)),
-        b"/topic/pause" => Some(Route::OnTopic(Verb::Pause)),
-        b"/topic/unpause" => Some(Route::OnTopic(Verb::Unpause)),
-        b"/channel/create" => Some(Route::OnChannel(Verb::Create)),
-        b"/channel/delete" => Some(Route::OnChannel(Verb::Delete)),
-        b"/channel/empty" => Some(Route::OnChannel(Verb::Empty)),
-        b"/channel/pause" => Some(Route::OnChannel(Verb::Pause)),
-        b"/channel/unpause" => Some(Route::OnChannel(Verb::Unpause)),
-        b"/stop" => Some(Route::Stop),
-        _ => None,
+    for route in routes {
+        if same(path, route.path()) {
+            return Some(*route);
+        }
     }
+    None
 }
 
 impl Route {
+    /// The path of the call.
+    fn path(self) -> &'static [u8]
+        ensures { result.now ≡ path_of self }
+    {
+        match self {
+            Route::Ping => b"/ping",
+            Route::Info => b"/info",
+            Route::Stats => b"/stats",
+            Route::Publish => b"/pub",
+            Route::PublishMany => b"/mpub",
+            Route::OnTopic(Verb::Create) => b"/topic/create",
+            Route::OnTopic(Verb::Delete) => b"/topic/delete",
+            Route::OnTopic(Verb::Empty) => b"/topic/empty",
+            Route::OnTopic(Verb::Pause) => b"/topic/pause",
+            Route::OnTopic(Verb::Unpause) => b"/topic/unpause",
+            Route::OnChannel(Verb::Create) => b"/channel/create",
+            Route::OnChannel(Verb::Delete) => b"/channel/delete",
+            Route::OnChannel(Verb::Empty) => b"/channel/empty",
+            Route::OnChannel(Verb::Pause) => b"/channel/pause",
+            Route::OnChannel(Verb::Unpause) => b"/channel/unpause",
+            Route::Stop => b"/stop",
+        }
+    }
+
     /// The method of the call.
     pub(crate) fn method(self) -> &'static [u8]
         ensures { result.now ≡ method_of self }

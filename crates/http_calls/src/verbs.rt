@@ -3,6 +3,7 @@ ghost use Rattle.http_calls.specs.Calls.{ask_of, on_topic_in, on_channel_in, for
 
 use crate::Refusal;
 use crate::argument::{argument, names_in, optional_names_in, topic_in};
+use crate::bytes::same;
 use crate::route::Verb;
 use broker_history::Ask;
 use http_wire::Request;
@@ -23,7 +24,10 @@ pub(crate) fn stats_in(request: &Request) -> Result<Ask, Refusal>
 fn is_json(format: Option<&[u8]>) -> bool
     ensures { result ≡ is_ok (format_in (option_map (λ value. value.now) format.entry)) }
 {
-    matches!(format, Some(b"json"))
+    match format {
+        Some(format) => same(format, b"json"),
+        None => false,
+    }
 }
 
 /// What `/topic/..` asks.

@@ -1,4 +1,4 @@
-use crate::requests::same;
+use crate::same;
 use http_wire::write_answer;
 use nsq_base::Memory;
 use std::alloc::Global;

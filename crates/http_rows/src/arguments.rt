@@ -1,4 +1,4 @@
-use crate::requests::same;
+use crate::same;
 use http_wire::{GotRequest, RequestReader};
 use nsq_base::Memory;
 use std::alloc::Global;

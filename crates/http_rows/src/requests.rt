@@ -1,4 +1,5 @@
 use crate::pieces::is_read;
+use crate::same;
 use http_plain::{Plain, request_of};
 use http_wire::Request;
 use nsq_base::{Memory, Pair};
@@ -43,11 +44,6 @@ pub(crate) enum Part {
     Text(&'static [u8]),
     /// These bytes, so many times.
     Times(usize, &'static [u8]),
-}
-
-/// Whether these are the same bytes.
-pub(crate) fn same(one: &[u8], other: &[u8]) -> bool {
-    one == other
 }
 
 /// Appends the bytes of the parts.

@@ -61,6 +61,11 @@ pub set_topic : (names : TopicList) (t : List ℕ) (i : ℕ) (e : List ℕ × Li
 set_topic names t i e cs h is =
     ap (λ (n : List ℕ). set names i (n, cs)) (ap topic_of is ∙ h.is_key e) ∙ sym (put_by-stands topic_of names (t, cs) i h)
 
+-- an entry that stands there, put there again, changes nothing
+pub set_entry : (names : TopicList) (i : ℕ) (e : List ℕ × List (List ℕ)) (cs : List (List ℕ)) → e ≡ get_or names i e → cs ≡ e.1 → set names i (e.0, cs) ≡ names
+set_entry names i e cs is k =
+    ap (λ (l : List (List ℕ)). set names i (e.0, l)) k ∙ ap (λ (x : List ℕ × List (List ℕ)). set names i x) is ∙ set-get_or names i e
+
 -- a topic that stands there stays as it is
 pub with_topic-stands : (names : TopicList) (t : List ℕ) (i : ℕ) → StandsAt topic_of names t i → names ≡ with_topic names t
 with_topic-stands names t i h =

@@ -2,6 +2,7 @@ ghost use Rattle.std.specs.Prelude.{◌≡◌, ◌<◌, [], ◌∷◌, ◌++◌,
 ghost use Rattle.std.specs.Cmp.{partial_equiv_from_equiv};
 ghost use Rattle.std.specs.Cmp.Lexicographic.{pointwise, lists_equiv, nat_list_eq_equiv};
 
+use crate::memory::put_last;
 use crate::{Body, Memory};
 use std::alloc::Global;
 use std::marker::Model;
@@ -42,8 +43,7 @@ impl Bodies {
         ensures ok { OnOk result (self.new ≡ self.old ++ body ∷ []) }
         ensures err { OnErr result (self.new ≡ self.old) }
     {
-        self.items.push(body)?;
-        Ok(())
+        put_last(&mut self.items, body)
     }
 
     /// How many bodies there are.
@@ -74,7 +74,7 @@ impl Bodies {
     {
         let mut items = Vec::with_capacity(alloc, self.items.len())?;
         for body in &self.items {
-            items.push(Body::copy(alloc, body.bytes())?)?;
+            put_last(&mut items, Body::copy(alloc, body.bytes())?)?;
         }
         Ok(Bodies { items })
     }

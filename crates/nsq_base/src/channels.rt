@@ -10,7 +10,7 @@ use std::alloc::Global;
 use std::marker::Model;
 
 /// The channels of one topic, each once, in byte order.
-#[derive(Debug, Drop)]
+#[derive(Drop)]
 pub struct Channels {
     items: Vec<Chan>,
 }

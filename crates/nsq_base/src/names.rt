@@ -7,12 +7,13 @@ ghost use Rattle.nsq_base.specs.Names.{topic_of, channels_in, topics_of, channel
 ghost use Rattle.nsq_base.specs.Places.{BelongsAt, IsPlaceOf};
 
 use crate::channels::Channels;
+use crate::memory::put_last;
 use crate::{Chan, Memory, Topic};
 use std::alloc::Global;
 use std::marker::Model;
 
 /// Topics in byte order, each with its channels in byte order, and each name once.
-#[derive(Debug, Drop)]
+#[derive(Drop)]
 pub struct Names {
     topics: Vec<(Topic, Channels)>,
 }
@@ -97,7 +98,7 @@ impl Names {
     {
         let mut topics = Vec::with_capacity(alloc, self.topics.len())?;
         for (topic, channels) in &self.topics {
-            topics.push((*topic, channels.copy(alloc)?))?;
+            put_last(&mut topics, (*topic, channels.copy(alloc)?))?;
         }
         Ok(Names { topics })
     }

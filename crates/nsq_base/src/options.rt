@@ -1,4 +1,4 @@
-ghost use Rattle.std.specs.Prelude.{◌≡◌, ◌↔◌, IsTrue, IfOk, All};
+ghost use Rattle.std.specs.Prelude.{◌≡◌, ◌<◌, ◌↔◌, length, IsTrue, IfOk, All};
 ghost use Rattle.nsq_base.specs.Text.{IsText};
 ghost use Rattle.nsq_base.specs.Within.{IsWithin};
 
@@ -9,7 +9,7 @@ use std::alloc::Global;
 
 /// The options of the daemon: one field for each option of `nsqd`, with `_` for `-`. Durations are in nanoseconds, sizes
 /// in bytes. Texts are UTF-8.
-#[derive(Debug, PartialEq, Eq, Drop)]
+#[derive(PartialEq, Eq, Drop)]
 pub struct Options {
     /// Where clients are listened for, as `0.0.0.0:4150`: a text with `:` and a port of 1 to 65535, without a zero in front,
     /// behind its last `:`.
@@ -117,11 +117,7 @@ impl Options {
             && is_address(self.tcp_address.bytes())
             && is_address(self.http_address.bytes())
             && is_within(1, 65_536, self.broadcast_address.bytes().len() as u64)
-            && self
-                .lookupd_tcp_address
-                .as_slice()
-                .iter()
-                .all(|address| !address.bytes().is_empty())
+            && none_empty(self.lookupd_tcp_address.as_slice())
             && !self.data_path.bytes().is_empty()
     }
 
@@ -175,6 +171,13 @@ fn are_utf8(texts: &[Body]) -> bool
     ensures { IsTrue result ↔ All IsText texts.now }
 {
     texts.iter().all(is_utf8)
+}
+
+// Whether none of the texts is empty.
+fn none_empty(texts: &[Body]) -> bool
+    ensures { IsTrue result ↔ All (λ text. 0 < length text) texts.now }
+{
+    texts.iter().all(|text| !text.bytes().is_empty())
 }
 
 // Whether a number lies from a least one to a greatest one.

@@ -4,6 +4,7 @@ ghost use Rattle.std.specs.Cmp.Rules.{comparing};
 ghost use Rattle.std.specs.Ordering.{on, eq_of_both};
 ghost use Rattle.std.proofs.Common.{rules};
 
+use crate::memory::put_last;
 use crate::{Body, Memory};
 use std::alloc::Global;
 use std::marker::Model;
@@ -65,8 +66,7 @@ impl Pairs {
         ensures ok { OnOk result (self.new ≡ self.old ++ pair ∷ []) }
         ensures err { OnErr result (self.new ≡ self.old) }
     {
-        self.items.push(pair)?;
-        Ok(())
+        put_last(&mut self.items, pair)
     }
 
     /// How many pairs there are.
@@ -97,7 +97,7 @@ impl Pairs {
     {
         let mut items = Vec::with_capacity(alloc, self.items.len())?;
         for pair in &self.items {
-            items.push(pair.copy(alloc)?)?;
+            put_last(&mut items, pair.copy(alloc)?)?;
         }
         Ok(Pairs { items })
     }

@@ -1,4 +1,4 @@
-ghost use Rattle.std.specs.Prelude.{◌≡◌, ◌++◌, ◌∷◌, [], OnOk, OnErr};
+ghost use Rattle.std.specs.Prelude.{◌≡◌, ◌++◌, ◌∷◌, [], IfOk, OnOk, OnErr};
 
 use crate::folder_calls::FolderCall;
 use nsq_base::Memory;
@@ -36,11 +36,18 @@ pub fn keep_call(
     ensures ok { OnOk result (list.new.items ≡ list.old.items ++ record { call = call; name = name.now; to = to.now } ∷ []) }
     ensures err { OnErr result (list.new.items ≡ list.old.items) }
 {
-    let called = Called {
+    list.reserve(1)?;
+    list.push_reserved(call_of(alloc, call, name, to)?);
+    Ok(())
+}
+
+/// A call, with copies of its names.
+fn call_of(alloc: Global, call: FolderCall, name: &str, to: &str) -> Result<Called, Memory>
+    ensures { IfOk result (λ called. called ≡ record { call = call; name = name.now; to = to.now }) }
+{
+    Ok(Called {
         call,
         name: String::from_str(alloc, name)?,
         to: String::from_str(alloc, to)?,
-    };
-    list.push(called)?;
-    Ok(())
+    })
 }

@@ -203,6 +203,7 @@ fn keep(alloc: Global, pieces: &mut Vec<Vec<u8>>, piece: &[u8]) -> Result<(), Me
     ensures ok { OnOk result (map (λ p. p.items) pieces.new.items ≡ map (λ p. p.items) pieces.old.items ++ piece.now ∷ []) }
     ensures err { OnErr result (pieces.new.items ≡ pieces.old.items) }
 {
-    pieces.push(piece.to_vec(alloc)?)?;
+    pieces.reserve(1)?;
+    pieces.push_reserved(piece.to_vec(alloc)?);
     Ok(())
 }

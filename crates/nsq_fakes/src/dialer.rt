@@ -1,7 +1,7 @@
-ghost use Rattle.std.specs.Prelude.{◌≡◌, ◌+◌, ◌≤◌, ◌++◌, ◌∷◌, [], map, vec_len, string_bytes, true, OnOk, OnErr};
+ghost use Rattle.std.specs.Prelude.{◌≡◌, ◌+◌, ◌<◌, ◌≤◌, ◌++◌, ◌∷◌, [], map, drop, length, slice_get, IsSomeAnd, vec_len, string_bytes, true, OnOk, OnErr};
 ghost use Rattle.nsq_outside.specs.Causes.{Rose, CountsFault};
 ghost use Rattle.nsq_outside.specs.Hosts.{Dials, LinkFails, LinkCounts};
-ghost use Rattle.nsq_fakes.specs.MemConns.{left_of, IsUnusedLink, LinksFirst};
+ghost use Rattle.nsq_fakes.specs.MemConns.{left_of, IsUnused, IsUnusedLink, IsRestarted, LinksFirst};
 
 use crate::conn::MemConn;
 use nsq_base::Memory;
@@ -57,18 +57,13 @@ impl MemDialer {
         if keep(self.alloc, &mut self.asked, address).is_err() {
             return self.fail();
         }
-        let Ok(text) = String::from_str(self.alloc, address) else {
-            return self.fail();
-        };
-        if self.linked.reserve(1).is_err() {
+        if self.coming.is_empty() {
             return self.fail();
         }
-        let Some(mut conn) = self.coming.pop_front() else {
+        if keep(self.alloc, &mut self.linked, address).is_err() {
             return self.fail();
-        };
-        let _ = self.linked.push(text);
-        conn.restart();
-        Dialled::Linked(conn)
+        }
+        Dialled::Linked(first_of(&mut self.coming))
     }
 
     /// Counts a fault.
@@ -84,11 +79,28 @@ impl MemDialer {
     }
 }
 
+/// Takes the first connection, restarted.
+fn first_of(coming: &mut VecDeque<MemConn>) -> MemConn
+    requires { 0 < length coming.old.items }
+    ensures unused { IsUnused result }
+    ensures left { map left_of coming.old.items ≡ left_of result ∷ map left_of coming.new.items }
+    ensures first { IsSomeAnd (slice_get coming.old.items 0) (λ first. IsRestarted first result) }
+    ensures rest { coming.new.items ≡ drop 1 coming.old.items }
+{
+    let Some(mut conn) = coming.pop_front() else {
+        unreachable!()
+    };
+    conn.restart();
+    conn
+}
+
 /// Appends a copy of a text.
 fn keep(alloc: Global, texts: &mut Vec<String>, text: &str) -> Result<(), Memory>
     ensures ok { OnOk result (map string_bytes texts.new.items ≡ map string_bytes texts.old.items ++ text.now ∷ []) }
     ensures err { OnErr result (texts.new.items ≡ texts.old.items) }
+    ensures one { vec_len texts.new ≤ vec_len texts.old + 1 }
 {
-    texts.push(String::from_str(alloc, text)?)?;
+    texts.reserve(1)?;
+    texts.push_reserved(String::from_str(alloc, text)?);
     Ok(())
 }

@@ -10,7 +10,7 @@ use std::collections::BTreeMap;
 pub const LIMIT: u64 = 1 << 62;
 
 /// Why a file can't be changed.
-#[derive(Clone, Copy, Debug, PartialEq, Eq)]
+#[derive(Clone, Copy)]
 pub enum NoRoom {
     /// It would have more than 2^62 bytes.
     TooLong,
@@ -119,6 +119,39 @@ fn write_over(file: &mut Vec<u8>, at: usize, from: &[u8]) -> Result<(), AllocErr
     Ok(())
 }
 
+/// A file that bytes at a place were written to, with zeros before them.
+fn written(alloc: Global, at: usize, from: &[u8]) -> Result<Vec<u8>, AllocError>
+    requires { at + length from.now ≤ 2 ^ 62 }
+    ensures { IfOk result (λ file. file.items ≡ written_at [] at from.now) }
+{
+    let mut file = Vec::new(alloc);
+    write_over(&mut file, at, from)?;
+    Ok(file)
+}
+
+/// A file of so many zeros.
+fn zeros(alloc: Global, count: usize) -> Result<Vec<u8>, AllocError>
+    ensures { IfOk result (λ file. file.items ≡ cut_to [] count) }
+{
+    let mut file = Vec::new(alloc);
+    fit(&mut file, count)?;
+    Ok(file)
+}
+
+/// Gives the file of a name these bytes. Without memory nothing changes.
+fn put_in(
+    alloc: Global,
+    files: &mut BTreeMap<String, Vec<u8>>,
+    name: &str,
+    bytes: Vec<u8>,
+) -> Result<(), AllocError>
+    ensures ok { OnOk result (Sets (files_of files.old) (files_of files.new) name.now (Some bytes.items)) }
+    ensures err { OnErr result (SameFiles (files_of files.old) (files_of files.new)) }
+{
+    files.insert(String::from_str(alloc, name)?, bytes)?;
+    Ok(())
+}
+
 /// Writes bytes at a place of the file of a name, which it creates. Without room nothing changes.
 pub fn write(
     alloc: Global,
@@ -138,11 +171,7 @@ pub fn write(
     }
     match files.get_mut(name) {
         Some(file) => write_over(file, at as usize, from)?,
-        None => {
-            let mut file = Vec::new(alloc);
-            write_over(&mut file, at as usize, from)?;
-            files.insert(String::from_str(alloc, name)?, file)?;
-        }
+        None => put_in(alloc, files, name, written(alloc, at as usize, from)?)?,
     }
     Ok(())
 }
@@ -165,11 +194,7 @@ pub fn cut(
     }
     match files.get_mut(name) {
         Some(file) => fit(file, to as usize)?,
-        None => {
-            let mut file = Vec::new(alloc);
-            fit(&mut file, to as usize)?;
-            files.insert(String::from_str(alloc, name)?, file)?;
-        }
+        None => put_in(alloc, files, name, zeros(alloc, to as usize)?)?,
     }
     Ok(())
 }
@@ -216,7 +241,7 @@ fn create(
     ensures absent { OnErr result (files_of files.old name.now ≡ None) }
 {
     if !files.contains_key(name) {
-        files.insert(String::from_str(alloc, name)?, Vec::new(alloc))?;
+        put_in(alloc, files, name, Vec::new(alloc))?;
     }
     Ok(())
 }
@@ -245,7 +270,7 @@ pub fn rename(
     files: &mut BTreeMap<String, Vec<u8>>,
     from: &str,
     to: &str,
-) -> Result<(), AllocError>
+) -> Result<(), NoRoom>
     ensures ok { OnOk result (IsRenamed (files_of files.old) (files_of files.new) from.now to.now) }
     ensures err { OnErr result (SameFiles (files_of files.old) (files_of files.new)) }
     ensures moves { OnErr result (MovesToNew (files_of files.old) from.now to.now) }

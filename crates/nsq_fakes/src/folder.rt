@@ -322,7 +322,7 @@ impl Folder for MemFolder {
             return Did::Failed;
         }
         let outcome = files::rename(self.alloc, &mut self.files, from, to);
-        self.answer(outcome.map_err(files::NoRoom::from))
+        self.answer(outcome)
     }
 
     fn remove(&mut self, name: &str) -> Did

@@ -20,7 +20,7 @@ pub enum FolderCall {
 /// Calls that fail: those of a method whose numbers are at least `from` and below `to`.
 ///
 /// The calls of each method are counted from 0, and so are the calls of all methods together, for `FolderCall::Any`.
-#[derive(Clone, Copy, PartialEq, Eq)]
+#[derive(Clone, Copy)]
 pub struct Failing {
     pub call: FolderCall,
     pub from: u64,

@@ -1,4 +1,5 @@
-ghost use Rattle.std.specs.Prelude.{◌≡◌, ◌+◌, ◌≤◌, ◌++◌, ◌∷◌, [], map, false, true, None, Some, IfOk, OnOk, OnErr, option_copied, string_bytes, length, vec_len, vec_capacity};
+ghost use Rattle.std.specs.Prelude.{◌≡◌, ◌+◌, ◌<◌, ◌≤◌, ◌++◌, ◌∷◌, [], List, ℕ, map, drop, slice_get, false, true, None, Some, IsSomeAnd, IfOk, OnOk, OnErr, option_copied, string_bytes, length, vec_len, vec_capacity};
+ghost use Rattle.nsq_fakes.specs.MemConns.{left_of, IsUnused, IsRestarted};
 
 use crate::calls::Calls;
 use crate::clock::MemClock;
@@ -40,7 +41,6 @@ pub struct MemHost<E: Drop> {
 }
 
 impl<E: Drop> MemHost<E> {
-    ghost use Rattle.nsq_fakes.specs.MemConns.{left_of};
     ghost use Rattle.nsq_fakes.specs.MemHosts.{content_of, state_of, dials_of, dial_faults_of, callers_of, to_link_of, FailsAtHostCalls, KeepsCalls};
 
     /// A host with these callers, connections to be dialled and kit. `beside` says whether each caller gets a thread of its own.
@@ -181,7 +181,7 @@ impl<E: Drop> MemHost<E> {
 
 impl<E: Drop> Dialer for MemHost<E> {
     ghost use Rattle.nsq_fakes.specs.MemHosts.{content_of, state_of, dials_of, dial_faults_of, callers_of, to_link_of, KeepsCalls};
-    ghost use Rattle.nsq_fakes.specs.MemConns.{left_of, IsUnusedLink, LinksFirst};
+    ghost use Rattle.nsq_fakes.specs.MemConns.{IsUnusedLink, LinksFirst};
     ghost use Rattle.nsq_outside.specs.Hosts.{Dials, LinkFails, LinkCounts};
 
     type Conn = MemConn;
@@ -216,11 +216,10 @@ impl<E: Drop> Dialer for MemHost<E> {
 
 impl<E: Drop + Twin + Send> Host<E> for MemHost<E> {
     ghost use Rattle.nsq_fakes.specs.MemHosts.{content_of, state_of, dials_of, dial_faults_of, callers_of, to_link_of, IsUnusedCaller, AnswersAtOnce, GivesFirst, KeepsCalls, CountsStart, CountsAccept, CountsPrint, CountsTell};
-    ghost use Rattle.nsq_fakes.specs.MemConns.{left_of};
     ghost use Rattle.nsq_outside.specs.Hosts.{Starts, Accepts, AcceptFails, AcceptCounts, Prints, Tells, TellCounts, OnlyAcceptFaults, OnlyPrintFaults, OnlyTellFaults};
     ghost use Rattle.nsq_outside.specs.Causes.{DidFails, DidCounts};
     ghost use Rattle.nsq_fakes.specs.MemJournals.{kept_of, notes_of};
-    ghost use Rattle.std.specs.Prelude.{◌<◌, IsSome, IfSome, is_some};
+    ghost use Rattle.std.specs.Prelude.{IsSome, IfSome, is_some};
     ghost use Rattle.std.proofs.lemmas.List.{length-map};
 
     type Folder = MemFolder;
@@ -279,11 +278,8 @@ impl<E: Drop + Twin + Send> Host<E> for MemHost<E> {
             self.accepts.add_fault();
             return Accept::Failed;
         }
-        let Some((kind, mut conn)) = self.callers.pop_front() else {
-            unreachable!()
-        };
-        let _ = self.given.push(kind);
-        conn.restart();
+        let (kind, conn) = first_caller(&mut self.callers);
+        self.given.push_reserved(kind);
         Accept::Caller(kind, conn)
     }
 
@@ -297,7 +293,7 @@ impl<E: Drop + Twin + Send> Host<E> for MemHost<E> {
         ensures to_link { to_link_of self.new ≡ to_link_of self.old }
         ensures calls { KeepsCalls self.old self.new }
     {
-        let _ = self.back.push((number, conn));
+        self.back.push_reserved((number, conn));
     }
 
     /// Lends the kit, which is at home. It drops the kit's journal, and lends a new and empty one in its place.
@@ -320,12 +316,12 @@ impl<E: Drop + Twin + Send> Host<E> for MemHost<E> {
                 Kit {
                     folder,
                     clock,
-                    journal: _,
+                    journal,
                 },
             ) => Kit {
                 folder,
                 clock,
-                journal: MemJournal::new(self.alloc),
+                journal: journal.renewed(),
             },
             None => unreachable!(),
         }
@@ -341,7 +337,7 @@ impl<E: Drop + Twin + Send> Host<E> for MemHost<E> {
         ensures to_link { to_link_of self.new ≡ to_link_of self.old }
         ensures calls { KeepsCalls self.old self.new }
     {
-        self.kit = Some(home);
+        put_back(&mut self.kit, home);
     }
 
     fn beside(&self) -> bool {
@@ -395,6 +391,28 @@ impl<E: Drop + Twin + Send> Host<E> for MemHost<E> {
     ghost faults_fit = { λ h. record { accept = h.accepts.faults.fits; print = h.prints.faults.fits; tell = h.tells.faults.fits } };
 }
 
+/// Takes the first caller, its connection restarted.
+fn first_caller(callers: &mut VecDeque<(Kind, MemConn)>) -> (Kind, MemConn)
+    requires { 0 < length callers.old.items }
+    ensures unused { IsUnused result.1 }
+    ensures left { map {B = Kind × List ℕ} (λ c. (c.0, left_of c.1)) callers.old.items ≡ (result.0, left_of result.1) ∷ map (λ c. (c.0, left_of c.1)) callers.new.items }
+    ensures first { IsSomeAnd (slice_get callers.old.items 0) (λ first. (first.0 ≡ result.0) × IsRestarted first.1 result.1) }
+    ensures rest { callers.new.items ≡ drop 1 callers.old.items }
+{
+    let Some((kind, mut conn)) = callers.pop_front() else {
+        unreachable!()
+    };
+    conn.restart();
+    (kind, conn)
+}
+
+/// Puts a value in its place.
+fn put_back<T: Drop>(place: &mut Option<T>, value: T)
+    ensures { place.new ≡ Some value }
+{
+    *place = Some(value);
+}
+
 /// Appends copies of what a host was started with.
 fn keep_start(
     alloc: Global,
@@ -406,13 +424,20 @@ fn keep_start(
     ensures ok { OnOk result (starts.new.items ≡ starts.old.items ++ record { tcp = tcp.now; http = http.now; path = path.now } ∷ []) }
     ensures err { OnErr result (starts.new.items ≡ starts.old.items) }
 {
-    let start = Start {
+    starts.reserve(1)?;
+    starts.push_reserved(start_of(alloc, tcp, http, path)?);
+    Ok(())
+}
+
+/// Copies of what a host was started with.
+fn start_of(alloc: Global, tcp: &str, http: &str, path: &str) -> Result<Start, Memory>
+    ensures { IfOk result (λ start. start ≡ record { tcp = tcp.now; http = http.now; path = path.now }) }
+{
+    Ok(Start {
         tcp: String::from_str(alloc, tcp)?,
         http: String::from_str(alloc, http)?,
         path: String::from_str(alloc, path)?,
-    };
-    starts.push(start)?;
-    Ok(())
+    })
 }
 
 /// Appends a copy of a line.
@@ -420,6 +445,7 @@ fn keep_line(alloc: Global, lines: &mut Vec<Vec<u8>>, line: &[u8]) -> Result<(),
     ensures ok { OnOk result (map (λ l. l.items) lines.new.items ≡ map (λ l. l.items) lines.old.items ++ line.now ∷ []) }
     ensures err { OnErr result (lines.new.items ≡ lines.old.items) }
 {
-    lines.push(line.to_vec(alloc)?)?;
+    lines.reserve(1)?;
+    lines.push_reserved(line.to_vec(alloc)?);
     Ok(())
 }

@@ -28,6 +28,14 @@ impl<E: Drop> MemJournal<E> {
         }
     }
 
+    /// An empty journal in the place of this one.
+    pub(super) fn renewed(self) -> MemJournal<E>
+        ensures notes { notes_of result ≡ [] }
+        ensures aside { kept_of result ≡ None }
+    {
+        MemJournal::new(self.alloc)
+    }
+
     /// What was noted, in order.
     pub fn entries(&self) -> &[(E, End)]
         ensures { result.now ≡ notes_of self.now }
@@ -61,7 +69,7 @@ impl<E: Drop + Twin> Journal<E> for MemJournal<E> {
         match end {
             End::Skip => {}
             _ => {
-                let _ = self.entries.push((entry, end));
+                self.entries.push_reserved((entry, end));
             }
         }
     }

@@ -1,9 +1,9 @@
 -- What a set of names has after a change of one name, and which of its names begin so.
-use Rattle.std.proofs.Common.{◌≡◌, ◌≢◌, ℕ, ◌<◌, Bool, get_or, List, [], ◌∷◌, length, map, take, ◌++◌, append-nil, append_assoc, refl, sym, ◌∙◌, ap, subst, arith, true, false, Some, String, string_bytes, Contains, cond, ◌||◌, ◌&&◌, ◌↔◌, IsTrue, nat_eq}
+use Rattle.std.proofs.Common.{◌≡◌, ◌≢◌, ℕ, ◌<◌, Bool, get_or, List, [], ◌∷◌, length, map, take, ◌++◌, append-nil, append_assoc, refl, sym, ◌∙◌, ap, subst, arith, true, false, Some, String, string_bytes, Contains, cond, ◌||◌, ◌&&◌, ◌↔◌, nat_eq}
 use mathlib.Core.Bool.{true≢false}
 use Rattle.std.specs.declared.alloc.Global.{Global}
 use Rattle.std.specs.BTreeMap.{is_at}
-use Rattle.std.specs.BTreeSet.{BTreeSet, contains_text, IsFromIterResult, IsOrdered, UpdatesBy}
+use Rattle.std.specs.BTreeSet.{BTreeSet, contains_text, IsOrdered, UpdatesBy}
 use Rattle.std.specs.Cmp.{first_so, second_so}
 use Rattle.std.specs.Cmp.Lexicographic.{slice_cmp, pointwise}
 use Rattle.std.specs.List.{AllByRecursion, AllPairs, filter, list_any}
@@ -153,26 +153,6 @@ texts-apart (k ∷ ks) o i j d before inside same =
 -- and so are those that begin so
 pub once-filter : (known : BTreeSet (String Global)) (b : List ℕ) (found : List (List ℕ)) → IsOrdered string_cmp known → found ≡ filter (begins b) (map string_bytes known.keys) → AllPairs (λ a b. a ≢ b) found
 once-filter known b found ordered is = subst (λ names. AllPairs (λ a b. a ≢ b) names) (sym is) (AllPairs-filter (λ a b. a ≢ b) (begins b) (map string_bytes known.keys) (texts-apart known.keys ordered))
-
--- a name that is there is that of a key
-find-key : (ks : List (String Global)) (name : List ℕ) → is_member bytes_eq (map string_bytes ks) name ≡ true → (q : String Global) × (string_bytes q ≡ name)
-find-key [] name h = absurd (true≢false (sym h))
-find-key (k ∷ ks) name h = by (bytes_eq name (string_bytes k)) refl h (find-key ks name)
-  where
-    by : (here : Bool) → bytes_eq name (string_bytes k) ≡ here → (here || is_member bytes_eq (map string_bytes ks) name) ≡ true
-        → (is_member bytes_eq (map string_bytes ks) name ≡ true → (q : String Global) × (string_bytes q ≡ name)) → (q : String Global) × (string_bytes q ≡ name)
-    by true here h rest = (k, sym ((bytes_eq-Decides name (string_bytes k)).0 here))
-    by false here h rest = rest h
-
--- the names of a set that a list was made into
-pub made-names : (xs : List (String Global)) (made : BTreeSet (String Global)) → IsFromIterResult string_cmp xs made → (name : List ℕ) → IsTrue (contains_text made name) ↔ Contains (map string_bytes xs) name
-made-names xs made is name =
-    let decides = is_member-Decides bytes_eq-Decides (map string_bytes xs) name in
-    let at : (q : String Global) → string_bytes q ≡ name → contains_text made name ≡ is_member bytes_eq (map string_bytes xs) name =
-    λ q e. subst (λ bytes. contains_text made bytes ≡ is_member bytes_eq (map string_bytes xs) bytes) e (is.0 q ∙ text-member xs (string_bytes q)) in (
-      λ h. let found = find-key made.keys name (sym (text-member made.keys name) ∙ h) in decides.0 (sym (at found.0 found.1) ∙ h),
-      λ h. let found = find-key xs name (decides.1 h) in at found.0 found.1 ∙ decides.1 h,
-    )
 
 -- what one name's change leaves
 pub only-changes : (old new : BTreeSet (String Global)) (name : List ℕ) (here : Bool) → SetsName old new name here → OnlyChanges (Some old) (Some new) name

@@ -31,10 +31,6 @@ OnlyChanges old new name = Keeps old new (λ other. other ≢ name)
 abbrev pub OnlyMoves : Names → Names → List ℕ → List ℕ → Type 0
 OnlyMoves old new from to = Keeps old new (λ other. (other ≢ from) × (other ≢ to))
 
--- the names are known, and are these
-abbrev pub AreKnown : Names → List (List ℕ) → Type 0
-AreKnown known names = IsSome known × ((name : List ℕ) → Knows known name ↔ Contains names name)
-
 -- these are the names that are known and begin so, each and no other
 abbrev pub ArePart : Names → List ℕ → List (List ℕ) → Type 0
 ArePart known beginning names = (name : List ℕ) → Contains names name ↔ (Knows known name × BeginsWith name beginning)

@@ -1,9 +1,8 @@
 //! What the system's answers mean.
 ghost use Rattle.std.specs.Prelude.{◌≡◌};
 ghost use Rattle.std.specs.IoError.{raw_os_error};
-ghost use Rattle.nsq_system.specs.Answers.{no_caller_at, no_caller_of, reading_of, AfterRead, IsLengthOf, IsReadOf, UnlessAbsent};
+ghost use Rattle.nsq_system.specs.Answers.{no_caller_at, no_caller_of, reading_of, AfterRead, UnlessAbsent};
 
-use nsq_outside::{Length, ReadAt};
 use std::io;
 use std::io::ErrorKind;
 use std::time::Duration;
@@ -132,28 +131,6 @@ pub fn after_read(outcome: io::Result<usize>) -> PartRead
         Ok(count) => PartRead::Got(count),
         Err(error) if error.kind() == ErrorKind::Interrupted => PartRead::Interrupted,
         Err(error) => PartRead::Failed(error),
-    }
-}
-
-/// The answer of a folder that was asked for a length. A file that isn't found is absent.
-pub fn length_of(outcome: io::Result<u64>) -> Length
-    ensures { IsLengthOf outcome result }
-{
-    match outcome {
-        Ok(length) => Length::Is(length),
-        Err(error) if error.kind() == ErrorKind::NotFound => Length::Absent,
-        Err(_) => Length::Failed,
-    }
-}
-
-/// The answer of a folder that was asked for bytes. A file that isn't found has none.
-pub fn read_of(outcome: io::Result<usize>) -> ReadAt
-    ensures { IsReadOf outcome result }
-{
-    match outcome {
-        Ok(count) => ReadAt::Got(count),
-        Err(error) if error.kind() == ErrorKind::NotFound => ReadAt::Got(0),
-        Err(_) => ReadAt::Failed,
     }
 }
 

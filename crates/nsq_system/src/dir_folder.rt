@@ -1,9 +1,10 @@
 ghost use Rattle.std.specs.Prelude.{◌≡◌, ◌+◌, ◌^◌, ◌≤◌, ◌⊎◌, ℕ, List, OnOk, OnErr, None, true, false, IfOk, length, map, string_bytes};
+ghost use Rattle.nsq_system.specs.Answers.{IsLengthOf, IsReadOf};
 ghost use Rattle.nsq_system.specs.KnownNames.{Names, ArePart, AppendsBeginning};
 ghost use Rattle.nsq_outside.specs.Causes.{DidFails, Rose, CountsFault, DidCounts};
 ghost use Rattle.nsq_outside.specs.Files.{IsWithin, Appends, ListingFails, ListingCounts, IsFileLength, LengthFails, LengthCounts, IsAmountAt, IsReadWithin, ReadAtFails, ReadAtCounts};
 
-use crate::answers::{length_of, read_of, unless_absent};
+use crate::answers::unless_absent;
 use crate::open_files::OpenFiles;
 use nsq_base::Memory;
 use nsq_outside::{Did, Faults, Folder, Length, Listing, ReadAt};
@@ -216,31 +217,39 @@ fn append(faults: &mut Faults, names: &mut Vec<String>, listed: io::Result<Vec<S
     }
 }
 
-/// The answer to a call for a length. An error is counted.
+/// The answer to a call for a length. A file that isn't found is absent, and any other error is counted.
 fn measured(faults: &mut Faults, outcome: io::Result<u64>) -> Length
+    ensures means { IsLengthOf outcome result }
     ensures limit { IfOk outcome (λ n. n ≤ 2 ^ 62) → IsFileLength result }
     ensures faults { faults.old.count ≤ faults.new.count }
     ensures cause { LengthFails faults.old.count faults.new.count result }
     ensures counted { LengthCounts faults.old.count faults.new.count result }
 {
-    let length = length_of(outcome);
-    if length == Length::Failed {
-        count(faults);
+    match outcome {
+        Ok(length) => Length::Is(length),
+        Err(error) if error.kind() == ErrorKind::NotFound => Length::Absent,
+        Err(_) => {
+            count(faults);
+            Length::Failed
+        }
     }
-    length
 }
 
-/// The answer to a call for bytes. An error is counted.
+/// The answer to a call for bytes. A file that isn't found has none, and any other error is counted.
 fn were_read(faults: &mut Faults, outcome: io::Result<usize>) -> ReadAt
+    ensures means { IsReadOf outcome result }
     ensures amount { (most : ℕ) → IfOk outcome (λ n. n ≤ most) → IsAmountAt result most }
     ensures limit { (at : ℕ) → IfOk outcome (λ n. (n ≡ 0) ⊎ (at + n ≤ 2 ^ 62)) → IsReadWithin at result }
     ensures faults { faults.old.count ≤ faults.new.count }
     ensures cause { ReadAtFails faults.old.count faults.new.count result }
     ensures counted { ReadAtCounts faults.old.count faults.new.count result }
 {
-    let read = read_of(outcome);
-    if read == ReadAt::Failed {
-        count(faults);
+    match outcome {
+        Ok(count) => ReadAt::Got(count),
+        Err(error) if error.kind() == ErrorKind::NotFound => ReadAt::Got(0),
+        Err(_) => {
+            count(faults);
+            ReadAt::Failed
+        }
     }
-    read
 }

@@ -1,8 +1,6 @@
 ghost use Rattle.std.specs.Prelude.{◌≡◌, ◌≢◌, None, Some, true, OnOk, OnErr, IfOk, IfErr, IsSome, AllPairs, is_some, map, string_bytes};
-ghost use Rattle.std.specs.BTreeSet.{IsFromIterResult};
 ghost use Rattle.std.specs.IoError.{error_kind};
-ghost use Rattle.std.specs.String.{string_cmp};
-ghost use Rattle.nsq_system.specs.KnownNames.{Knows, OnlyChanges, OnlyMoves, AreKnown, ArePart, SetsName};
+ghost use Rattle.nsq_system.specs.KnownNames.{Knows, OnlyChanges, OnlyMoves, ArePart, SetsName};
 
 use std::alloc::{AllocError, Global};
 use std::collections::BTreeSet;
@@ -38,13 +36,13 @@ impl KnownNames {
         self.names = None;
     }
 
-    /// Begins anew with these names. Without memory none are known then.
-    pub fn begin_anew(&mut self, names: Vec<String>) -> Result<(), AllocError>
-        ensures ok { OnOk result (AreKnown self.new.names (map string_bytes names.items)) }
-        ensures err { OnErr result (self.new.names ≡ None) }
+    /// Begins anew with the names that were read. After an error nothing changes.
+    pub fn begin_anew(&mut self, read: io::Result<BTreeSet<String>>) -> io::Result<()>
+        ensures read { IfOk read (λ names. self.new.names ≡ Some names) }
+        ensures ok { OnOk result (IsSome self.new.names) }
+        ensures err { OnErr result (self.new ≡ self.old) }
     {
-        self.names = None;
-        self.names = Some(set_of(self.alloc, names)?);
+        self.names = Some(read?);
         Ok(())
     }
 
@@ -125,15 +123,8 @@ impl KnownNames {
     }
 }
 
-/// The set of these names.
-fn set_of(alloc: Global, names: Vec<String>) -> Result<BTreeSet<String>, AllocError>
-    ensures { IfOk result (IsFromIterResult string_cmp names.items) }
-{
-    names.into_iter().collect(alloc)
-}
-
 /// Adds a name to a set, where it isn't there yet.
-fn add_to(alloc: Global, names: &mut BTreeSet<String>, name: &str) -> Result<(), AllocError>
+pub fn add_to(alloc: Global, names: &mut BTreeSet<String>, name: &str) -> Result<(), AllocError>
     ensures { OnOk result (SetsName names.old names.new name.now true) }
 {
     if !names.contains(name) {

@@ -12,6 +12,7 @@ mod known_names;
 mod listeners;
 mod open_files;
 mod outbox;
+mod polls;
 mod sys_clock;
 mod talker;
 mod tcp_conn;

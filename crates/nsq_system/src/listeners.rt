@@ -3,6 +3,7 @@ ghost use Rattle.nsq_system.specs.Listeners.{IsHeardStream, IsOfKind, kind_behin
 ghost use Rattle.nsq_outside.specs.Hosts.{AcceptFails, AcceptCounts};
 
 use crate::answers::{NoCaller, no_caller};
+use crate::polls::new_poll;
 use crate::tcp_conn::TcpConn;
 use mio::net::TcpListener;
 use mio::{Events, Interest, Poll, Token};
@@ -68,7 +69,7 @@ impl<N: Net + Clock> Listeners<N> {
         ensures faults { IfOk result (λ listeners. accept_faults_of listeners ≡ 0) }
         ensures http { IfOk result (λ listeners. has_http listeners ≡ is_some http.entry) }
     {
-        let (poll, events) = new_poll(&rt, alloc)?;
+        let (poll, events) = new_poll(&rt, alloc, 2)?;
         let (tcp, http) = listen_at(&rt, &poll, tcp, http)?;
         Ok(Listeners {
             rt,
@@ -96,7 +97,13 @@ impl<N: Net + Clock> Listeners<N> {
         ensures counted { AcceptCounts (accept_faults_of self.old) (accept_faults_of self.new) result }
         ensures turns { TakesTurns self.old.first self.new.first result }
     {
-        match self.next_caller() {
+        match next_caller(
+            &self.tcp,
+            &self.http,
+            &mut self.first,
+            &mut self.poll,
+            &mut self.events,
+        ) {
             Tried::Stream(kind, stream) => {
                 match TcpConn::new(&self.rt, self.alloc, stream, kind) {
                     Ok(conn) => Accept::Caller(kind, conn),
@@ -138,49 +145,41 @@ impl<N: Net + Clock> Listeners<N> {
     }
 }
 
-impl<N> Listeners<N> {
-    ghost use Rattle.nsq_system.specs.Listeners.{accept_faults_of, has_http};
-
-    /// A caller of either listener, after a wait where nobody called yet.
-    fn next_caller(&mut self) -> Tried
-        ensures turns { self.new.first ≡ kind_behind self.old.first result }
-        ensures faults { accept_faults_of self.new ≡ accept_faults_of self.old }
-        ensures heard { IsHeardStream (has_http self.old) result }
-        ensures http { has_http self.new ≡ has_http self.old }
-    {
-        match self.try_in_turn() {
-            Tried::Nobody => {}
-            tried => return tried,
-        }
-        let most = Duration::from_millis(ACCEPT_WAIT);
-        if self.poll.poll(&mut self.events, Some(most)).is_err() {
-            return Tried::Broken;
-        }
-        self.try_in_turn()
+/// A caller of either listener, after a wait where nobody called yet.
+fn next_caller(
+    tcp: &TcpListener,
+    http: &Option<TcpListener>,
+    first: &mut Kind,
+    poll: &mut Poll,
+    events: &mut Events,
+) -> Tried
+    ensures turns { first.new ≡ kind_behind first.old result }
+    ensures heard { IsHeardStream (is_some http.now) result }
+{
+    match try_in_turn(tcp, http, first) {
+        Tried::Nobody => {}
+        tried => return tried,
     }
-
-    /// A caller of either listener, of the kind that is looked for first where both have one. Behind a caller that is the
-    /// other kind.
-    fn try_in_turn(&mut self) -> Tried
-        ensures turns { self.new.first ≡ kind_behind self.old.first result }
-        ensures faults { accept_faults_of self.new ≡ accept_faults_of self.old }
-        ensures heard { IsHeardStream (has_http self.old) result }
-        ensures http { has_http self.new ≡ has_http self.old }
-    {
-        let tried = try_both(&self.tcp, &self.http, self.first);
-        match &tried {
-            Tried::Stream(Kind::Tcp, _) => self.first = Kind::Http,
-            Tried::Stream(Kind::Http, _) => self.first = Kind::Tcp,
-            Tried::Nobody | Tried::Shortage | Tried::Broken => {}
-        }
-        tried
+    let most = Duration::from_millis(ACCEPT_WAIT);
+    if poll.poll(events, Some(most)).is_err() {
+        return Tried::Broken;
     }
+    try_in_turn(tcp, http, first)
 }
 
-/// A poll for two listeners, and the room for what it tells.
-fn new_poll<N: Net>(rt: &N, alloc: Global) -> io::Result<(Poll, Events)> {
-    let poll = Poll::new(rt)?;
-    Ok((poll, Events::with_capacity(alloc, 2)?))
+/// A caller of either listener, of the kind that is looked for first where both have one. Behind a caller that is the
+/// other kind.
+fn try_in_turn(tcp: &TcpListener, http: &Option<TcpListener>, first: &mut Kind) -> Tried
+    ensures turns { first.new ≡ kind_behind first.old result }
+    ensures heard { IsHeardStream (is_some http.now) result }
+{
+    let tried = try_both(tcp, http, *first);
+    match &tried {
+        Tried::Stream(Kind::Tcp, _) => *first = Kind::Http,
+        Tried::Stream(Kind::Http, _) => *first = Kind::Tcp,
+        Tried::Nobody | Tried::Shortage | Tried::Broken => {}
+    }
+    tried
 }
 
 /// The listeners at these addresses, in the poll.
@@ -226,14 +225,15 @@ fn try_both(tcp: &TcpListener, http: &Option<TcpListener>, first: Kind) -> Tried
     let Some(http) = http else {
         return try_accept(tcp, Kind::Tcp);
     };
-    let tried = match first {
-        Kind::Tcp => try_accept(tcp, Kind::Tcp),
-        Kind::Http => try_accept(http, Kind::Http),
-    };
-    match (tried, first) {
-        (Tried::Nobody, Kind::Tcp) => try_accept(http, Kind::Http),
-        (Tried::Nobody, Kind::Http) => try_accept(tcp, Kind::Tcp),
-        (tried, _) => tried,
+    match first {
+        Kind::Tcp => match try_accept(tcp, Kind::Tcp) {
+            Tried::Nobody => try_accept(http, Kind::Http),
+            tried => tried,
+        },
+        Kind::Http => match try_accept(http, Kind::Http) {
+            Tried::Nobody => try_accept(tcp, Kind::Tcp),
+            tried => tried,
+        },
     }
 }
 

@@ -6,10 +6,11 @@ ghost use Rattle.std.specs.Map.{lookup};
 ghost use Rattle.std.specs.Str.{bytes_eq};
 
 use crate::answers::{PartRead, after_read};
-use crate::known_names::KnownNames;
+use crate::known_names::{KnownNames, add_to};
 use lru::LruCache;
 use nsq_base::Memory;
 use std::alloc::{AllocError, Allocator, Global};
+use std::collections::BTreeSet;
 use std::fs::{DirEntry, FileType, OpenFile, OpenOptions};
 use std::io::ErrorKind;
 use std::num::NonZeroUsize;
@@ -124,7 +125,7 @@ impl<R: Files + AllocGlobal + Clone + Drop> OpenFiles<R> {
             return Ok(());
         }
         let names = read_names(&self.rt, self.alloc, self.folder.as_str());
-        begin_anew(&mut self.known, names)
+        self.known.begin_anew(names)
     }
 }
 
@@ -373,14 +374,6 @@ fn settled<F: Drop, T>(
     outcome
 }
 
-/// Begins anew with the names that were read.
-fn begin_anew(known: &mut KnownNames, names: io::Result<Vec<String>>) -> io::Result<()>
-    ensures { OnOk result (IsSome known.new.names) }
-{
-    known.begin_anew(names?)?;
-    Ok(())
-}
-
 /// The names that begin so, after they were learnt.
 fn part_if(
     known: &KnownNames,
@@ -401,9 +394,10 @@ fn read_names<R: Files + AllocGlobal + Clone + Drop>(
     rt: &R,
     alloc: Global,
     folder: &str,
-) -> io::Result<Vec<String>> {
-    let mut names = Vec::new(alloc);
-    for entry in fs::read_dir(rt, folder)? {
+) -> io::Result<BTreeSet<String>> {
+    let entries = fs::read_dir(rt, folder)?;
+    let mut names = BTreeSet::new(alloc);
+    for entry in entries {
         note_entry(&mut names, alloc, entry)?;
     }
     Ok(names)
@@ -411,7 +405,7 @@ fn read_names<R: Files + AllocGlobal + Clone + Drop>(
 
 /// Adds the name of an entry that is a regular file. One whose name isn't UTF-8 is passed over.
 fn note_entry<R: Files + Drop, A: Allocator>(
-    names: &mut Vec<String>,
+    names: &mut BTreeSet<String>,
     alloc: Global,
     entry: io::Result<DirEntry<R, A>>,
 ) -> io::Result<()> {
@@ -423,13 +417,13 @@ fn note_entry<R: Files + Drop, A: Allocator>(
 
 /// Adds a name, where it is that of a regular file.
 fn note_file(
-    names: &mut Vec<String>,
+    names: &mut BTreeSet<String>,
     alloc: Global,
     kind: io::Result<FileType>,
     name: &str,
 ) -> io::Result<()> {
     if kind?.is_file() {
-        names.push(String::from_str(alloc, name)?)?;
+        add_to(alloc, names, name)?;
     }
     Ok(())
 }
@@ -512,11 +506,7 @@ fn read_opened<F: FileExt>(
     ensures amount { IfOk result (λ n. n ≤ length into.old) }
     ensures limit { IfOk result (λ n. (n ≡ 0) ⊎ (at + n ≤ 2 ^ 62)) }
 {
-    let count = read_whole(opened_file(opened, name, ready)?, at, into)?;
-    if count > 0 && at.saturating_add(count as u64) > LIMIT {
-        return Err(ErrorKind::FileTooLarge.into());
-    }
-    Ok(count)
+    read_whole(opened_file(opened, name, ready)?, at, into)
 }
 
 /// Gives a file that was opened a number of bytes.
@@ -559,9 +549,10 @@ fn set_path(path: &mut String, folder: &str, name: &str) -> io::Result<()>
     Ok(())
 }
 
-/// Reads from a place on until the buffer is full or the file ends.
+/// Reads from a place on until the buffer is full or the file ends. It is an error where the bytes end past 2^62.
 fn read_whole<F: FileExt>(file: &F, at: u64, into: &mut [u8]) -> io::Result<usize>
-    ensures { IfOk result (λ n. n ≤ length into.old) }
+    ensures amount { IfOk result (λ n. n ≤ length into.old) }
+    ensures limit { IfOk result (λ n. (n ≡ 0) ⊎ (at + n ≤ 2 ^ 62)) }
 {
     if at > LIMIT {
         return Ok(0);
@@ -577,6 +568,9 @@ fn read_whole<F: FileExt>(file: &F, at: u64, into: &mut [u8]) -> io::Result<usiz
             PartRead::Interrupted => {}
             PartRead::Failed(error) => return Err(error),
         }
+    }
+    if got > 0 && at.saturating_add(got as u64) > LIMIT {
+        return Err(ErrorKind::FileTooLarge.into());
     }
     Ok(got)
 }

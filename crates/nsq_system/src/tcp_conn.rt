@@ -1,11 +1,13 @@
 ghost use Rattle.std.specs.Prelude.{◌≡◌, ◌≢◌, ◌+◌, ◌<◌, ◌≤◌, [], true, IfOk, length};
 ghost use Rattle.nsq_outside.specs.Causes.{DidFails, DidCounts, CountsFault};
 ghost use Rattle.nsq_outside.specs.Streams.{IsAmountRead};
+ghost use Rattle.nsq_system.specs.Outboxes.{is_broken};
 
 mod closing;
 mod socket;
 
 use crate::outbox::Outbox;
+use crate::polls::new_poll;
 use closing::Closing;
 use mio::unix::SourceFd;
 use mio::{Events, Interest, Poll, Token};
@@ -109,59 +111,63 @@ impl TcpConn {
     {
         self.outbox.flush()
     }
-
-    /// Waits for bytes, at most so long. Without an answer of the system it is `None`, and else whether some came.
-    fn wait(&mut self, most: Duration) -> Option<bool>
-        ensures ended { ended_of self.new ≡ ended_of self.old }
-        ensures read_faults { read_faults_of self.new ≡ read_faults_of self.old }
-        ensures write_faults { write_faults_of self.new ≡ write_faults_of self.old }
-        ensures gathered { gathered_of self.new ≡ gathered_of self.old }
-        ensures kind { kind_of self.new ≡ kind_of self.old }
-        ensures broken { broken_of self.new ≡ broken_of self.old }
-    {
-        match self.poll.poll(&mut self.events, Some(most)) {
-            Ok(()) => Some(!self.events.is_empty()),
-            Err(_) => None,
-        }
-    }
-
-    /// Receives a piece, after a wait where none has come yet. From a broken connection it receives nothing.
-    fn receive_or_wait(&mut self, most: Duration, into: &mut [u8]) -> Read
-        requires { 0 < length into.old }
-        ensures amount { IsAmountRead result (length into.old) }
-        ensures ended { ended_of self.new ≡ ended_of self.old }
-        ensures read_faults { read_faults_of self.new ≡ read_faults_of self.old }
-        ensures write_faults { write_faults_of self.new ≡ write_faults_of self.old }
-        ensures gathered { gathered_of self.new ≡ gathered_of self.old }
-        ensures kind { kind_of self.new ≡ kind_of self.old }
-        ensures broken { broken_of self.new ≡ broken_of self.old }
-        ensures failed { broken_of self.old ≡ true → result ≡ Read.Failed }
-    {
-        if self.outbox.is_broken() {
-            return Read::Failed;
-        }
-        let first = self.outbox.writer().receive(into);
-        if first != Read::Nothing {
-            return first;
-        }
-        match self.wait(most) {
-            Some(true) => self.outbox.writer().receive(into),
-            Some(false) => Read::Nothing,
-            None => Read::Failed,
-        }
-    }
 }
 
 /// Sets a stream up, and opens the poll with which it is waited for.
 fn watch<N: Net>(rt: &N, alloc: Global, stream: &TcpStream) -> io::Result<(Poll, Events)> {
-    stream.set_nonblocking(true)?;
-    stream.set_nodelay(true)?;
-    stream.set_write_timeout(Some(Duration::from_secs(SEND_WAIT)))?;
-    let poll = Poll::new(rt)?;
+    set_up(stream)?;
+    let (poll, events) = new_poll(rt, alloc, 1)?;
     let descriptor = stream.as_raw_fd();
     poll.registry()
         .register(&mut SourceFd(&descriptor), STREAM, Interest::READABLE)?;
-    Ok((poll, Events::with_capacity(alloc, 1)?))
+    Ok((poll, events))
+}
+
+/// Sees to it that a stream doesn't block, sends at once, and where a send waits it does so for a limited time.
+fn set_up(stream: &TcpStream) -> io::Result<()> {
+    stream.set_nonblocking(true)?;
+    stream.set_nodelay(true)?;
+    stream.set_write_timeout(Some(Duration::from_secs(SEND_WAIT)))
+}
+
+/// How long a read waits that follows so many writes.
+fn patience(writes: u32) -> Duration {
+    let most = if writes < BUSY_WRITES { READ_WAIT } else { 0 };
+    Duration::from_millis(most)
+}
+
+/// Waits for bytes, at most so long. Without an answer of the system it is `None`, and else whether some came.
+fn wait(poll: &mut Poll, events: &mut Events, most: Duration) -> Option<bool> {
+    match poll.poll(events, Some(most)) {
+        Ok(()) => Some(!events.is_empty()),
+        Err(_) => None,
+    }
+}
+
+/// Receives a piece, after a wait where none has come yet. From a broken connection it receives nothing.
+fn receive_or_wait(
+    outbox: &Outbox<Socket>,
+    poll: &mut Poll,
+    events: &mut Events,
+    most: Duration,
+    into: &mut [u8],
+) -> Read
+    requires { 0 < length into.old }
+    ensures amount { IsAmountRead result (length into.old) }
+    ensures failed { is_broken outbox.now ≡ true → result ≡ Read.Failed }
+{
+    if outbox.is_broken() {
+        return Read::Failed;
+    }
+    let first = outbox.writer().receive(into);
+    if first != Read::Nothing {
+        return first;
+    }
+    match wait(poll, events, most) {
+        Some(true) => outbox.writer().receive(into),
+        Some(false) => Read::Nothing,
+        None => Read::Failed,
+    }
 }
 
 impl Source for TcpConn {
@@ -199,16 +205,12 @@ impl Source for TcpConn {
     {
         // Where it fails the connection is broken.
         let _ = self.flush();
-        let most = if self.writes < BUSY_WRITES {
-            READ_WAIT
-        } else {
-            0
-        };
+        let most = patience(self.writes);
         self.writes = 0;
         if self.ended {
             return Read::End;
         }
-        let answer = self.receive_or_wait(Duration::from_millis(most), into);
+        let answer = receive_or_wait(&self.outbox, &mut self.poll, &mut self.events, most, into);
         match answer {
             Read::End => self.ended = true,
             Read::Failed => {
@@ -289,6 +291,7 @@ impl Drop for TcpConn {
             ended,
             read_faults: _read_faults,
         } = self;
-        Closing::new(outbox, poll, events, kind == Kind::Http && !ended).close();
+        let mut closing = Closing::new(outbox, poll, events, kind == Kind::Http && !ended);
+        closing.finish();
     }
 }

@@ -1,15 +1,13 @@
 -- What the parts of the readers answer. No public clause cites this module.
-use Rattle.std.specs.Prelude.{ℕ, ◌≡◌, ◌≢◌, ◌<◌, ◌≤◌, ◌+◌, Bool, false, List, [], ◌∷◌, ◌++◌, Option, Some, None, length, take, drop, slice_get, MatchOption, ◌⊎◌, codes, fold, string_bytes}
+use Rattle.std.specs.Prelude.{ℕ, ◌≡◌, ◌≢◌, ◌<◌, ◌≤◌, ◌+◌, Bool, false, List, [], ◌∷◌, ◌++◌, Option, Some, None, length, take, drop, slice_get, MatchOption, ◌⊎◌, codes, string_bytes}
 use Rattle.std.specs.Char.{is_ascii_digit}
 use Rattle.std.specs.List.{AllByRecursion, AllPass}
 use Rattle.clap.specs.Kinds.{Kinds}
-use Rattle.clap.specs.Simple.{App}
 use Rattle.clap.specs.Walk.{Row}
 use Rattle.clap.specs.declared.error.kind.ErrorKind.{ErrorKind}
 use Rattle.clap.specs.declared.error.kind.ErrorKind.TheVariants as kind
 use Rattle.nsq_base.specs.Options.{AreSizesInRange, AreTimesInRange, IsInRange, default_options}
 use Rattle.nsq_base.specs.declared.options.Options.{Options}
-use Rattle.nsqd_words.specs.Command.{with_option}
 use Rattle.nsqd_words.specs.Durations.{IsPair, Pair, spelled, total_time, unit_name}
 use Rattle.nsqd_words.specs.Saying.{SaysSizes, SaysTimes, SaysValues}
 use Rattle.nsqd_words.specs.declared.durations.Measured.{Measured}
@@ -117,20 +115,6 @@ FindsOptions rows options = MatchOption options ((o : Options) → SaysValues ro
     (λ found. SaysValues rows found × IsInRange found)
 
 -- ---- the command
-
--- a command with the options that are texts
-abbrev pub with_text_options : App → App
-with_text_options app = fold with_option app (codes "tcp-address" ∷ codes "http-address" ∷ codes "broadcast-address" ∷ codes "data-path" ∷ [])
-
--- a command with the options that are sizes and counts
-abbrev pub with_size_options : App → App
-with_size_options app = fold with_option app
-    (codes "mem-queue-size" ∷ codes "max-bytes-per-file" ∷ codes "sync-every" ∷ codes "max-msg-size" ∷ codes "max-body-size" ∷ codes "max-rdy-count" ∷ [])
-
--- a command with the options that are durations
-abbrev pub with_time_options : App → App
-with_time_options app = fold with_option app
-    (codes "sync-timeout" ∷ codes "msg-timeout" ∷ codes "max-msg-timeout" ∷ codes "max-req-timeout" ∷ codes "max-heartbeat-interval" ∷ [])
 
 -- ---- clap's answers
 

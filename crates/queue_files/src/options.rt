@@ -1,5 +1,5 @@
 /// What a queue is told at its making.
-#[derive(Clone, Copy, Debug, PartialEq, Eq)]
+#[derive(Clone, Copy)]
 pub struct QueueOptions {
     /// The greatest number of bytes of a data file that has more than one record; but the file of the greatest number, 2^40, takes
     /// all that follow.

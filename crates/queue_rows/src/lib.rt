@@ -1,4 +1,5 @@
-//! Rows of queues on disk and of backlogs: worked examples of their files and of their calls. It has nothing but tests.
+//! Rows of queues on disk, of backlogs and of a topic's queue: worked examples of their files and of their calls, and random calls beside a
+//! plain list. It has nothing but tests.
 #![tactic(auto)]
 
 #[cfg(test)]
@@ -15,6 +16,8 @@ mod plain;
 mod reading;
 #[cfg(test)]
 mod script;
+#[cfg(test)]
+mod topic;
 #[cfg(test)]
 mod waiting;
 #[cfg(test)]

@@ -1,4 +1,4 @@
-//! Rows of V2 connections at a floor over fakes: what each client sends, what the floor's clock shows, and every byte that is written to each
+//! Rows of V2 and of HTTP connections at a floor over fakes: what each client sends, what the floor's clock shows, and every byte that is written to each
 //! client, to the moment.
 //!
 //! The crate has nothing but tests. A row is a run of clients who are served one after another at one floor; one function says whether it holds,
@@ -7,6 +7,8 @@
 
 #[cfg(test)]
 mod conn;
+#[cfg(test)]
+mod http;
 #[cfg(test)]
 mod outside;
 #[cfg(test)]

@@ -1,4 +1,5 @@
-use crate::reads::{reads, same};
+use crate::reads::reads;
+use crate::same;
 use nsq_base::Memory;
 use std::alloc::Global;
 use std::test::Fail;

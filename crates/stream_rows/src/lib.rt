@@ -1,7 +1,9 @@
-//! What the V2 stream's reader, plain program and writers answer, row by row: a row has its name, what goes in and what must
-//! come out. It has nothing but tests, so that a row is only ever proved here.
+//! What plain values and the heap of due items answer, the V2 stream's reader, plain program and writers, and IDENTIFY, row by row: a row
+//! has its name, what goes in and what must come out. It has nothing but tests, so that a row is only ever proved here.
 #![tactic(auto)]
 
+#[cfg(test)]
+mod base;
 #[cfg(test)]
 mod commands;
 #[cfg(test)]
@@ -10,6 +12,8 @@ mod faults;
 mod frames_read;
 #[cfg(test)]
 mod frames_written;
+#[cfg(test)]
+mod identify;
 #[cfg(test)]
 mod laws;
 #[cfg(test)]
@@ -22,3 +26,9 @@ mod pieces;
 mod reads;
 #[cfg(test)]
 mod written;
+
+/// Whether the bytes are the same.
+#[cfg(test)]
+pub(crate) fn same(one: &[u8], other: &[u8]) -> bool {
+    one == other
+}

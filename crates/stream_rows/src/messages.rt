@@ -1,4 +1,4 @@
-use crate::reads::same;
+use crate::same;
 use nsq_base::{Body, Memory, MsgId};
 use std::alloc::Global;
 use std::test::Fail;

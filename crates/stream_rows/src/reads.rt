@@ -1,3 +1,4 @@
+use crate::same;
 use nsq_base::Memory;
 use std::alloc::Global;
 use v2_frame::{Command, Got, Limits, Reader, Rest};
@@ -64,11 +65,6 @@ impl Reading {
         }
         prints(alloc, &self.commands, want)
     }
-}
-
-/// Whether these are the same bytes.
-pub fn same(one: &[u8], other: &[u8]) -> bool {
-    one == other
 }
 
 /// Whether the commands print as this.

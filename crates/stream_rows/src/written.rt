@@ -1,7 +1,7 @@
 ghost use Rattle.std.specs.Prelude.{◌≡◌, ◌^◌, ◌<◌, IfOk, IfSome};
 ghost use Rattle.v2_frame.specs.Writing.{CanWrite};
 
-use crate::reads::same;
+use crate::same;
 use nsq_base::Memory;
 use std::alloc::Global;
 use std::test::Fail;

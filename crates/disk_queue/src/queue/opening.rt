@@ -10,7 +10,7 @@ use crate::standing::{LastSave, Staged};
 use crate::{Open, QueueOptions};
 use nsq_outside::{Did, Folder};
 use queue_image::Positions;
-use queue_opening::{Names, QueueFiles, make_plan, tidy, write_down};
+use queue_opening::{Names, Plan, QueueFiles, make_plan, tidy, write_down};
 use std::alloc::Global;
 
 /// Opening.
@@ -42,19 +42,31 @@ impl Queue {
             return Err(Open::Memory);
         };
         let Ok(mut names) = Names::new(alloc, name) else {
+            close(files);
             return Err(Open::Memory);
         };
         let plan = match make_plan(alloc, folder, &mut files, name, &options) {
             Ok(plan) => plan,
-            Err(why) => return Err(why),
+            Err(why) => {
+                close(files);
+                return Err(why);
+            }
         };
         match tidy(folder, &mut names, &mut files, &plan) {
             Did::Done => {}
-            Did::Failed => return Err(Open::Fault),
+            Did::Failed => {
+                close(files);
+                let_go(names, plan);
+                return Err(Open::Fault);
+            }
         }
         match write_down(folder, &mut files, &plan) {
             Did::Done => {}
-            Did::Failed => return Err(Open::Fault),
+            Did::Failed => {
+                close(files);
+                let_go(names, plan);
+                return Err(Open::Fault);
+            }
         }
         Ok(opened(files, options, plan.depth, plan.positions))
     }
@@ -87,3 +99,9 @@ fn opened(files: QueueFiles, options: QueueOptions, depth: u128, positions: Posi
         files,
     }
 }
+
+// Lets go of the names of a queue that isn't opened.
+fn close(_files: QueueFiles) {}
+
+// Lets go of a plan, and of the names for it.
+fn let_go(_names: Names, _plan: Plan) {}

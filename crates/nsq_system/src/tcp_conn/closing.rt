@@ -41,9 +41,9 @@ impl Closing {
         }
     }
 
-    /// Ends what is sent, and closes the stream. Where bytes of the peer are unread it hears the peer out first: the system
-    /// would answer them by a reset, in which the peer may lose what was sent last.
-    pub(super) fn close(mut self) {
+    /// Ends what is sent. Where bytes of the peer are unread it hears the peer out, before the stream is closed by a drop: the
+    /// system would answer them by a reset, in which the peer may lose what was sent last.
+    pub(super) fn finish(&mut self) {
         if self.outbox.is_broken() || self.outbox.writer().finish().is_err() {
             return;
         }
@@ -51,7 +51,7 @@ impl Closing {
             // What comes doesn't cut a wait short any more, so that the time of all waits is known without a clock.
             let descriptor = self.outbox.writer().descriptor();
             let _ = self.poll.registry().deregister(&mut SourceFd(&descriptor));
-            hear_out(&mut self);
+            hear_out(self);
         }
     }
 

@@ -8,5 +8,5 @@ returns-in_err-fit-in-Some-clause-err c = grind (arith, text_keys)
 pub returns-in_ok-fit-in-Some-clause-ok : goal.returns-in_ok-fit-in-Some-clause-ok
 returns-in_ok-fit-in-Some-clause-ok c = record { here = grind (arith, text_keys); others = λ other h. grind (arith, text_keys) }
 
-pub returns-in_ok-insert-in-None-clause-ok : goal.returns-in_ok-insert-in-None-clause-ok
-returns-in_ok-insert-in-None-clause-ok c = record { here = grind (arith, text_keys); others = λ other h. grind (arith, text_keys) }
+pub returns-in_ok-put_in-in-None-clause-ok : goal.returns-in_ok-put_in-in-None-clause-ok
+returns-in_ok-put_in-in-None-clause-ok c = record { here = grind (arith, text_keys); others = λ other h. grind (arith, text_keys) }

@@ -1,14 +1,17 @@
-use Rattle.std.proofs.Common.{ap, ◌∙◌}
+use Rattle.std.proofs.Common.{fold, ap, ◌∙◌}
 use Rattle.std.proofs.lemmas.Result.{IfOk-weaker}
 use Rattle.clap.specs.Simple.{App}
-use Rattle.nsqd_words.specs.Command.{nsqd_app, stop_flag, with_flag}
-use Rattle.nsqd_words.specs.Parts.{with_size_options, with_text_options, with_time_options}
+use Rattle.nsqd_words.specs.Command.{bare_app, nsqd_app, stop_flag, with_flag, with_option}
+use Rattle.nsqd_words.proofs.Commands.{folded, with_row}
 use Rattle.nsqd_words.proofs.command.nsqd_command.Goals as goal
 
 pub returns : goal.returns
 unfolding nsqd_app
 returns c =
-    let texts = c.in_ok-command.ensures ∙ ap with_text_options c.bare_command.ensures in
-    let sizes = c.in_ok-command-2.ensures ∙ ap with_size_options texts in
-    let times = c.in_ok-command-3.ensures ∙ ap with_time_options sizes in
-    IfOk-weaker c.with_stop.result _ _ (λ grown h. h ∙ ap (λ (app : App). with_flag app stop_flag) times) c.with_stop.ensures
+    let rows = c.options.result.now in
+    let grown =
+    c.in_ok-command.ensures
+    ∙ ap (λ (app : App). fold with_row app rows) c.bare_command.ensures
+    ∙ folded bare_app rows
+    ∙ ap (fold with_option bare_app) c.options.ensures in
+    IfOk-weaker c.with_stop.result _ _ (λ command h. h ∙ ap (λ (app : App). with_flag app stop_flag) grown) c.with_stop.ensures

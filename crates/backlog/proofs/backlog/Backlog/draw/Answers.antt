@@ -4,6 +4,7 @@ use Rattle.disk_queue.specs.declared.answers.Peek.TheVariants.{Got, Empty, Fault
 use Rattle.backlog.specs.declared.backlog.Lent.TheVariants.{Nothing, OfDisk}
 use Rattle.backlog.specs.Seen.{Seen, no_record, of_disk}
 use Rattle.backlog.proofs.Drawing.{same_disk, ring_empty, peeked, no_message, sized, drawn_from_disk}
+use Rattle.backlog.proofs.Draws.{never_damaged, some_message, same_queue}
 use Rattle.backlog.proofs.backlog.Backlog.draw.Goals as goal
 
 pub returns-in-Empty-clause-seen : goal.returns-in-Empty-clause-seen
@@ -100,3 +101,28 @@ returns-in-Memory-clause-list g c = λ told disk. rw (← c.self.view_is, c.in-S
 
 pub returns-in-Memory-clause-stands : goal.returns-in-Memory-clause-stands
 returns-in-Memory-clause-stands g c = λ told. rw (← c.self.view_is, c.in-Some-queue.is) (c.peek.ensures.stands told)
+
+pub returns-in-Empty-clause-queue : goal.returns-in-Empty-clause-queue
+returns-in-Empty-clause-queue g c = rw (← c.self.view_is, c.in-Some-queue.is) (same_queue c.in-Some-queue.queue c.peek.new.self c.peek.ensures.name c.peek.ensures.options)
+
+pub returns-in-Fault-clause-queue : goal.returns-in-Fault-clause-queue
+returns-in-Fault-clause-queue g c = rw (← c.self.view_is, c.in-Some-queue.is) (same_queue c.in-Some-queue.queue c.peek.new.self c.peek.ensures.name c.peek.ensures.options)
+
+pub returns-in-Damaged-clause-queue : goal.returns-in-Damaged-clause-queue
+returns-in-Damaged-clause-queue g c = rw (← c.self.view_is, c.in-Some-queue.is) (same_queue c.in-Some-queue.queue c.peek.new.self c.peek.ensures.name c.peek.ensures.options)
+
+pub returns-in-Whole-clause-queue : goal.returns-in-Whole-clause-queue
+returns-in-Whole-clause-queue g c = rw (← c.self.view_is, c.in-Some-queue.is) (same_queue c.in-Some-queue.queue c.peek.new.self c.peek.ensures.name c.peek.ensures.options)
+
+pub returns-in-Memory-clause-queue : goal.returns-in-Memory-clause-queue
+returns-in-Memory-clause-queue g c = rw (← c.self.view_is, c.in-Some-queue.is) (same_queue c.in-Some-queue.queue c.peek.new.self c.peek.ensures.name c.peek.ensures.options)
+
+pub returns-in-Damaged-clause-first : goal.returns-in-Damaged-clause-first
+returns-in-Damaged-clause-first g c = λ told disk.
+    let was = c.self.inside in
+    never_damaged c.args.self.now was.ring.items was.ring.capacity was.queue was.lent c.in-Some-queue.queue (g.F.Folder.files c.args.folder.now) disk c.self.view_is c.in-Some-queue.is (c.in-Damaged.ensures.first told)
+
+pub returns-in-Memory-clause-first : goal.returns-in-Memory-clause-first
+returns-in-Memory-clause-first g c = λ told disk.
+    let was = c.self.inside in
+    some_message c.args.self.now was.ring.items was.ring.capacity was.queue was.lent c.in-Some-queue.queue (g.F.Folder.files c.args.folder.now) disk _ c.self.view_is c.in-Some-queue.is (c.in-Got.ensures.first told)

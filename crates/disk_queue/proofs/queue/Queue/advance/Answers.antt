@@ -1,5 +1,7 @@
-use Rattle.std.proofs.Common.{subst, drop}
+use Rattle.std.proofs.Common.{refl, ap, ◌∙◌, subst, drop}
+use Rattle.disk_queue.specs.Seen.{after_save, IsEarly}
 use Rattle.disk_queue.specs.Holding.{OwnChange}
+use Rattle.disk_queue.specs.Parts.{OnlySaveChanges}
 use Rattle.disk_queue.proofs.Advances.{holds_without, stands_without}
 use Rattle.disk_queue.proofs.queue.Queue.advance.Goals as goal
 
@@ -26,3 +28,46 @@ returns-clause-others g c = λ told.
 
 pub returns-then-is_early-clause-stands : goal.returns-then-is_early-clause-stands
 returns-then-is_early-clause-stands g c = λ told. stands_without c.args.self.now c.drop_first.new.self (g.F.Folder.files c.args.folder.now) c.drop_first.ensures.seen
+
+pub returns-then-is_early-clause-seen : goal.returns-then-is_early-clause-seen
+returns-then-is_early-clause-seen g c = c.drop_first.ensures.seen
+
+pub returns-then-is_early-clause-due : goal.returns-then-is_early-clause-due
+returns-then-is_early-clause-due g c = subst IsEarly c.drop_first.ensures.seen (c.is_early.ensures.0 c.if-is_early.true)
+
+pub returns-then-is_early-clause-kept : goal.returns-then-is_early-clause-kept
+returns-then-is_early-clause-kept g c = λ told bodies waiting h. tt
+
+pub returns-then-is_early-clause-metadata : goal.returns-then-is_early-clause-metadata
+returns-then-is_early-clause-metadata g c = λ told file. refl
+
+pub returns-then-is_early-clause-files : goal.returns-then-is_early-clause-files
+returns-then-is_early-clause-files g c = λ told file meta temp below. refl
+
+pub returns-then-is_early-clause-others : goal.returns-then-is_early-clause-others
+returns-then-is_early-clause-others g c = λ told file other. refl
+
+pub returns-then-is_early-clause-cause : goal.returns-then-is_early-clause-cause
+returns-then-is_early-clause-cause g c = tt
+
+pub returns-then-is_early-clause-exact : goal.returns-then-is_early-clause-exact
+returns-then-is_early-clause-exact g c = λ counts. refl
+
+pub returns-clause-seen : goal.returns-clause-seen
+returns-clause-seen g c = c.save.ensures.seen ∙ ap (λ q. after_save q c.save.result) c.drop_first.ensures.seen
+
+pub returns-clause-metadata : goal.returns-clause-metadata
+returns-clause-metadata g c = c.save.ensures.metadata
+
+pub returns-clause-faults : goal.returns-clause-faults
+returns-clause-faults g c = c.save.ensures.faults
+
+pub returns-clause-cause : goal.returns-clause-cause
+returns-clause-cause g c = c.save.ensures.cause
+
+pub returns-clause-exact : goal.returns-clause-exact
+returns-clause-exact g c = c.save.ensures.exact
+
+pub returns-clause-files : goal.returns-clause-files
+returns-clause-files g c = λ told.
+    subst (λ q. OnlySaveChanges q (g.F.Folder.files c.args.folder.now) (g.F.Folder.files c.save.new.folder)) c.drop_first.ensures.seen (c.save.ensures.files told)

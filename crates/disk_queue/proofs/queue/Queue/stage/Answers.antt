@@ -1,10 +1,13 @@
-use Rattle.std.proofs.Common.{arith, ap, ◌∙◌, subst, sym, length, ◌+◌}
+use Rattle.std.proofs.Common.{arith, ap, refl, ◌∙◌, subst, sym, length, ◌+◌}
 use Rattle.queue_image.specs.FileNames.{data_file}
-use Rattle.disk_queue.specs.Answers.{StageTooLong}
+use Rattle.disk_queue.specs.Seen.{unmarked, after_stage}
+use Rattle.disk_queue.specs.Answers.{StageTooLong, StageCounts}
 use Rattle.queue_opening.specs.Replaced.{OnlyTwoChange}
 use Rattle.disk_queue.specs.Holding.{SaveStands}
 use Rattle.disk_queue.specs.declared.answers.Stage.TheVariants.{Fault}
 use Rattle.disk_queue.proofs.Kept.{back, back_staged, holds_unmarked, own_two, two_join, stands_staged, stands_after, fits_stays, meta_two, stage_writes}
+use Rattle.disk_queue.proofs.Saves.{holds_dropped}
+use Rattle.disk_queue.proofs.Joined.{stage_later}
 use Rattle.disk_queue.proofs.queue.Queue.stage.Goals as goal
 
 pub returns-in_default-clause-list : goal.returns-in_default-clause-list
@@ -71,3 +74,67 @@ pub returns-clause-written : goal.returns-clause-written
 returns-clause-written g c = λ told.
     stage_writes c.args.self.now c.place.new.self (g.F.Folder.files c.args.folder.now) (g.F.Folder.files c.place.new.folder) (g.F.Folder.files c.write.new.folder) c.args.bytes.now c.in-Some.place
     c.write.result c.place.ensures.seen c.in-Some.ensures.end (c.in-Some.ensures.base told) (c.write.ensures.written told)
+
+pub returns-then-bytes-limit-clause-seen : goal.returns-then-bytes-limit-clause-seen
+returns-then-bytes-limit-clause-seen g c = c.unmark.ensures
+
+pub returns-then-bytes-limit-clause-list : goal.returns-then-bytes-limit-clause-list
+returns-then-bytes-limit-clause-list g c = λ told bodies waiting. holds_dropped c.args.self.now c.unmark.new.self (g.F.Folder.files c.args.folder.now) bodies waiting c.unmark.ensures
+
+pub returns-then-bytes-limit-clause-written : goal.returns-then-bytes-limit-clause-written
+returns-then-bytes-limit-clause-written g c = λ told. tt
+
+pub returns-then-bytes-limit-clause-refused : goal.returns-then-bytes-limit-clause-refused
+returns-then-bytes-limit-clause-refused g c = λ told name. refl
+
+pub returns-then-bytes-limit-clause-metadata : goal.returns-then-bytes-limit-clause-metadata
+returns-then-bytes-limit-clause-metadata g c = λ told. refl
+
+pub returns-then-bytes-limit-clause-files : goal.returns-then-bytes-limit-clause-files
+returns-then-bytes-limit-clause-files g c = λ told other first second. refl
+
+pub returns-then-bytes-limit-clause-others : goal.returns-then-bytes-limit-clause-others
+returns-then-bytes-limit-clause-others g c = λ told file other. refl
+
+pub returns-then-bytes-limit-clause-cause : goal.returns-then-bytes-limit-clause-cause
+returns-then-bytes-limit-clause-cause g c = tt
+
+pub returns-then-bytes-limit-clause-exact : goal.returns-then-bytes-limit-clause-exact
+returns-then-bytes-limit-clause-exact g c = λ counts. refl
+
+pub returns-in_default-clause-seen : goal.returns-in_default-clause-seen
+returns-in_default-clause-seen g c = c.unmark-in_default.ensures ∙ ap (λ q. unmarked q) c.place.ensures.seen
+
+pub returns-in_default-clause-written : goal.returns-in_default-clause-written
+returns-in_default-clause-written g c = λ told. tt
+
+pub returns-in_default-clause-refused : goal.returns-in_default-clause-refused
+returns-in_default-clause-refused g c = λ told. tt
+
+pub returns-in_default-clause-files : goal.returns-in_default-clause-files
+returns-in_default-clause-files g c = c.place.ensures.files
+
+pub returns-in_default-clause-faults : goal.returns-in_default-clause-faults
+returns-in_default-clause-faults g c = c.place.ensures.faults
+
+pub returns-clause-seen : goal.returns-clause-seen
+returns-clause-seen g c = c.write.ensures.seen ∙ ap (λ q. after_stage q (length c.args.bytes.now) c.write.result) c.place.ensures.seen
+
+pub returns-clause-too_long : goal.returns-clause-too_long
+returns-clause-too_long g c = subst (λ q. StageTooLong q.options.limit (length c.args.bytes.now) c.write.result) c.place.ensures.seen c.write.ensures.limit
+
+pub returns-clause-files : goal.returns-clause-files
+returns-clause-files g c = λ told.
+    let mid = g.F.Folder.files c.place.new.folder in
+    let new = g.F.Folder.files c.write.new.folder in
+    two_join (g.F.Folder.files c.args.folder.now) mid new _ _ (c.place.ensures.files told)
+    (subst (λ q. OnlyTwoChange mid new (data_file q.name q.staged.file) (data_file q.name (q.staged.file + 1))) c.place.ensures.seen (c.write.ensures.files told))
+
+pub returns-clause-faults : goal.returns-clause-faults
+returns-clause-faults g c = omega (arith, c.place.ensures.faults, c.write.ensures.faults)
+
+pub returns-clause-cause : goal.returns-clause-cause
+returns-clause-cause g c = stage_later (g.F.Folder.folder_faults c.args.folder.now) (g.F.Folder.folder_faults c.place.new.folder) (g.F.Folder.folder_faults c.write.new.folder) c.write.result c.place.ensures.faults c.write.ensures.cause
+
+pub returns-clause-exact : goal.returns-clause-exact
+returns-clause-exact g c = λ counts. subst (λ n. StageCounts n (g.F.Folder.folder_faults c.write.new.folder) c.write.result) (c.in-Some.ensures.exact counts) (c.write.ensures.exact counts)

@@ -1,0 +1,10 @@
+//! Rows of the program `nsqd`: its command lines, its drills, and a run of it over the real machine. There is nothing here but tests.
+
+mod drills;
+mod host;
+mod words;
+
+/// Whether the bytes are the same.
+pub(crate) fn same(one: &[u8], other: &[u8]) -> bool {
+    one == other
+}

@@ -1,0 +1,35 @@
+//! All tables together.
+
+use crate::program::words::held::holds;
+use crate::program::words::{drills, durations, numbers, others, texts};
+use std::test::Fail;
+
+// The tables.
+static TABLES: [&'static str; 15] = [
+    drills::RIGHT,
+    drills::WRONG,
+    numbers::SAID,
+    numbers::BEYOND,
+    numbers::NO_NUMBERS,
+    durations::SAID,
+    durations::PAIRS,
+    durations::BEYOND,
+    durations::NO_DURATIONS,
+    texts::SAID,
+    texts::WRONG,
+    others::RIGHT,
+    others::REPEATED,
+    others::FLAG,
+    others::WRONG,
+];
+
+#[test]
+fn rows(rt: HostRuntime) -> Result<(), Fail> {
+    for table in &TABLES {
+        for row in table.lines() {
+            let holds = holds(rt.alloc(), row)?;
+            assert!(rt; holds, "{}", row);
+        }
+    }
+    Ok(())
+}

@@ -1,6 +1,0 @@
-use Rattle.std.proofs.Common.{All}
-use Rattle.backlog.specs.Seen.{FitsLimit}
-use Rattle.random_rows.proofs.topics.messages_of.Given as goal
-
-abbrev pub invariant-loop-i : goal.invariant-loop-i
-invariant-loop-i l = All FitsLimit l.messages.items

@@ -1,6 +1,0 @@
-use Rattle.std.proofs.Common.{All}
-use Rattle.backlog.specs.Seen.{FitsLimit}
-use Rattle.topic_rows.proofs.bench.messages_of.Given as goal
-
-abbrev pub invariant-loop-number : goal.invariant-loop-number
-invariant-loop-number l = All FitsLimit l.messages.items

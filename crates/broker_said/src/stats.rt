@@ -1,6 +1,6 @@
 use broker_history::{ChannelStats, ClientStats, TopicStats};
 use broker_state::{ChannelState, Client, State, TopicState, deferred, flying, in_flight, queued};
-use nsq_base::{Chan, Topic};
+use nsq_base::{Body, Chan, Topic};
 
 /// Whether these are the statistics of a state: of the topic that is asked for or of all, and in each of the channel that is asked
 /// for or of all. A name that isn't there leaves an empty list.
@@ -73,7 +73,7 @@ fn tells_topic(
     if told.paused != topic.paused {
         return false;
     }
-    if told.topic_name.bytes() != topic.name.bytes() {
+    if !topic.is_named(&told.topic_name) {
         return false;
     }
     let channels = told.channels.as_slice();
@@ -119,7 +119,7 @@ fn tells_channel(
     if told.depth != depth {
         return false;
     }
-    if told.channel_name.bytes() != channel.name.bytes() {
+    if !channel.is_named(&told.channel_name) {
         return false;
     }
     if !tells_counts(channel, told) {
@@ -177,13 +177,14 @@ fn tells_client(channel: &ChannelState, client: &Client, told: &ClientStats) -> 
 
 // Whether these are a client's texts.
 fn tells_texts(client: &Client, told: &ClientStats) -> bool {
-    if told.client_id.bytes() != client.client_id.bytes() {
-        return false;
-    }
-    if told.hostname.bytes() != client.hostname.bytes() {
-        return false;
-    }
-    told.user_agent.bytes() == client.user_agent.bytes()
+    same(&told.client_id, &client.client_id)
+        && same(&told.hostname, &client.hostname)
+        && same(&told.user_agent, &client.user_agent)
+}
+
+// Whether two texts are equal.
+fn same(one: &Body, other: &Body) -> bool {
+    one.bytes() == other.bytes()
 }
 
 // Whether these are a client's numbers.

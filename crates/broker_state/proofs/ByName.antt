@@ -32,3 +32,14 @@ put_lower key n ys before after more y e f t m = (
   m ∙ ap (λ l. l ++ y ∷ []) e ∙ sym (filter_in (λ o. nat_lt (key o) n) ys y t),
   f ∙ sym (filter_out (λ o. nat_lt n (key o)) ys y (lower_once (key y) n t)),
 )
+
+module _ {X : Type 0} (p q : X → Bool) where
+  -- one more of the second kind and not of the first
+  pub put_after : (ys before after more : List X) (y : X) → before ≡ filter p ys → after ≡ filter q ys → p y ≡ false → q y ≡ true → more ≡ after ++ y ∷ []
+      → (before ≡ filter p (ys ++ y ∷ [])) × (more ≡ filter q (ys ++ y ∷ []))
+  put_after ys before after more y e f n t m = (e ∙ sym (filter_out p ys y n), m ∙ ap (λ l. l ++ y ∷ []) f ∙ sym (filter_in q ys y t))
+
+  -- one more of neither kind
+  pub put_neither : (ys before after : List X) (y : X) → before ≡ filter p ys → after ≡ filter q ys → p y ≡ false → q y ≡ false
+      → (before ≡ filter p (ys ++ y ∷ [])) × (after ≡ filter q (ys ++ y ∷ []))
+  put_neither ys before after y e f n m = (e ∙ sym (filter_out p ys y n), f ∙ sym (filter_out q ys y m))

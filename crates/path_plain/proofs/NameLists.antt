@@ -40,6 +40,17 @@ module _ {X : Type 0} (key : X → List ℕ) (k : List ℕ) where
     f ∙ sym (filter_out (λ o. is_before k (key o)) ys y (before_once (key y) k t)),
   )
 
+module _ {X : Type 0} (p q : X → Bool) where
+  -- one more of the second kind and not of the first
+  pub put_after : (ys before after more : List X) (y : X) → before ≡ filter p ys → after ≡ filter q ys → p y ≡ false → q y ≡ true → more ≡ after ++ y ∷ []
+      → (before ≡ filter p (ys ++ y ∷ [])) × (more ≡ filter q (ys ++ y ∷ []))
+  put_after ys before after more y e f n t m = (e ∙ sym (filter_out p ys y n), m ∙ ap (λ l. l ++ y ∷ []) f ∙ sym (filter_in q ys y t))
+
+  -- one more of neither kind
+  pub put_neither : (ys before after : List X) (y : X) → before ≡ filter p ys → after ≡ filter q ys → p y ≡ false → q y ≡ false
+      → (before ≡ filter p (ys ++ y ∷ [])) × (after ≡ filter q (ys ++ y ∷ []))
+  put_neither ys before after y e f n m = (e ∙ sym (filter_out p ys y n), f ∙ sym (filter_out q ys y m))
+
 module _ {X : Type 0} (Says : json.Data → X → Type 0) (name : X → List ℕ) where
   says_more : (ds : List json.Data) (d : json.Data) (xs : List X) (x : X) → ItemsSay Says (items_of ds) xs → Says d x → ItemsSay Says (items_of (ds ++ d ∷ [])) (xs ++ x ∷ [])
   says_more [] d [] x h s = (s, tt)

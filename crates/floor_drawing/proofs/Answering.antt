@@ -32,9 +32,9 @@ use Rattle.floor_rooms.proofs.Dating.{since_kept}
 use Rattle.floor_rooms.proofs.Naming.{names_kept}
 use Rattle.floor_rooms.proofs.Orders.{holds_at}
 use Rattle.floor_rooms.proofs.Placing.{at_place}
-use Rattle.floor_moves.specs.declared.due.Place.{Place}
-use Rattle.floor_moves.specs.Moves.{Keeps, RoseBy, sight}
-use Rattle.floor_moves.proofs.Keeping.{keeps_marked}
+use Rattle.floor_turns.specs.Place.{Place}
+use Rattle.floor_turns.specs.Moves.{Keeps, RoseBy, sight}
+use Rattle.floor_turns.proofs.Keeping.{keeps_marked}
 use Rattle.floor_acts.specs.Sending.{HasDrawn}
 use Rattle.floor_acts.proofs.Drawing.{draw_faults, draw_keeps}
 use Rattle.floor_acts.proofs.Flying.{some_same, stands_now}

@@ -2,3 +2,11 @@ pub mod Serving
 pub mod Answering
 pub mod Sent
 pub mod Rounds
+pub use Rattle.floor_turns.proofs.Carrying
+pub use Rattle.floor_turns.proofs.Marking
+pub use Rattle.floor_turns.proofs.Whole
+pub use Rattle.floor_turns.proofs.Following
+pub use Rattle.floor_turns.proofs.Tying
+pub use Rattle.floor_turns.proofs.Leading
+pub use Rattle.floor_turns.proofs.Keeping
+pub use Rattle.floor_turns.proofs.Raising

@@ -25,11 +25,11 @@ use Rattle.floor_rooms.specs.Sound.{IsSound}
 use Rattle.floor_rooms.specs.Standing.{HoldsFor}
 use Rattle.floor_rooms.proofs.Dating.{since_kept_then}
 use Rattle.floor_rooms.proofs.Naming.{names_kept, names_then}
-use Rattle.floor_moves.specs.declared.due.Place.{Place}
-use Rattle.floor_moves.specs.Due.{HasStallAt}
-use Rattle.floor_moves.specs.Holding.{HasHeld, IsDrawnFrom, IsHeldAt}
-use Rattle.floor_moves.specs.Moves.{Keeps, NothingNoted, Notes, RoseBy, Sight, sight}
-use Rattle.floor_moves.proofs.Keeping.{keeps_marked, keeps_on, keeps_same}
+use Rattle.floor_turns.specs.Place.{Place}
+use Rattle.floor_turns.specs.Due.{HasStallAt}
+use Rattle.floor_turns.specs.Holding.{HasHeld, IsDrawnFrom, IsHeldAt}
+use Rattle.floor_turns.specs.Moves.{Keeps, NothingNoted, Notes, RoseBy, Sight, sight}
+use Rattle.floor_turns.proofs.Keeping.{keeps_marked, keeps_on, keeps_same}
 use Rattle.floor_acts.specs.Sending.{HasDrawn}
 use Rattle.floor_acts.proofs.Flying.{stands_now}
 use Rattle.turn_laws.specs.Laid.{AreHeldBack, IsHeld}

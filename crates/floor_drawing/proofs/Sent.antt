@@ -32,9 +32,9 @@ use Rattle.floor_rooms.specs.Sound.{IsSound}
 use Rattle.floor_rooms.specs.Standing.{Carries}
 use Rattle.floor_rooms.proofs.Dating.{since_kept}
 use Rattle.floor_rooms.proofs.Naming.{names_kept}
-use Rattle.floor_replies.specs.Replies.{IsShortFrame}
-use Rattle.floor_moves.specs.declared.due.Place.{Place}
-use Rattle.floor_moves.specs.Moves.{Keeps, sight}
+use Rattle.floor_turns.specs.Replies.{IsShortFrame}
+use Rattle.floor_turns.specs.Place.{Place}
+use Rattle.floor_turns.specs.Moves.{Keeps, sight}
 use Rattle.floor_acts.specs.Acts.{ChangesAt}
 use Rattle.floor_acts.specs.Sending.{DrawsStall, HasDrawn, IsDrawnForSome, IsToSend}
 use Rattle.floor_acts.proofs.Drawing.{draw_faults}

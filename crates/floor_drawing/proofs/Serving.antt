@@ -34,10 +34,10 @@ use Rattle.floor_rooms.specs.Rooms.{channel_name, client_in, room_in, stall_at, 
 use Rattle.floor_rooms.specs.Sound.{IsSound}
 use Rattle.floor_rooms.specs.Standing.{HoldsFor, IsStallOf}
 use Rattle.floor_rooms.proofs.Placing.{found_at}
-use Rattle.floor_replies.proofs.Found.{found_channel}
-use Rattle.floor_words.specs.Plans.{DrawsAt}
-use Rattle.floor_moves.specs.declared.due.Place.{Place}
-use Rattle.floor_moves.specs.Moves.{Keeps}
+use Rattle.floor_turns.proofs.Found.{found_channel}
+use Rattle.floor_turns.specs.Plans.{DrawsAt}
+use Rattle.floor_turns.specs.Place.{Place}
+use Rattle.floor_turns.specs.Moves.{Keeps}
 use Rattle.floor_acts.specs.declared.spots.Spot.{Spot}
 use Rattle.floor_acts.specs.Sending.{DrawsStall, HasDrawn}
 use Rattle.floor_acts.specs.Spots.{StandsIn}

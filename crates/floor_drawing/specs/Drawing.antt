@@ -16,8 +16,8 @@ use Rattle.floor_rooms.specs.declared.stall.Stall.{Stall}
 use Rattle.floor_rooms.specs.declared.room.Room.{Room}
 use Rattle.floor_rooms.specs.declared.hall.Hall.{Hall}
 use Rattle.floor_rooms.specs.Rooms.{channel_name, client_in, topic_name}
-use Rattle.floor_moves.specs.declared.due.Place.{Place}
-use Rattle.floor_moves.specs.Moves.{Keeps, Notes, Sight}
+use Rattle.floor_turns.specs.Place.{Place}
+use Rattle.floor_turns.specs.Moves.{Keeps, Notes, Sight}
 use Rattle.floor_acts.specs.Spots.{GetsOf}
 use Rattle.turn_laws.specs.Laid.{IsHeld}
 use Rattle.floor_turns.specs.Acting.{Acts}

@@ -1,1 +1,11 @@
 pub mod Drawing
+pub use Rattle.floor_turns.specs.Acting
+pub use Rattle.floor_turns.specs.Turning
+pub use Rattle.floor_turns.specs.Timely
+pub use Rattle.floor_turns.specs.Turns
+pub use Rattle.floor_turns.specs.Scenes
+pub use Rattle.floor_turns.specs.Leads
+pub use Rattle.floor_turns.specs.Moves
+pub use Rattle.floor_turns.specs.Saving
+pub use Rattle.floor_turns.specs.Flushing
+pub use Rattle.floor_turns.specs.TimelySaving

@@ -2,8 +2,8 @@ ghost use Rattle.std.specs.Prelude.{◌≡◌, ◌≤◌, IsTrue, false, length}
 ghost use Rattle.desk.specs.declared.call.Call.TheVariants as calls;
 ghost use Rattle.floor_rooms.specs.Changes.{OnlyQueueFiles};
 ghost use Rattle.floor_rooms.specs.Sound.{IsSound};
-ghost use Rattle.floor_words.specs.Plans.{DrawsAt};
-ghost use Rattle.floor_moves.specs.Moves.{sight};
+ghost use Rattle.floor_turns.specs.Plans.{DrawsAt};
+ghost use Rattle.floor_turns.specs.Moves.{sight};
 ghost use Rattle.floor_turns.specs.Acting.{Acts};
 ghost use Rattle.floor_drawing.specs.Drawing.{IsServedAt, Rounds};
 
@@ -12,8 +12,8 @@ use crate::sending::send;
 use broker_history::Entry;
 use channel_core::Next;
 use desk::Turned;
-use floor_moves::{Place, hold_back};
 use floor_rooms::Hall;
+use floor_turns::{Place, hold_back};
 use nsq_base::{MsgId, Steps};
 use nsq_outside::{Folder, Journal};
 use std::sync::ledger::Ledger;

@@ -6,8 +6,8 @@ ghost use Rattle.floor_drawing.specs.Drawing.{IsIdleBy, SticksAt, entry_of};
 
 use broker_history::{Act, Entry};
 use desk::Turned;
-use floor_moves::Place;
 use floor_rooms::Hall;
+use floor_turns::Place;
 use nsq_base::Memory;
 use nsq_outside::{End, Journal};
 

@@ -13,8 +13,8 @@ use Rattle.floor_rooms.specs.Rooms.{channel_name, topic_name}
 use Rattle.floor_rooms.specs.Sound.{IsRoomSound, IsSound}
 use Rattle.floor_rooms.specs.Standing.{HoldsFor}
 use Rattle.floor_rooms.proofs.Sounding.{at_all}
-use Rattle.floor_changes.specs.Seating.{IsFree, Seats}
-use Rattle.floor_changes.proofs.SeatPlaces.{Sits, sits_stands}
+use Rattle.floor_topics.specs.Seating.{IsFree, Seats}
+use Rattle.floor_topics.proofs.SeatPlaces.{Sits, sits_stands}
 use Rattle.floor_members.proofs.Exchanged.{set_back, set_there}
 
 abbrev pub bare_room : (j : ℕ) → Room → (bare : Stall) → Room

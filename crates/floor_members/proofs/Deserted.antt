@@ -14,7 +14,7 @@ use Rattle.floor_rooms.specs.Rooms.{channel_name, client_in}
 use Rattle.floor_rooms.specs.Sound.{AreMembers, IsSound, member_of}
 use Rattle.floor_rooms.specs.Standing.{HoldsFor}
 use Rattle.floor_rooms.proofs.Forming.{some_at}
-use Rattle.floor_changes.proofs.SeatPlaces.{client_found}
+use Rattle.floor_topics.proofs.SeatPlaces.{client_found}
 use Rattle.floor_topics.proofs.Marks.{some_same}
 use Rattle.floor_members.specs.Going.{is_deserted}
 

@@ -30,8 +30,8 @@ use Rattle.floor_rooms.proofs.Dating.{keeps_equal, keeps_lists, keeps_reserved, 
 use Rattle.floor_rooms.proofs.Naming.{names_kept, names_then}
 use Rattle.floor_rooms.proofs.Growing.{added_stall_sound, added_stall_stands, both_there, else_added, reserved_place, reserved_sound, reserved_stands, reserved_stands_at, room_with_of, with_sound, with_stands}
 use Rattle.floor_rooms.proofs.Coming.{came_names, came_since, grew_names, grew_since}
-use Rattle.floor_changes.specs.Seating.{IsFree, SameSeats}
-use Rattle.floor_changes.proofs.SeatPlaces.{Sits, sits_names, sits_since, sits_sound, unseated_keeps, unseated_sound, unseated_stands}
+use Rattle.floor_topics.specs.Seating.{IsFree, SameSeats}
+use Rattle.floor_topics.proofs.SeatPlaces.{Sits, sits_names, sits_since, sits_sound, unseated_keeps, unseated_sound, unseated_stands}
 use Rattle.floor_members.specs.Subscribing.{IsPeopled, IsSeated, Joins, Remains}
 use Rattle.floor_members.proofs.Exchanged.{put_there, set_itself, set_put, set_there}
 use Rattle.floor_members.proofs.Bare.{bare_hall, bare_room, is_listed, joined_hall, seated_stands, sits_down}

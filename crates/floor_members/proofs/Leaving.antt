@@ -16,9 +16,9 @@ use Rattle.floor_rooms.specs.Standing.{HoldsFor}
 use Rattle.floor_rooms.specs.Changes.{AtRoom, KeepsSince}
 use Rattle.floor_rooms.proofs.Placing.{at_place}
 use Rattle.floor_rooms.proofs.Dating.{AreAmong, since_shrunk}
-use Rattle.floor_changes.specs.Losing.{LosesStall}
-use Rattle.floor_changes.proofs.LostPlaces.{among_lost}
-use Rattle.floor_changes.proofs.SeatPlaces.{client_found}
+use Rattle.floor_topics.specs.Losing.{LosesStall}
+use Rattle.floor_topics.proofs.LostPlaces.{among_lost}
+use Rattle.floor_topics.proofs.SeatPlaces.{client_found}
 use Rattle.floor_topics.specs.Deleting.{GoesEmpty}
 use Rattle.floor_topics.proofs.Losing.{among_empty}
 use Rattle.floor_topics.proofs.Marks.{some_same}

@@ -1,2 +1,10 @@
 pub mod Going
 pub mod Subscribing
+pub use Rattle.floor_topics.specs.Publishing
+pub use Rattle.floor_topics.specs.Deleting
+pub use Rattle.floor_topics.specs.Emptying
+pub use Rattle.floor_topics.specs.declared.published.Published
+pub use Rattle.floor_topics.specs.declared.deleted.Deleted
+pub use Rattle.floor_topics.specs.Seating
+pub use Rattle.floor_topics.specs.Lost
+pub use Rattle.floor_acts.specs.Acts

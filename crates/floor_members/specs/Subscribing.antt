@@ -14,7 +14,7 @@ use Rattle.floor_rooms.specs.Standing.{HoldsFor, IsRoomOf, IsStallOf}
 use Rattle.floor_rooms.specs.Changes.{KeepsRooms, KeepsSince}
 use Rattle.floor_rooms.specs.Kept.{NamesTold}
 use Rattle.floor_rooms.specs.Made.{BeginsIdle, ChannelBeginsIdle, IsFreshRoom, IsFreshStall}
-use Rattle.floor_changes.specs.Seating.{Seats}
+use Rattle.floor_topics.specs.Seating.{Seats}
 
 -- nothing of a hall changed but for how much there is room
 pub record IsAsItWas (old new : Hall) : Type 0 where

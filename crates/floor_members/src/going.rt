@@ -10,9 +10,8 @@ ghost use Rattle.floor_rooms.specs.Sound.{IsSound};
 ghost use Rattle.floor_rooms.specs.Standing.{Carries};
 ghost use Rattle.floor_members.specs.Going.{NoneComes, is_deserted};
 
-use floor_changes::{Lost, lose_stall, part};
 use floor_rooms::{Hall, Room};
-use floor_topics::forget_empty;
+use floor_topics::{Lost, forget_empty, lose_stall, part};
 use nsq_base::{Chan, Memory, Topic};
 use nsq_outside::Folder;
 

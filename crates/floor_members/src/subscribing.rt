@@ -10,13 +10,13 @@ ghost use Rattle.floor_rooms.specs.Kept.{NamesTold};
 ghost use Rattle.floor_rooms.specs.Rooms.{channel_name, topic_name};
 ghost use Rattle.floor_rooms.specs.Sound.{IsSound};
 ghost use Rattle.floor_rooms.specs.Standing.{Carries};
-ghost use Rattle.floor_changes.specs.Seating.{IsFree};
+ghost use Rattle.floor_topics.specs.Seating.{IsFree};
 ghost use Rattle.floor_acts.specs.Acts.{ChangesAt, DoesAt};
 ghost use Rattle.floor_members.specs.Subscribing.{IsAsItWas, IsPeopled, IsSeated, Joins, Remains};
 
 use floor_acts::speak;
-use floor_changes::seat_in;
 use floor_rooms::{Hall, Room, Stall};
+use floor_topics::seat_in;
 use nsq_base::{Chan, Memory, Topic};
 
 /// The client at a place, which has no channel yet, gave a SUB that is accepted: topic and channel are made where they aren't there, in one step

@@ -7,3 +7,5 @@ pub mod Owing
 pub mod Clearing
 pub mod Offering
 pub mod Copies
+pub use Rattle.floor_moves.proofs.Keeping
+pub use Rattle.floor_moves.proofs.Stepping

@@ -1,1 +1,3 @@
 pub mod Stats
+pub use Rattle.floor_replies.specs.Replies
+pub use Rattle.channel_core.specs.Seen

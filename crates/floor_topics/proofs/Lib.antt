@@ -16,3 +16,5 @@ pub mod Whole
 pub mod Steps
 pub mod Dropping
 pub mod Numbers
+pub use Rattle.floor_changes.proofs.SeatPlaces
+pub use Rattle.floor_changes.proofs.LostPlaces

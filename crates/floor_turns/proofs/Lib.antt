@@ -6,3 +6,8 @@ pub mod Marking
 pub mod Whole
 pub mod Leading
 pub mod Tying
+pub use Rattle.floor_words.proofs.Saying
+pub use Rattle.floor_words.proofs.Found
+pub use Rattle.floor_words.proofs.Keeping as KeptNames
+pub use Rattle.floor_payments.proofs.Keeping
+pub use Rattle.floor_saving.proofs.Raising

@@ -5,3 +5,13 @@ pub mod Scenes
 pub mod Leads
 pub mod Turns
 pub mod Timely
+pub use Rattle.floor_words.specs.Plans
+pub use Rattle.floor_words.specs.Asked
+pub use Rattle.floor_words.specs.Replies
+pub use Rattle.floor_payments.specs.Moves
+pub use Rattle.floor_payments.specs.Due
+pub use Rattle.floor_payments.specs.Holding
+pub use Rattle.floor_payments.specs.Place
+pub use Rattle.floor_saving.specs.Saving
+pub use Rattle.floor_saving.specs.Flushing
+pub use Rattle.floor_saving.specs.Timely as TimelySaving

@@ -3,3 +3,4 @@ pub mod Naming
 pub mod Planning
 pub mod Saying
 pub mod Sending
+pub use Rattle.floor_stats.proofs.Found

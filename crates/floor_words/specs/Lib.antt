@@ -1,3 +1,4 @@
 pub mod Asked
 pub mod Dues
 pub mod Plans
+pub use Rattle.floor_stats.specs.Replies

@@ -10,9 +10,8 @@ ghost use Rattle.floor_rooms.specs.Standing.{HoldsFor};
 ghost use Rattle.floor_words.specs.Asked.{found_where, made_where};
 
 use broker_history::{Ask, Said};
-use floor_replies::{are_left, find_room, find_stall};
 use floor_rooms::Hall;
-use floor_stats::stats;
+use floor_stats::{are_left, find_room, find_stall, stats};
 use nsq_base::{Bodies, Chan, Memory, Topic};
 use std::alloc::Global;
 

@@ -2,6 +2,8 @@
 //! and channels, and what of them is kept on disk.
 //!
 //! Each answer is the definition's, for every state that the hall stands for. Want of memory is the only error.
+//!
+//! It hands on the replies that a command which is carried out gives.
 #![tactic(auto)]
 
 mod asked;
@@ -13,5 +15,6 @@ mod plan;
 pub use asked::said_to;
 pub use due::{NextDue, next_due_to};
 pub use durable::kept;
+pub use floor_stats::{are_left, beat_frame, closes, message_frame};
 pub use listed::names;
 pub use plan::{Plan, Planned, is_strange, plan_call};

@@ -1,5 +1,5 @@
 use Rattle.std.proofs.Common.{◌∙◌}
-use Rattle.floor_moves.specs.Moves.{sight}
+use Rattle.floor_turns.specs.Moves.{sight}
 use Rattle.floor_drawing.proofs.Rounds.{held_acts, held_ends, held_none, held_one}
 use Rattle.floor_drawing.proofs.Serving.{served_at, served_kept}
 use Rattle.floor_drawing.proofs.drawing.draw.Goals as goal

@@ -1,5 +1,5 @@
 use Rattle.std.proofs.Common.{◌≡◌, false}
-use Rattle.floor_moves.specs.Moves.{sight}
+use Rattle.floor_turns.specs.Moves.{sight}
 use Rattle.floor_drawing.proofs.Rounds.{HeldSoFar}
 use Rattle.floor_drawing.proofs.drawing.draw.Given as goal
 

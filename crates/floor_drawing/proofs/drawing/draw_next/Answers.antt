@@ -3,7 +3,7 @@ use Rattle.std.specs.Prelude.{IsSome}
 use Rattle.channel_copies.specs.Clients.{client_of}
 use Rattle.channel_core.specs.declared.answers.Next.TheVariants as next
 use Rattle.floor_rooms.specs.declared.stall.Stall.{Stall}
-use Rattle.floor_moves.specs.Moves.{sight}
+use Rattle.floor_turns.specs.Moves.{sight}
 use Rattle.floor_acts.proofs.Flying.{spot_holds, spot_range, spot_stall_range}
 use Rattle.floor_drawing.proofs.Answering.{acts_damage, acts_fault, acts_no_credit, acts_none_queued, acts_paused, acts_wants}
 use Rattle.floor_drawing.proofs.Rounds.{drawn_from, held_keeps, held_moment, held_round, held_there, held_wants, marked_running}

@@ -8,7 +8,7 @@ use Rattle.floor_rooms.specs.declared.room.Room.{Room}
 use Rattle.floor_rooms.specs.Changes.{KeepsRooms, OnlyQueueFiles}
 use Rattle.floor_rooms.specs.Sound.{IsSound}
 use Rattle.floor_rooms.specs.Standing.{Carries}
-use Rattle.floor_replies.specs.Replies.{IsShortFrame}
+use Rattle.floor_turns.specs.Replies.{IsShortFrame}
 use Rattle.floor_acts.specs.Sending.{IsToSend}
 use Rattle.floor_drawing.specs.Drawing.{entry_of}
 use Rattle.floor_drawing.proofs.Sent.{acts_back, at_its_place, if_ok, lent_drawn, lent_to_send, of_client, on_ok, sending_acts, undo_drawn}

@@ -7,8 +7,8 @@ use Rattle.broker_history.specs.Step.{subscribed}
 use Rattle.floor_rooms.specs.declared.hall.Hall.{Hall}
 use Rattle.floor_rooms.specs.declared.room.Room.{Room}
 use Rattle.floor_rooms.specs.Rooms.{topic_name}
-use Rattle.floor_changes.proofs.LostPlaces.{read_same}
-use Rattle.floor_changes.proofs.SeatPlaces.{on_err}
+use Rattle.floor_topics.proofs.LostPlaces.{read_same}
+use Rattle.floor_topics.proofs.SeatPlaces.{on_err}
 use Rattle.floor_members.specs.Subscribing.{IsPeopled}
 use Rattle.floor_members.proofs.Joining.{joins_hall, peopled_place, remains_alike}
 use Rattle.floor_members.proofs.Exchanged.{put_there}

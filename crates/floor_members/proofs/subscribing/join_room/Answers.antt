@@ -9,8 +9,8 @@ use Rattle.floor_rooms.specs.declared.hall.Hall.{Hall}
 use Rattle.floor_rooms.specs.declared.room.Room.{Room}
 use Rattle.floor_rooms.specs.Rooms.{channel_name}
 use Rattle.floor_rooms.proofs.Growing.{reserved_place}
-use Rattle.floor_changes.proofs.LostPlaces.{read_same}
-use Rattle.floor_changes.proofs.SeatPlaces.{on_err}
+use Rattle.floor_topics.proofs.LostPlaces.{read_same}
+use Rattle.floor_topics.proofs.SeatPlaces.{on_err}
 use Rattle.floor_members.specs.Subscribing.{IsSeated}
 use Rattle.floor_members.proofs.Joining.{joins_room, remains_reserved, seated_named}
 use Rattle.floor_members.proofs.subscribing.join_room.Goals as goal

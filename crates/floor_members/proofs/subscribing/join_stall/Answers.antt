@@ -9,9 +9,9 @@ use Rattle.floor_rooms.specs.Rooms.{channel_name, topic_name}
 use Rattle.floor_rooms.specs.Changes.{AtStall}
 use Rattle.floor_rooms.proofs.Forming.{some_at}
 use Rattle.floor_rooms.proofs.Placing.{at_place}
-use Rattle.floor_changes.specs.Seating.{IsFree, SameSeats, Seats}
-use Rattle.floor_changes.proofs.LostPlaces.{read_same}
-use Rattle.floor_changes.proofs.SeatPlaces.{Sits, on_err, seat_absent, seat_new}
+use Rattle.floor_topics.specs.Seating.{IsFree, SameSeats, Seats}
+use Rattle.floor_topics.proofs.LostPlaces.{read_same}
+use Rattle.floor_topics.proofs.SeatPlaces.{Sits, on_err, seat_absent, seat_new}
 use Rattle.floor_acts.proofs.Putting.{holds_read, read_holds}
 use Rattle.floor_members.specs.Subscribing.{Joins}
 use Rattle.floor_members.proofs.Joining.{joins_stall, stall_within, unseated, waits}

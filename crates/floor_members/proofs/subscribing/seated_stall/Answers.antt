@@ -5,8 +5,8 @@ use Rattle.channel_copies.specs.Clients.{client_of}
 use Rattle.channel_core.specs.Seen.{Seen as ChannelSeen}
 use Rattle.floor_rooms.proofs.Forming.{none_of_none}
 use Rattle.floor_rooms.proofs.Placing.{at_place}
-use Rattle.floor_changes.specs.Seating.{AreAscending, Seats}
-use Rattle.floor_changes.proofs.LostPlaces.{read_same}
+use Rattle.floor_topics.specs.Seating.{AreAscending, Seats}
+use Rattle.floor_topics.proofs.LostPlaces.{read_same}
 use Rattle.floor_acts.proofs.Putting.{holds_read}
 use Rattle.floor_members.specs.Subscribing.{IsSeated}
 use Rattle.floor_members.proofs.subscribing.seated_stall.Goals as goal

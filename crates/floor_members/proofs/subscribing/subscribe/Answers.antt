@@ -1,5 +1,5 @@
 use Rattle.v2_frame.specs.declared.command.Command.TheVariants.{Nop}
-use Rattle.floor_changes.proofs.SeatPlaces.{on_err}
+use Rattle.floor_topics.proofs.SeatPlaces.{on_err}
 use Rattle.floor_members.proofs.Speaking.{joined_range, joined_sound, not_joined_names, not_joined_since, not_joined_stands, said_clients, said_listed, said_names, said_since, said_told}
 use Rattle.floor_members.proofs.subscribing.subscribe.Goals as goal
 

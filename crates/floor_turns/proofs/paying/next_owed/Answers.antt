@@ -1,5 +1,5 @@
 use Rattle.broker_history.specs.declared.entry.Act.TheVariants.{Copied}
-use Rattle.floor_moves.proofs.Keeping.{keeps_on}
+use Rattle.floor_payments.proofs.Keeping.{keeps_on}
 use Rattle.floor_payments.specs.Taking.{taking}
 use Rattle.floor_turns.proofs.Owing.{moved_on, owes_at, takes_at}
 use Rattle.floor_turns.proofs.paying.next_owed.Goals as goal

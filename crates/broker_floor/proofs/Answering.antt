@@ -16,13 +16,13 @@ use Rattle.desk.specs.declared.turned.Turned.TheVariants as turned
 use Rattle.desk.specs.Answers.{Adds, AddsNothing, Answers, AnswersCommand, AnswersNext, EndsAtStop, Grows, IsAnswerTo, StopsSeen}
 use Rattle.desk.specs.Calls.{MayCall, has_began, is_over}
 use Rattle.floor_rooms.specs.declared.hall.Hall.{Hall}
-use Rattle.floor_words.specs.Plans.{is_strange}
-use Rattle.floor_moves.specs.Moves.{Sight}
+use Rattle.floor_serving.specs.Plans.{is_strange}
+use Rattle.floor_serving.specs.Moves.{Sight}
 use Rattle.turn_laws.proofs.Laying.{laid_adds}
-use Rattle.floor_turns.specs.Acting.{ActsBy, ClientsBy}
-use Rattle.floor_turns.specs.Scenes.{IsTied, Scene, is_here}
-use Rattle.floor_turns.specs.Turning.{IsAnswered, IsServed, IsStopped, IsTurnedAway, TakesTurn}
-use Rattle.floor_turns.specs.Turns.{IsTurn, seen, seen_at}
+use Rattle.floor_serving.specs.Acting.{ActsBy, ClientsBy}
+use Rattle.floor_serving.specs.Scenes.{IsTied, Scene, is_here}
+use Rattle.floor_serving.specs.Turning.{IsAnswered, IsServed, IsStopped, IsTurnedAway, TakesTurn}
+use Rattle.floor_serving.specs.Turns.{IsTurn, seen, seen_at}
 
 -- a connection that may make a call fits it
 may_fit : (c : Call) (number : ℕ) (own : History) → MayCall number own c → is_strange c (is_here own) ≡ false

@@ -8,7 +8,7 @@ use Rattle.backlog.specs.declared.answers.Flushed.{Flushed}
 use Rattle.backlog.specs.declared.answers.Flushed.TheVariants.{Done, Fault}
 use Rattle.broker_history.specs.State.{State}
 use Rattle.floor_rooms.specs.declared.hall.Hall.{Hall}
-use Rattle.floor_saving.specs.Flushing.{LeavesOthers, LeavesWhere, MissesFew}
+use Rattle.floor_serving.specs.Flushing.{LeavesOthers, LeavesWhere, MissesFew}
 use Rattle.broker_floor.specs.Ending.{FloorFlushFails, flushed_at}
 
 abbrev is_done : Flushed → Bool

@@ -18,11 +18,11 @@ use Rattle.floor_rooms.specs.Standing.{HoldsFor}
 use Rattle.floor_rooms.specs.Changes.{OnlyQueueFiles}
 use Rattle.floor_rooms.proofs.Holding.{holds_same}
 use Rattle.floor_rooms.proofs.Sounding.{Lowers, room_lowered}
-use Rattle.floor_moves.specs.Moves.{sight}
-use Rattle.floor_turns.specs.Scenes.{IsTied, is_here, scene}
-use Rattle.floor_turns.specs.Turning.{TakesTurn}
-use Rattle.floor_turns.specs.Turns.{IsTurn, hall_at}
-use Rattle.floor_turns.proofs.Tying.{turn_ties}
+use Rattle.floor_serving.specs.Moves.{sight}
+use Rattle.floor_serving.specs.Scenes.{IsTied, is_here, scene}
+use Rattle.floor_serving.specs.Turning.{TakesTurn}
+use Rattle.floor_serving.specs.Turns.{IsTurn, hall_at}
+use Rattle.floor_serving.proofs.Tying.{turn_ties}
 
 -- names that were saved
 pub sound_saved : (h h' : Hall) → IsSound h → h' ≡ record h { unsaved_names = h'.unsaved_names } → IsSound h'

@@ -3,3 +3,7 @@ pub mod Keepable
 pub mod Holding
 pub mod Storing
 pub mod Answering
+pub use Rattle.floor_serving.proofs.Leading
+pub use Rattle.floor_serving.proofs.KeptNames
+pub use Rattle.floor_opening.proofs.Parting
+pub use Rattle.floor_opening.proofs.Leaving

@@ -8,7 +8,7 @@ use Rattle.nsq_outside.specs.declared.journal.Journal.{Ghosts as OfJournal}
 use Rattle.broker_history.specs.declared.entry.Entry.{Entry}
 use Rattle.broker_history.specs.Entries.{History}
 use Rattle.floor_rooms.specs.declared.hall.Hall.{Hall}
-use Rattle.floor_turns.specs.Scenes.{Scene, scene}
+use Rattle.floor_serving.specs.Scenes.{Scene, scene}
 use Rattle.broker_floor.specs.Held.{Held}
 use Rattle.broker_floor.specs.declared.floor.Floor.{Floor}
 

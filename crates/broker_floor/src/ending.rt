@@ -3,7 +3,7 @@ ghost use Rattle.broker_history.specs.State.{State};
 ghost use Rattle.floor_rooms.specs.Changes.{OnlyQueueFiles};
 ghost use Rattle.floor_rooms.specs.Kept.{hall_kept};
 ghost use Rattle.floor_rooms.specs.Standing.{HoldsFor};
-ghost use Rattle.floor_saving.specs.Flushing.{LeavesOthers, LeavesWhere};
+ghost use Rattle.floor_serving.specs.Flushing.{LeavesOthers, LeavesWhere};
 ghost use Rattle.broker_floor.specs.Floors.{faults_of, files_of, flushed_of, hall_of, held_of, kit_of};
 ghost use Rattle.broker_floor.specs.Ending.{FloorFlushFails, flushed_at};
 

@@ -1,5 +1,5 @@
 ghost use Rattle.std.specs.Prelude.{◌≡◌, length, IsTrue, false};
-ghost use Rattle.floor_turns.specs.Scenes.{IsTied};
+ghost use Rattle.floor_serving.specs.Scenes.{IsTied};
 
 use crate::sound::SoundHall;
 use broker_history::Entry;

@@ -13,7 +13,7 @@ ghost use Rattle.broker_floor.specs.Floors.{faults_of, files_of, flushed_of, hal
 use crate::Floor;
 use broker_history::Entry;
 use disk_queue::replace_file;
-use floor_words::{kept, names};
+use floor_serving::{kept, names};
 use names_file::KeptTopic;
 use nsq_base::{Memory, Names};
 use nsq_outside::{Clock, Did, Folder, Journal};

@@ -3,8 +3,8 @@ ghost use Rattle.broker_history.specs.Entries.{own};
 ghost use Rattle.desk.specs.Answers.{Adds, Grows, IsAnswerTo, IsShortAnswer, StopsSeen};
 ghost use Rattle.desk.specs.Calls.{CanCall, MayCall};
 ghost use Rattle.desk.specs.declared.turned.Turned.TheVariants.{Strange};
-ghost use Rattle.floor_turns.specs.Timely.{TicksTimely};
-ghost use Rattle.floor_turns.specs.Turns.{IsTurn};
+ghost use Rattle.floor_serving.specs.Timely.{TicksTimely};
+ghost use Rattle.floor_serving.specs.Turns.{IsTurn};
 ghost use Rattle.broker_floor.specs.Floors.{faults_of, flushed_of, hall_of, notes_of, scene_of};
 
 use crate::Floor;
@@ -64,8 +64,8 @@ impl<F: Folder, C: Clock, J: Journal<Entry>> Floor<F, C, J> {
 
 impl<F: Folder, C: Clock, J: Journal<Entry>> Turner for Floor<F, C, J> {
     ghost use Rattle.std.proofs.Common.{◌≡◌, ◌∙◌, refl};
-    ghost use Rattle.floor_turns.specs.Leads.{Leads};
-    ghost use Rattle.floor_turns.proofs.Following.{leads_follow, leads_stay};
+    ghost use Rattle.floor_serving.specs.Leads.{Leads};
+    ghost use Rattle.floor_serving.proofs.Following.{leads_follow, leads_stay};
     ghost use Rattle.broker_floor.specs.Floors.{flushed_of, notes_of, scene_of};
 
     ghost tells = { J.tells_notes };

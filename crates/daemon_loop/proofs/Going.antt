@@ -11,11 +11,11 @@ use Rattle.broker_history.specs.Legal.{none}
 use Rattle.broker_history.specs.Moments.{starts}
 use Rattle.broker_history.proofs.Histories.{Legal-append}
 use Rattle.desk.specs.Calls.{has_began}
-use Rattle.floor_rooms.specs.Standing.{HoldsFor}
+use Rattle.path_closing.specs.Standing.{HoldsFor}
 use Rattle.turn_laws.proofs.Laying.{timed_join}
 use Rattle.turn_laws.proofs.Faulting.{faults_join, stuck_join}
-use Rattle.floor_turns.specs.Scenes.{Scene}
-use Rattle.floor_turns.specs.Leads.{Leads, LedTo, Times}
+use Rattle.path_closing.specs.Scenes.{Scene}
+use Rattle.path_closing.specs.Leads.{Leads, LedTo, Times}
 use Rattle.path_closing.specs.Held.{Held}
 use Rattle.path_closing.specs.Closings.{HeldBehind}
 use Rattle.path_closing.specs.declared.saving.Saved.{Saved}

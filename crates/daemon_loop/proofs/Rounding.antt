@@ -15,10 +15,10 @@ use Rattle.desk.specs.declared.turned.Turned.{Turned}
 use Rattle.desk.specs.declared.turned.Turned.TheVariants as turned
 use Rattle.turn_laws.specs.Laid.{AreActsFor, IsLaid}
 use Rattle.turn_laws.proofs.Laying.{turns_of}
-use Rattle.floor_turns.specs.Scenes.{Scene}
-use Rattle.floor_turns.specs.Leads.{Leads}
-use Rattle.floor_turns.specs.Turns.{IsTurn}
-use Rattle.floor_turns.proofs.Leading.{turn_leads}
+use Rattle.path_closing.specs.Scenes.{Scene}
+use Rattle.path_closing.specs.Leads.{Leads}
+use Rattle.path_closing.specs.Turns.{IsTurn}
+use Rattle.path_closing.proofs.Leading.{turn_leads}
 use Rattle.daemon_loop.specs.Going.{Went}
 use Rattle.daemon_loop.specs.Rounds.{IsTicked, Rounds, Ticks, ticked_of}
 use Rattle.daemon_loop.specs.Served.{HasServed, IsServed, OnlyCallersChange, UpTo, Views, ticks_of}

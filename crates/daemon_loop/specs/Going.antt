@@ -1,8 +1,8 @@
 -- What turns of whatever numbers lead to, with the file of names saved between them.
 use Rattle.std.specs.Prelude.{◌≤◌, ℕ, Bool, IsTrue}
 use Rattle.broker_history.specs.State.{State}
-use Rattle.floor_turns.specs.Scenes.{IsAt, Scene, Stands}
-use Rattle.floor_turns.specs.Leads.{LedTo, Times}
+use Rattle.path_closing.specs.Scenes.{IsAt, Scene, Stands}
+use Rattle.path_closing.specs.Leads.{LedTo, Times}
 use Rattle.path_closing.specs.Closings.{ShutChanges}
 
 -- what turns may lead to, of whatever numbers, where the journal tells, the folder tells and the clock tells: the entries that were noted are legal from

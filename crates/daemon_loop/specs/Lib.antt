@@ -6,3 +6,6 @@ pub mod Stops
 pub use Rattle.path_closing.specs.Closings
 pub use Rattle.path_closing.specs.Floors
 pub use Rattle.path_closing.specs.declared.shutting.ShutEnd
+pub use Rattle.path_closing.specs.Scenes
+pub use Rattle.path_closing.specs.Leads
+pub use Rattle.path_closing.specs.Standing

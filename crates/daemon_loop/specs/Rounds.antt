@@ -6,8 +6,8 @@ use Rattle.nsq_outside.specs.Hosts.{HostContent}
 use Rattle.broker_history.specs.Entries.{History, has_stop, own}
 use Rattle.desk.specs.declared.turned.Turned.{Turned}
 use Rattle.desk.specs.declared.turned.Turned.TheVariants as turned
-use Rattle.floor_turns.specs.Scenes.{Scene}
-use Rattle.floor_turns.specs.Leads.{Leads}
+use Rattle.path_closing.specs.Scenes.{Scene}
+use Rattle.path_closing.specs.Leads.{Leads}
 use Rattle.daemon_loop.specs.Going.{Went}
 use Rattle.daemon_loop.specs.Served.{HasServed, OnlyCallersChange, UpTo, Views, ticks_of}
 use Rattle.daemon_loop.specs.declared.callers.LoopEnd.{LoopEnd}

@@ -2,6 +2,8 @@
 //! Stop.
 //!
 //! `specs/Going.antt` says what the floor is led to meanwhile, `specs/Served.antt` what is true of the callers.
+//!
+//! It hands on the floor that it leads and what its shutting leaves: who runs the daemon names this crate.
 #![tactic(auto)]
 
 mod caller_desk;

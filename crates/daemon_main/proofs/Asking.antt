@@ -6,14 +6,14 @@ use Rattle.nsq_base.specs.declared.options.Options.{Options}
 use Rattle.nsq_outside.specs.Causes.{Rose}
 use Rattle.nsq_outside.specs.Files.{Files}
 use Rattle.nsq_outside.specs.Hosts.{HostContent, HostState, OnlyPrintFaults, OnlyTellFaults}
-use Rattle.daemon_run.specs.Served.{Views}
-use Rattle.daemon_run.specs.Endings.{status_of as serve_status}
+use Rattle.drill.specs.Served.{Views}
+use Rattle.drill.specs.Endings.{status_of as serve_status}
 use Rattle.broker_history.specs.Entries.{History}
-use Rattle.daemon_run.specs.Runs.{NoCaller}
-use Rattle.daemon_run.specs.Sights.{Both, Sight, sight_of}
-use Rattle.daemon_run.specs.declared.ending.ServeEnd.{ServeEnd}
-use Rattle.daemon_run.specs.declared.ending.ServeEnd.TheVariants as end
-use Rattle.daemon_run.proofs.Asking.{no_caller_then}
+use Rattle.drill.specs.Runs.{NoCaller}
+use Rattle.drill.specs.Sights.{Both, Sight, sight_of}
+use Rattle.drill.specs.ServeEnd.{ServeEnd}
+use Rattle.drill.specs.ServeEnd.TheVariants as end
+use Rattle.drill.proofs.Asking.{no_caller_then}
 use Rattle.daemon_main.specs.Doing.{Does, DoesNothing, DrillsSo, Obeys, PrintsSo, PrintsTo, ServesSo, part as to_part, whole as to_whole}
 use Rattle.daemon_main.specs.Endings.{IsUnserved, TellsLine, line_of, status_of}
 use Rattle.daemon_main.specs.Programs.{IsAsked, IsPlainRun, IsPrinted, PrintsDrill, StaysHome, part, shown, unshown, version_text, wants, whole}

@@ -4,13 +4,13 @@ use Rattle.nsq_base.specs.Options.{IsInRange}
 use Rattle.nsq_base.specs.declared.options.Options.{Options}
 use Rattle.nsq_outside.specs.Causes.{Rose}
 use Rattle.nsq_outside.specs.Hosts.{HostContent, HostState, OnlyPrintFaults}
-use Rattle.daemon_run.specs.Served.{Views}
-use Rattle.daemon_run.specs.Asked.{HasAsked}
-use Rattle.daemon_run.specs.Endings.{IsCaused, status_of as serve_status}
-use Rattle.daemon_run.specs.Parts.{KeepsFaults}
-use Rattle.daemon_run.specs.Runs.{Runs}
-use Rattle.daemon_run.specs.Sights.{Both, Sight}
-use Rattle.daemon_run.specs.declared.ending.ServeEnd.{ServeEnd}
+use Rattle.drill.specs.Served.{Views}
+use Rattle.drill.specs.Asked.{HasAsked}
+use Rattle.drill.specs.Endings.{IsCaused, status_of as serve_status}
+use Rattle.drill.specs.Parts.{KeepsFaults}
+use Rattle.drill.specs.Runs.{Runs}
+use Rattle.drill.specs.Sights.{Both, Sight}
+use Rattle.drill.specs.ServeEnd.{ServeEnd}
 use Rattle.daemon_main.specs.Drills.{ShowsDrill}
 use Rattle.daemon_main.specs.declared.ending.Ending.{Ending}
 use Rattle.daemon_main.specs.declared.ending.Ending.TheVariants.{BadOptions, Memory, OutputFault, Printed, Served}

@@ -2,8 +2,8 @@
 use Rattle.std.specs.Prelude.{◌≡◌, ◌⊎◌, ℕ, List, ◌∷◌, [], ◌++◌, Option, Some, None, codes}
 use Rattle.nsq_outside.specs.Causes.{Rose}
 use Rattle.nsq_outside.specs.Hosts.{HostContent, Tells}
-use Rattle.daemon_run.specs.Endings.{status_of as serve_status}
-use Rattle.daemon_run.specs.declared.ending.ServeEnd.TheVariants as end
+use Rattle.drill.specs.Endings.{status_of as serve_status}
+use Rattle.drill.specs.ServeEnd.TheVariants as end
 use Rattle.daemon_main.specs.declared.ending.Ending.{Ending}
 use Rattle.daemon_main.specs.declared.ending.Ending.TheVariants.{Served, Printed, BadOptions, OutputFault, Memory}
 

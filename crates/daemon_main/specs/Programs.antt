@@ -3,13 +3,13 @@ use Rattle.std.specs.Prelude.{◌≡◌, ℕ, Bool, IsTrue, List, [], ◌∷◌,
 use Rattle.nsq_base.specs.declared.options.Options.{Options}
 use Rattle.nsq_outside.specs.Causes.{Rose}
 use Rattle.nsq_outside.specs.Hosts.{HostContent, HostState}
-use Rattle.daemon_run.specs.Opening.{HaveBytes}
-use Rattle.daemon_run.specs.Served.{Views}
-use Rattle.daemon_run.specs.Asked.{HasAsked}
-use Rattle.daemon_run.specs.Endings.{IsCaused, IsComplete, status_of as serve_status}
-use Rattle.daemon_run.specs.Runs.{NoCaller, Runs}
-use Rattle.daemon_run.specs.Sights.{Sight}
-use Rattle.daemon_run.specs.declared.ending.ServeEnd.{ServeEnd}
+use Rattle.drill.specs.Opening.{HaveBytes}
+use Rattle.drill.specs.Served.{Views}
+use Rattle.drill.specs.Asked.{HasAsked}
+use Rattle.drill.specs.Endings.{IsCaused, IsComplete, status_of as serve_status}
+use Rattle.drill.specs.Runs.{NoCaller, Runs}
+use Rattle.drill.specs.Sights.{Sight}
+use Rattle.drill.specs.ServeEnd.{ServeEnd}
 use Rattle.daemon_main.specs.Drills.{ShowsDrill}
 use Rattle.daemon_main.specs.Endings.{IsTold, IsUnserved, line_of, status_of}
 use Rattle.daemon_main.specs.declared.ending.Ending.{Ending}

@@ -2,7 +2,7 @@ ghost use Rattle.std.specs.Prelude.{◌≡◌, option_map};
 ghost use Rattle.daemon_main.specs.Endings.{line_of, status_of};
 ghost use Rattle.daemon_main.specs.declared.ending.Ending.TheVariants.{Served};
 
-use daemon_run::ServeEnd;
+use drill::ServeEnd;
 
 /// How the program ended.
 #[derive(Clone, Copy, Debug, PartialEq, Eq)]

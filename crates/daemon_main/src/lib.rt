@@ -6,6 +6,6 @@
 mod ending;
 mod run;
 
-pub use daemon_run::serve;
+pub use drill::{Drilled, drill, drill_options, serve};
 pub use ending::{Ending, line, status};
 pub use run::{close, nsqd_run};

@@ -3,8 +3,8 @@ ghost use Rattle.nsq_base.specs.Options.{IsInRange};
 ghost use Rattle.nsq_base.specs.declared.options.Options.{Options as SaidOptions};
 ghost use Rattle.nsq_outside.specs.Causes.{Rose};
 ghost use Rattle.nsq_outside.specs.Hosts.{OnlyPrintFaults, OnlyTellFaults};
-ghost use Rattle.daemon_run.specs.Served.{ListenersFailedLast};
-ghost use Rattle.daemon_run.specs.Sights.{Both};
+ghost use Rattle.drill.specs.Served.{ListenersFailedLast};
+ghost use Rattle.drill.specs.Sights.{Both};
 ghost use Rattle.daemon_main.specs.Doing.{CanDo, Does, DrillsSo, Obeys, PrintsSo};
 ghost use Rattle.daemon_main.specs.Drills.{ShowsDrill, drill_text};
 ghost use Rattle.daemon_main.specs.Endings.{TellsLine, line_of, status_of};
@@ -13,8 +13,7 @@ ghost use Rattle.nsqd_words.specs.Requests.{Asks, IsUnknown, SaysOptions};
 
 use crate::ending::{Ending, line, status};
 use broker_history::Entry;
-use daemon_run::{Watched, serve};
-use drill::{Drilled, drill};
+use drill::{Drilled, Watched, drill, serve};
 use nsq_base::Memory;
 use nsq_outside::{Did, Host};
 use nsqd_words::{

@@ -19,8 +19,8 @@ use Rattle.broker_history.proofs.Timing.{turns_read}
 use Rattle.turn_laws.specs.Laws.{IsOf, RoseBy}
 use Rattle.turn_laws.proofs.Faulting.{apart_few}
 use Rattle.turn_laws.proofs.Laying.{turns_of}
-use Rattle.floor_turns.specs.Leads.{LedTo}
-use Rattle.floor_turns.specs.Scenes.{Scene, Stands}
+use Rattle.daemon_loop.specs.Leads.{LedTo}
+use Rattle.daemon_loop.specs.Scenes.{Scene, Stands}
 use Rattle.path_opening.specs.Opening.{HaveBytes, OnlyOpeningFiles}
 use Rattle.daemon_loop.specs.Closings.{Leaves}
 use Rattle.daemon_loop.specs.Going.{Went}

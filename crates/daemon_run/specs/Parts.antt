@@ -6,9 +6,9 @@ use Rattle.nsq_outside.specs.Files.{Files}
 use Rattle.nsq_outside.specs.Hosts.{HostContent, HostState}
 use Rattle.broker_history.specs.Entries.{has_stop, History, own}
 use Rattle.broker_history.specs.State.{State}
-use Rattle.floor_rooms.specs.Standing.{HoldsFor}
-use Rattle.floor_turns.specs.Leads.{Leads}
-use Rattle.floor_turns.specs.Scenes.{Scene}
+use Rattle.daemon_loop.specs.Standing.{HoldsFor}
+use Rattle.daemon_loop.specs.Leads.{Leads}
+use Rattle.daemon_loop.specs.Scenes.{Scene}
 use Rattle.daemon_loop.specs.Closings.{Leaves, ShutChanges, ShutFails, WhereClean}
 use Rattle.daemon_loop.specs.ShutEnd.{ShutEnd}
 use Rattle.daemon_loop.specs.Rounds.{Rounds, WhyOver}

@@ -7,7 +7,7 @@ use broker_history::{Ended, Entry};
 use broker_state::State;
 use broker_steps::led_to;
 use broker_talks::is_talk_in;
-use drill::{Drilled, drill, drill_options};
+use daemon_main::{Drilled, drill, drill_options};
 use nsq_base::{Body, Memory};
 use nsq_fakes::{MemConn, MemFolder};
 use nsq_outside::End;

@@ -15,8 +15,8 @@ use Rattle.floor_rooms.specs.Changes.{KeepsSince, OnlyQueueFiles}
 use Rattle.floor_rooms.specs.Kept.{NamesTold}
 use Rattle.floor_rooms.specs.Sound.{IsSound}
 use Rattle.floor_rooms.specs.Standing.{Carries}
-use Rattle.floor_replies.specs.Replies.{IsShortFrame}
-use Rattle.floor_acts.specs.Acts.{ChangesAt, DoesAt}
+use Rattle.floor_turns.specs.Replies.{IsShortFrame}
+use Rattle.floor_members.specs.Acts.{ChangesAt, DoesAt}
 use Rattle.floor_turns.specs.Acting.{SameClients, StaysSet}
 use Rattle.floor_carrying.specs.declared.commanded.Commanded.TheVariants as commanded
 use Rattle.floor_carrying.specs.Carrying.{Around, basis}

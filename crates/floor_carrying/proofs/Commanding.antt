@@ -14,14 +14,14 @@ use Rattle.broker_history.specs.Step as step
 use Rattle.broker_history.specs.Step.{CanFault, IsAllowedAct, is_error, is_kept_off}
 use Rattle.negotiation.specs.declared.identity.Identity.{Identity}
 use Rattle.floor_clients.specs.Seen.{held_channel}
-use Rattle.floor_changes.specs.Seating.{IsFree}
+use Rattle.floor_members.specs.Seating.{IsFree}
 use Rattle.floor_rooms.specs.declared.hall.Hall.{Hall}
 use Rattle.floor_rooms.specs.Places.{IsClientPlace}
 use Rattle.floor_rooms.specs.Rooms.{client_in}
 use Rattle.floor_rooms.specs.Sound.{IsSound}
 use Rattle.floor_rooms.specs.Standing.{Carries}
-use Rattle.floor_replies.specs.Replies.{IsShort, KnowsOf, flies_in}
-use Rattle.floor_acts.specs.Acts.{DoesAt}
+use Rattle.floor_turns.specs.Replies.{IsShort, KnowsOf, flies_in}
+use Rattle.floor_members.specs.Acts.{DoesAt}
 use Rattle.floor_turns.specs.Acting.{ActCarries, IsPlanned, LeavesClients, SameClients, StaysSet, answer_to}
 use Rattle.desk.specs.Answers.{IsShortAnswer}
 use Rattle.floor_carrying.specs.declared.carried.Carried.{Carried}
@@ -31,7 +31,7 @@ use Rattle.floor_carrying.specs.Commands.{CarriesCommand, IsAccepted, IsLine, Is
 use Rattle.floor_carrying.proofs.Conditions.{at_accepted, can_fault}
 use Rattle.floor_carrying.proofs.Planning.{IsDid, planned_did}
 use Rattle.floor_carrying.proofs.Staying.{around_kept}
-use Rattle.floor_topics.proofs.Marks.{some_same}
+use Rattle.floor_members.proofs.Marks.{some_same}
 
 -- which command it isn't
 pub no_identify : (c : Command) → ((body : List ℕ) → c ≡ command.Identify body → ⊥) → IsNoIdentify c

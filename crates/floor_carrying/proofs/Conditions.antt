@@ -20,10 +20,10 @@ use Rattle.broker_history.specs.Step.{CanFault, is_error, ready_for, spoke}
 use Rattle.desk.specs.Calls.{IsAllowedBody, IsWhole}
 use Rattle.floor_rooms.specs.declared.hall.Hall.{Hall}
 use Rattle.floor_rooms.specs.Standing.{longest_delay}
-use Rattle.floor_replies.specs.Replies.{SaysOf, flies_in}
+use Rattle.floor_turns.specs.Replies.{SaysOf, flies_in}
 use Rattle.negotiation.specs.Said.{IsTimely, said}
 use Rattle.negotiation.specs.declared.identity.Identity.{Identity}
-use Rattle.floor_acts.specs.Acts.{DoesAt, FliesAt}
+use Rattle.floor_members.specs.Acts.{DoesAt, FliesAt}
 use Rattle.floor_carrying.specs.Commands.{IsAccepted}
 
 -- a reply that is chosen by a test, and is an error where that fails

@@ -5,3 +5,4 @@ pub mod Conditions
 pub mod Planning
 pub mod Returning
 pub mod Staying
+pub use Rattle.floor_turns.proofs.KeptNames

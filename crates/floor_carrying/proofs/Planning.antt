@@ -15,8 +15,8 @@ use Rattle.desk.specs.declared.call.Call.TheVariants as call
 use Rattle.negotiation.specs.declared.identity.Identity.{Identity}
 use Rattle.floor_rooms.specs.declared.hall.Hall.{Hall}
 use Rattle.floor_rooms.specs.Rooms.{client_in}
-use Rattle.floor_replies.specs.Replies.{reply_in}
-use Rattle.floor_words.specs.Plans.{IsCallsAct, IsNextAct, is_strange}
+use Rattle.floor_turns.specs.Replies.{reply_in}
+use Rattle.floor_turns.specs.Plans.{IsCallsAct, IsNextAct, is_strange}
 use Rattle.floor_turns.specs.Acting.{IsPlanned}
 use Rattle.floor_carrying.specs.Carrying.{IsLeft, IsNoCommand}
 

@@ -14,8 +14,8 @@ use Rattle.floor_rooms.specs.Sound.{IsSound}
 use Rattle.floor_rooms.proofs.Dating.{keeps_equal, since_kept}
 use Rattle.floor_rooms.proofs.Forming.{some_at}
 use Rattle.floor_rooms.proofs.Naming.{names_kept, names_then}
-use Rattle.floor_acts.specs.Acts.{ChangesAt}
-use Rattle.floor_acts.proofs.Putting.{found_at_place, put_at_place}
+use Rattle.floor_members.specs.Acts.{ChangesAt}
+use Rattle.floor_members.proofs.Putting.{found_at_place, put_at_place}
 use Rattle.floor_turns.specs.Acting.{SameClients, StaysSet}
 use Rattle.floor_turns.proofs.Carrying.{stays_same}
 use Rattle.floor_carrying.specs.Carrying.{Around, basis}

@@ -13,8 +13,8 @@ use Rattle.broker_history.specs.Step.{is_error}
 use Rattle.desk.specs.Calls.{IsWhole}
 use Rattle.negotiation.specs.declared.identity.Identity.{Identity}
 use Rattle.floor_rooms.specs.declared.hall.Hall.{Hall}
-use Rattle.floor_replies.specs.Replies.{IsShortFrame, SaysOf, reply_in}
-use Rattle.floor_acts.specs.Acts.{DoesAt}
+use Rattle.floor_turns.specs.Replies.{IsShortFrame, SaysOf, reply_in}
+use Rattle.floor_members.specs.Acts.{DoesAt}
 use Rattle.floor_turns.specs.Acting.{SameClients}
 use Rattle.floor_carrying.specs.declared.commanded.Commanded.{Commanded}
 use Rattle.floor_carrying.specs.declared.commanded.Commanded.TheVariants.{Done, Fault}

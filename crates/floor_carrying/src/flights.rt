@@ -3,7 +3,7 @@ ghost use Rattle.nsq_outside.specs.Files.{Files};
 ghost use Rattle.v2_frame.specs.declared.command.Command.TheVariants as command;
 ghost use Rattle.broker_history.specs.Reply.{disk_fault};
 ghost use Rattle.floor_rooms.specs.Sound.{IsSound};
-ghost use Rattle.floor_replies.specs.Replies.{IsShort};
+ghost use Rattle.floor_turns.specs.Replies.{IsShort};
 ghost use Rattle.floor_carrying.specs.Carrying.{basis};
 ghost use Rattle.floor_carrying.specs.Commands.{CarriesCommand, IsAccepted};
 
@@ -11,7 +11,7 @@ use crate::commanded::Commanded;
 use crate::replied::disk_fault;
 use crate::spans::span_of;
 use channel_core::Requeue;
-use floor_acts::{finish, requeue, touch};
+use floor_members::{finish, requeue, touch};
 use floor_rooms::Hall;
 use nsq_base::{Memory, MsgId, Steps};
 use nsq_outside::Folder;

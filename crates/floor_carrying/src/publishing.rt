@@ -10,9 +10,8 @@ ghost use Rattle.floor_carrying.specs.Commands.{CarriesCommand, IsAccepted, IsPu
 use crate::commanded::Commanded;
 use crate::replied::disk_fault;
 use crate::spans::span_of;
-use floor_acts::speak;
+use floor_members::{Published, publish, speak};
 use floor_rooms::Hall;
-use floor_topics::{Published, publish};
 use nsq_base::{Bodies, Body, Memory, Topic};
 use nsq_outside::Folder;
 use std::alloc::Global;

@@ -2,13 +2,13 @@ ghost use Rattle.std.specs.Prelude.{◌≡◌, ◌++◌, ◌≤◌, codes, lengt
 ghost use Rattle.nsq_outside.specs.declared.journal.End.TheVariants as end;
 ghost use Rattle.broker_history.specs.Reply.{disk_fault};
 ghost use Rattle.broker_history.specs.Step.{is_done, is_error};
-ghost use Rattle.floor_replies.specs.Replies.{IsShortFrame};
+ghost use Rattle.floor_turns.specs.Replies.{IsShortFrame};
 ghost use Rattle.floor_turns.specs.Acting.{answer_to};
 
 use crate::Carried;
 use broker_history::Said;
 use desk::Turned;
-use floor_replies::closes;
+use floor_turns::closes;
 use nsq_base::{Body, Memory};
 use nsq_outside::End;
 use std::alloc::Global;

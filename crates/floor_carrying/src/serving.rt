@@ -8,13 +8,12 @@ ghost use Rattle.floor_carrying.specs.Asks.{CarriesAsk, pauses};
 
 use crate::served::Served;
 use disk_queue::Emptied;
-use floor_changes::Lost;
-use floor_replies::are_left;
-use floor_rooms::Hall;
-use floor_topics::{
-    Deleted, Published, create, delete_channel, delete_topic, empty_channel, empty_topic, pause,
-    pause_channel, publish,
+use floor_members::{
+    Deleted, Lost, Published, create, delete_channel, delete_topic, empty_channel, empty_topic,
+    pause, pause_channel, publish,
 };
+use floor_rooms::Hall;
+use floor_turns::are_left;
 use nsq_base::{Bodies, Chan, Memory, Topic};
 use nsq_outside::Folder;
 

@@ -22,9 +22,9 @@ use Rattle.floor_rooms.specs.Sound.{IsSound}
 use Rattle.floor_rooms.specs.Standing.{Carries}
 use Rattle.floor_rooms.proofs.Dating.{keeps_same}
 use Rattle.floor_rooms.proofs.Forming.{some_at}
-use Rattle.floor_words.specs.Plans.{IsShortAct}
-use Rattle.floor_turns.specs.Acting.{ActCarries, IsNoted, LeavesClients, SameClients, StaysSet, answer_of, there_after}
-use Rattle.floor_turns.proofs.Carrying.{entry_of}
+use Rattle.floor_carrying.specs.Plans.{IsShortAct}
+use Rattle.floor_drawing.specs.Acting.{ActCarries, IsNoted, LeavesClients, SameClients, StaysSet, answer_of, there_after}
+use Rattle.floor_drawing.proofs.Carrying.{entry_of}
 use Rattle.floor_carrying.specs.declared.carried.Carried.{Carried}
 use Rattle.floor_carrying.specs.Carrying.{Around, Basis, CarriesOut, IsLeft, basis}
 use Rattle.floor_carrying.proofs.Staying.{around_same, stays_kept}

@@ -1,1 +1,10 @@
 pub mod Ticks
+pub use Rattle.floor_drawing.specs.Acting
+pub use Rattle.floor_drawing.specs.Turning
+pub use Rattle.floor_drawing.specs.Timely
+pub use Rattle.floor_drawing.specs.Turns
+pub use Rattle.floor_drawing.specs.Scenes
+pub use Rattle.floor_drawing.specs.Leads
+pub use Rattle.floor_drawing.specs.Moves
+pub use Rattle.floor_carrying.specs.Plans
+pub use Rattle.floor_drawing.specs.Flushing

@@ -4,15 +4,12 @@ ghost use Rattle.broker_history.specs.declared.entry.Act.TheVariants.{Beat, Bega
 ghost use Rattle.nsq_outside.specs.declared.journal.End.TheVariants as end;
 ghost use Rattle.floor_rooms.specs.Rooms.{client_in};
 ghost use Rattle.floor_rooms.specs.Sound.{IsSound};
-ghost use Rattle.floor_turns.specs.Acting.{answer_of};
+ghost use Rattle.floor_drawing.specs.Acting.{answer_of};
 ghost use Rattle.floor_carrying.specs.Carrying.{CarriesOut, IsLeft, basis};
 
 use broker_history::Act;
 use desk::Turned;
-use floor_acts::{beat, begin, stop};
-use floor_carrying::Carried;
-use floor_members::gone;
-use floor_replies::beat_frame;
+use floor_carrying::{Carried, beat, beat_frame, begin, gone, stop};
 use floor_rooms::Hall;
 use nsq_base::Memory;
 use nsq_outside::{End, Folder};

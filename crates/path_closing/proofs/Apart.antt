@@ -17,7 +17,7 @@ use Rattle.broker_history.specs.Left.{durable_channels, durable_topics, left_in_
 use Rattle.topic_core.specs.Laws.{OwnFilesStay}
 use Rattle.topic_core.specs.Rows.{FindsLeft}
 use Rattle.channel_core.specs.Seen.{queue_name}
-use Rattle.floor_saving.specs.Flushing.{FindsQueue, LeavesAll, LeavesBut, LeavesChannel, LeavesTopic, LeavesTopicBut}
+use Rattle.broker_floor.specs.Flushing.{FindsQueue, LeavesAll, LeavesBut, LeavesChannel, LeavesTopic, LeavesTopicBut}
 
 -- a file of a queue has another name than the file of names and its temporary, which are too short
 no_names : (name file : List ℕ) → IsOwnFile name file → (file ≢ data_name) × (file ≢ temp_name)

@@ -12,8 +12,8 @@ use Rattle.names_file.specs.Texts.{kept_of}
 use Rattle.floor_rooms.specs.declared.hall.Hall.{Hall}
 use Rattle.floor_rooms.specs.Kept.{hall_kept}
 use Rattle.floor_rooms.specs.Standing.{HoldsFor}
-use Rattle.floor_words.proofs.Keeping.{kept_alike}
-use Rattle.floor_saving.specs.Flushing.{LeavesAll, LeavesChannel, LeavesTopic}
+use Rattle.broker_floor.proofs.KeptNames.{kept_alike}
+use Rattle.broker_floor.specs.Flushing.{LeavesAll, LeavesChannel, LeavesTopic}
 use Rattle.path_closing.specs.Closings.{KeepsNames, Leaves, NamesAreThoseOfStates}
 
 -- channels that are found with all that was left of them

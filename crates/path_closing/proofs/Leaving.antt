@@ -15,7 +15,7 @@ use Rattle.floor_rooms.specs.declared.hall.Hall.{Hall}
 use Rattle.floor_rooms.specs.Changes.{OnlyQueueFiles}
 use Rattle.floor_rooms.specs.Kept.{hall_kept}
 use Rattle.floor_rooms.specs.Standing.{HoldsFor}
-use Rattle.floor_saving.specs.Flushing.{LeavesOthers, LeavesWhere}
+use Rattle.broker_floor.specs.Flushing.{LeavesOthers, LeavesWhere}
 use Rattle.broker_floor.specs.Ending.{FloorFlushFails}
 use Rattle.path_closing.specs.Closings.{HasNames, IsTextOf, KeepsNames, Leaves, NamesOrOneMore, NamesStay, OldOrNew, ShutFails, ShutsDown, WhereClean, WhereShutWants, WhereTried, shut_end}
 use Rattle.path_closing.specs.declared.shutting.ShutEnd.TheVariants as shut

@@ -15,7 +15,7 @@ use Rattle.broker_history.specs.Left.{IsAllLeft, kept_names}
 use Rattle.floor_rooms.specs.declared.hall.Hall.{Hall}
 use Rattle.floor_rooms.specs.Kept.{hall_kept}
 use Rattle.floor_rooms.specs.Standing.{HoldsFor}
-use Rattle.floor_saving.specs.Flushing.{LeavesBut}
+use Rattle.broker_floor.specs.Flushing.{LeavesBut}
 use Rattle.broker_floor.specs.Held.{Held}
 use Rattle.path_closing.specs.declared.saving.Saved.{Saved}
 use Rattle.path_closing.specs.declared.saving.Saved.TheVariants as saved

@@ -17,8 +17,8 @@ use Rattle.v2_frame.specs.declared.message.Message.{Message}
 use Rattle.v2_frame.proofs.MessageLemmas.{take_whole}
 use Rattle.path_image.specs.Data.{KeptChannel, KeptTopic}
 use Rattle.path_image.specs.Found.{FindsChannel, FindsTopic, FoundChannel, FoundTopic, HasMessages, IsRecordOf, Pairwise, queues_of}
-use Rattle.floor_opening.specs.Opened.{FindsQueue}
-use Rattle.floor_opening.proofs.Parting.{all_front}
+use Rattle.broker_floor.specs.Opened.{FindsQueue}
+use Rattle.broker_floor.proofs.Parting.{all_front}
 use Rattle.path_opening.specs.Adding.{FindsAll}
 use Rattle.path_opening.specs.Opening.{HaveBytes}
 

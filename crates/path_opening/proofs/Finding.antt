@@ -13,7 +13,7 @@ use Rattle.path_image.specs.Found.{BadData, EpochSpent, FindsChannel, FindsTopic
 use Rattle.path_image.specs.Found.IsFound.{fresh, spoilt, spent, bad_queue, names}
 use Rattle.path_image.proofs.FindingOnce.{names_once}
 use Rattle.floor_laws.proofs.Pairs.{pairs_become}
-use Rattle.floor_opening.specs.Opened.{IsBad}
+use Rattle.broker_floor.specs.Opened.{IsBad}
 use Rattle.names_file.specs.Texts.{kept_of}
 use Rattle.path_opening.specs.Opening.{FindsAgain, FindsNext, IsNamesFinding, KeepsIn}
 use Rattle.path_opening.specs.Opening.KeepsIn.{absent, written}

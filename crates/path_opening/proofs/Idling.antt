@@ -28,7 +28,7 @@ use Rattle.floor_rooms.specs.declared.stall.Stall.{Stall}
 use Rattle.floor_rooms.specs.Rooms.{channel_name, room_in, stall_at, stall_in, topic_name}
 use Rattle.floor_rooms.specs.Standing.{AreIdle, IsRoomOf, IsStallOf}
 use Rattle.floor_rooms.proofs.Staying.{room_named, stall_named}
-use Rattle.floor_opening.proofs.Parting.{name_apart}
+use Rattle.broker_floor.proofs.Parting.{name_apart}
 use Rattle.path_opening.specs.Adding.{IsElsewhere, OnlyFilesOf}
 use Rattle.path_opening.proofs.Orders.{Ascends, ascends, before_apart}
 

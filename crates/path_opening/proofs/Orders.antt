@@ -12,7 +12,7 @@ use Rattle.path_image.proofs.NameLists.{before_once}
 use Rattle.broker_history.specs.Found.{started, started_channel}
 use Rattle.broker_history.specs.State.{Channel, State, Topic, with_topic}
 use Rattle.topic_core.specs.Rows.{found_topic, paused_in}
-use Rattle.floor_opening.specs.Opened.{opened_topic, with_channels}
+use Rattle.broker_floor.specs.Opened.{opened_topic, with_channels}
 
 -- a name that comes before another isn't that one
 pub before_apart : (a b : List ℕ) → is_before a b ≡ true → bytes_eq b a ≡ false

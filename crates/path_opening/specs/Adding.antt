@@ -18,7 +18,7 @@ use Rattle.floor_rooms.specs.declared.hall.Hall.{Hall}
 use Rattle.floor_rooms.specs.declared.room.Room.{Room}
 use Rattle.floor_rooms.specs.Rooms.{put_room, room_in, topic_name}
 use Rattle.floor_rooms.specs.Standing.{HoldsFor, StandsFor}
-use Rattle.floor_opening.specs.Opened.{BadStays, FindsBack, FindsQueue, FindsThem, IsBad, ListsStay, NoneIsBad, OnlyTheirFiles, OpensTo, RefusesTopic}
+use Rattle.broker_floor.specs.Opened.{BadStays, FindsBack, FindsQueue, FindsThem, IsBad, ListsStay, NoneIsBad, OnlyTheirFiles, OpensTo, RefusesTopic}
 use Rattle.queue_sweep.specs.Swept.{HasOnlyListed, IsSweptTo}
 use Rattle.queue_sweep.specs.declared.unswept.Unswept.{Unswept}
 use Rattle.queue_sweep.specs.declared.unswept.Unswept.TheVariants as unswept

@@ -2,17 +2,16 @@
 
 ghost use Rattle.std.specs.Prelude.{◌≡◌, false};
 ghost use Rattle.nsq_base.specs.Options.{IsInRange};
-ghost use Rattle.broker_floor.specs.Floors.{flushed_of};
+ghost use Rattle.path_closing.specs.Floors.{flushed_of};
 
 use crate::answers::put_answer;
 use crate::calls::{call_of, parted};
 use crate::outside::Noted;
 use crate::texts::{put, put_number};
-use broker_floor::Floor;
 use nsq_base::{Memory, Options};
 use nsq_fakes::{MemClock, MemFolder};
 use nsq_outside::Kit;
-use path_closing::{Saved, ShutEnd, save, shut};
+use path_closing::{Floor, Saved, ShutEnd, save, shut};
 use path_opening::{Refused, Why, open};
 use std::alloc::Global;
 

@@ -2,8 +2,8 @@ use Rattle.std.proofs.Common.{◌≡◌, subst, sym, ap}
 use Rattle.nsq_outside.specs.Files.{Files}
 use Rattle.std.specs.Prelude.{IsTrue}
 use Rattle.floor_rooms.specs.Standing.{Carries}
-use Rattle.floor_topics.specs.Publishing.{PublishFails, Publishes}
-use Rattle.floor_topics.specs.declared.published.Published.{Published}
+use Rattle.floor_members.specs.Publishing.{PublishFails, Publishes}
+use Rattle.floor_members.specs.Published.{Published}
 use Rattle.floor_carrying.proofs.Bodies.{in_range, publish_done, publish_fault, publish_not}
 use Rattle.floor_carrying.proofs.publishing.publish_as.Goals as goal
 

@@ -1,6 +1,6 @@
 use Rattle.std.proofs.Common.{sym, ◌∙◌}
-use Rattle.floor_moves.specs.Moves.{sight}
-use Rattle.floor_turns.proofs.Whole.{turn_strange, turn_stopped, turn_wants, turn_served, serves_here, not_false}
+use Rattle.floor_drawing.specs.Moves.{sight}
+use Rattle.floor_drawing.proofs.Whole.{turn_strange, turn_stopped, turn_wants, turn_served, serves_here, not_false}
 use Rattle.floor_serving.proofs.serving.turn_at.Goals as goal
 
 pub returns-then-is_strange-clause-turn : goal.returns-then-is_strange-clause-turn

@@ -2,7 +2,7 @@ use Rattle.std.proofs.Common.{◌≡◌, ◌∙◌, false, List, ℕ, Bool, ap, 
 use Rattle.std.specs.List.{All}
 use Rattle.nsq_base.specs.Name.{is_ephemeral}
 use Rattle.path_image.specs.Data.{KeptChannel, KeptTopic}
-use Rattle.floor_opening.specs.Opened.{AreApart}
+use Rattle.broker_floor.specs.Opened.{AreApart}
 use Rattle.broker_floor.specs.Floors.{faults_of, files_of, hall_of}
 use Rattle.path_opening.specs.Adding.{IsNotOne, pauses}
 use Rattle.path_opening.proofs.Joining.{adds_of, apart_pauses, durable_pauses, puts_of, refused_of}

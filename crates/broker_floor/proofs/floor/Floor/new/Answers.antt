@@ -4,7 +4,7 @@ use Rattle.nsq_base.specs.declared.options.Options.{Options}
 use Rattle.floor_rooms.specs.declared.hall.Hall.{Hall}
 use Rattle.floor_rooms.specs.Made.{IsEmptyHall, empty_state}
 use Rattle.floor_rooms.specs.Standing.{HoldsFor, StandsFor}
-use Rattle.floor_turns.specs.Scenes.{IsTied}
+use Rattle.floor_serving.specs.Scenes.{IsTied}
 use Rattle.broker_floor.specs.Held.{Held}
 use Rattle.broker_floor.proofs.Holding.{tied_new}
 use Rattle.broker_floor.proofs.floor.Floor.new.Goals as goal

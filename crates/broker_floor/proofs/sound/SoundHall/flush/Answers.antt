@@ -3,7 +3,7 @@ use Rattle.std.proofs.lemmas.Bool.{false≢true}
 use Rattle.floor_rooms.specs.declared.hall.Hall.{Hall}
 use Rattle.floor_rooms.specs.Kept.{hall_kept}
 use Rattle.floor_rooms.specs.Standing.{HoldsFor}
-use Rattle.floor_saving.specs.Flushing.{LeavesOthers}
+use Rattle.floor_serving.specs.Flushing.{LeavesOthers}
 use Rattle.broker_floor.specs.Held.{Held}
 use Rattle.broker_floor.proofs.sound.SoundHall.flush.Goals as goal
 

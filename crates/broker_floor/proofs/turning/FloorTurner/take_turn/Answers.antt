@@ -1,7 +1,7 @@
 use Rattle.std.proofs.Common.{◌∙◌, [], refl, sym, inl}
 use Rattle.std.proofs.lemmas.List.{append-nil}
-use Rattle.floor_turns.proofs.Following.{leads_stay}
-use Rattle.floor_turns.proofs.Leading.{turn_leads}
+use Rattle.floor_serving.proofs.Following.{leads_stay}
+use Rattle.floor_serving.proofs.Leading.{turn_leads}
 use Rattle.broker_floor.proofs.Answering.{memory_is, nothing_is}
 use Rattle.broker_floor.proofs.turning.FloorTurner.take_turn.Goals as goal
 

@@ -16,8 +16,6 @@ mod hosts;
 #[cfg(test)]
 mod judged;
 #[cfg(test)]
-mod program;
-#[cfg(test)]
 mod random;
 #[cfg(test)]
 mod rows;

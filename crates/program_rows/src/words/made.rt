@@ -1,7 +1,7 @@
 //! Words that are made: none at all, and long texts.
 
-use crate::program::same;
-use crate::program::words::told::told;
+use crate::same;
+use crate::words::told::told;
 use nsq_base::Memory;
 use nsqd_words::{Request, read_words};
 use std::alloc::Global;

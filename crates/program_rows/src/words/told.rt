@@ -1,6 +1,6 @@
 //! What a request tells, as a text.
 
-use crate::program::same;
+use crate::same;
 use itoa::Buffer;
 use nsq_base::{Memory, Options};
 use nsqd_words::Request;

@@ -1,7 +1,7 @@
 //! Whether a row holds.
 
-use crate::program::same;
-use crate::program::words::told::told;
+use crate::same;
+use crate::words::told::told;
 use nsq_base::Memory;
 use nsqd_words::read_words;
 use std::alloc::Global;

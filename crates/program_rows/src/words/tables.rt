@@ -1,7 +1,7 @@
 //! All tables together.
 
-use crate::program::words::held::holds;
-use crate::program::words::{drills, durations, numbers, others, texts};
+use crate::words::held::holds;
+use crate::words::{drills, durations, numbers, others, texts};
 use std::test::Fail;
 
 // The tables.

@@ -3,7 +3,7 @@
 ghost use Rattle.std.specs.Prelude.{IfOk, IsSome};
 ghost use Rattle.nsq_fakes.specs.MemHosts.{state_of};
 
-use crate::program::same;
+use crate::same;
 use broker_history::Entry;
 use daemon_main::nsqd_run;
 use nsq_base::Memory;

@@ -2,9 +2,7 @@
 //! those of a state to which a step leads from one that was possible before. There is nothing here but tests.
 
 mod beside;
-mod calls;
 mod channels;
-mod dice;
 mod entries;
 mod files;
 mod possible;

@@ -2,6 +2,8 @@
 #![tactic(auto)]
 
 #[cfg(test)]
+mod answers;
+#[cfg(test)]
 mod broker;
 #[cfg(test)]
 mod calls;
@@ -13,6 +15,8 @@ mod memory;
 mod plain;
 #[cfg(test)]
 mod random;
+#[cfg(test)]
+mod runs;
 #[cfg(test)]
 mod script;
 #[cfg(test)]

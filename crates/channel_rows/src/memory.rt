@@ -1,24 +1,21 @@
 //! Where memory is wanting: with `rt try --test --fail-alloc N` the Nth allocation fails, for each N in turn. A call that is refused for it
 //! leaves the channel and its files as they were, and succeeds when it is made again.
 
-ghost use Rattle.std.specs.Prelude.{◌≡◌, ◌≤◌, ◌<◌, ◌^◌, length};
-ghost use Rattle.channel_rows.specs.Served.{IsServed};
+ghost use Rattle.std.specs.Prelude.{◌≡◌, ◌≤◌, ◌<◌, ◌^◌};
 
-use crate::calls::{
-    Given, MINUTE, Offered, Then, Who, events, finish, give, look, make_stage, message, offer,
-    places, ready, scratch, set_up,
-};
-use channel_core::{Channel, Counts, Look};
+use crate::answers::{Given, Offered, events, given_as, id_of, offered_as, places};
+use crate::calls::{MINUTE, Scratch, Setup, Stage, Who, defaults, end, message, served};
+use channel_core::{Counts, Look};
 use nsq_base::{Memory, Steps};
 use nsq_fakes::MemFolder;
 use std::alloc::Global;
 use std::marker::Brand;
+use std::process::Abort;
 use std::sync::ledger::{Blank, Ledger};
-use std::test::Fail;
 
 // What is told of a channel and its files.
 #[derive(Clone, Copy, PartialEq, Eq)]
-struct Sight {
+struct View {
     counts: Counts,
     first: Look,
     second: Look,
@@ -29,16 +26,17 @@ struct Sight {
     meta: u64,
 }
 
-impl Sight {
-    fn of(channel: &Channel, folder: &MemFolder) -> Sight {
-        Sight {
+impl View {
+    fn of(stage: &Stage) -> View {
+        let channel = &stage.channel;
+        View {
             counts: channel.counts(),
-            first: look(channel, Who::First, 0),
-            second: look(channel, Who::First, 1),
+            first: channel.look(Who::First.client(), id_of(0)),
+            second: channel.look(Who::First.client(), id_of(1)),
             soon: channel.due(MINUTE - 1).is_some(),
             late: channel.due(MINUTE).is_some(),
-            data: sum_of(folder, "t:c.diskqueue.000000.dat"),
-            meta: sum_of(folder, "t:c.diskqueue.meta.dat"),
+            data: sum_of(&stage.folder, "t:c.diskqueue.000000.dat"),
+            meta: sum_of(&stage.folder, "t:c.diskqueue.meta.dat"),
         }
     }
 }
@@ -61,52 +59,58 @@ fn sum_of(folder: &MemFolder, name: &str) -> u64 {
 // Whether a message of this number joins, at the first try, or at the second where the first one wanted memory. The folder wants some too, and
 // then it fails.
 fn joins<L: Ledger>(
-    alloc: Global,
-    channel: &mut Channel,
-    folder: &mut MemFolder,
-    scratch: &mut [u8],
+    stage: &mut Stage,
+    scratch: &mut Scratch,
     number: u8,
     delay: u64,
     steps: &mut Steps<L>,
 ) -> Result<bool, Memory>
-    requires served { IsServed channel.old }
-    requires delay { delay ≤ 2 ^ 62 }
-    requires scratch { 16777242 ≤ length scratch.old }
-    ensures { IsServed channel.new }
+    requires { delay ≤ 2 ^ 62 }
 {
-    let before = Sight::of(channel, folder);
-    let first = message(alloc, number, b'm', 0, delay)?;
-    let again = message(alloc, number, b'm', 0, delay)?;
-    let refused = match offer(channel, folder, scratch, first, 0, steps) {
+    let before = View::of(stage);
+    let refused = match offers(stage, scratch, number, delay, steps)? {
         Offered::Done => return Ok(true),
         Offered::Memory => delay != 0,
         Offered::Fault => delay == 0,
         Offered::Other => false,
     };
-    let same = Sight::of(channel, folder) == before;
-    Ok(refused && same && offer(channel, folder, scratch, again, 0, steps) == Offered::Done)
+    if !refused || View::of(stage) != before {
+        return Ok(false);
+    }
+    Ok(offers(stage, scratch, number, delay, steps)? == Offered::Done)
+}
+
+// Offers a message of this number.
+fn offers<L: Ledger>(
+    stage: &mut Stage,
+    scratch: &mut Scratch,
+    number: u8,
+    delay: u64,
+    steps: &mut Steps<L>,
+) -> Result<Offered, Memory>
+    requires { delay ≤ 2 ^ 62 }
+{
+    let id = id_of(number);
+    let message = message(stage.setup.alloc, id, b'm', 0, delay)?;
+    let took = stage.offer(scratch, message, 0, steps);
+    Ok(offered_as(took, id, delay))
 }
 
 // Whether the first client gets this, at the first try, or at the second where the first one wanted memory.
 fn gets<L: Ledger>(
-    channel: &mut Channel,
-    folder: &mut MemFolder,
-    scratch: &mut [u8],
-    then: Then,
-    given: Given,
+    stage: &mut Stage,
+    scratch: &mut Scratch,
+    settles: bool,
+    wanted: Given,
     steps: &mut Steps<L>,
-) -> bool
-    requires served { IsServed channel.old }
-    requires scratch { 16777242 ≤ length scratch.old }
-    ensures { IsServed channel.new }
-{
-    let before = Sight::of(channel, folder);
-    match give(channel, folder, scratch, Who::First, 0, then, steps) {
+) -> bool {
+    let before = View::of(stage);
+    match given_as(stage.give(scratch, Who::First, 0, settles, steps)) {
         Given::Memory | Given::Fault => {}
-        answer => return answer == given,
+        answer => return answer == wanted,
     }
-    let same = Sight::of(channel, folder) == before;
-    same && give(channel, folder, scratch, Who::First, 0, then, steps) == given
+    let same = View::of(stage) == before;
+    same && given_as(stage.give(scratch, Who::First, 0, settles, steps)) == wanted
 }
 
 // How many queued copies the channels keep in memory.
@@ -114,97 +118,127 @@ static ROOMS: [u64; 3] = [0, 1, 3];
 
 // Whether the calls of a channel hold that keeps so many queued copies in memory.
 fn holds<L: Ledger>(
+    rt: &impl Abort,
     alloc: Global,
-    scratch: &mut [u8],
+    scratch: &mut Scratch,
     memory: u64,
     steps: &mut Steps<L>,
-) -> Result<bool, Memory>
-    requires { 16777242 ≤ length scratch.old }
-{
-    let folder = MemFolder::new(alloc, Vec::new(alloc), Vec::new(alloc))?;
-    let Some(setup) = set_up(alloc, b"c", memory)? else {
-        return Ok(false);
-    };
-    let mut stage = make_stage(alloc, setup, folder)?;
-    calls_hold(alloc, &mut stage.channel, &mut stage.folder, scratch, steps)
+) -> Result<bool, Memory> {
+    let mut stage = made(rt, alloc, memory)?;
+    let held = calls_hold(&mut stage, scratch, steps);
+    end(stage);
+    held
 }
+
+// A channel that keeps so many queued copies in memory, in an empty folder.
+fn made(rt: &impl Abort, alloc: Global, memory: u64) -> Result<Stage, Memory> {
+    let options = defaults(alloc, memory)?;
+    let setup = Setup::new(rt, alloc, b"c", options);
+    let folder = MemFolder::new(alloc, Vec::new(alloc), Vec::new(alloc));
+    match folder {
+        Ok(folder) => staged(setup, folder),
+        Err(Memory) => Err(Memory),
+    }
+}
+
+fn staged(setup: Setup, folder: MemFolder) -> Result<Stage, Memory> {
+    match served(&setup) {
+        Ok(channel) => Ok(Stage {
+            setup,
+            channel,
+            folder,
+        }),
+        Err(Memory) => Err(Memory),
+    }
+}
+
+// A call of a channel, whose first client may have three copies in flight.
+#[derive(Clone, Copy)]
+enum Call {
+    // A message of this number joins, with this delay.
+    Joins(u8, u64),
+    // The client gets this, and it is put back.
+    PutsBack(Given),
+    // The client gets this.
+    Gets(Given),
+}
+
+// The second copy of a number is held back.
+static CALLS: [Call; 6] = [
+    Call::Joins(0, 0),
+    Call::Joins(1, MINUTE),
+    Call::PutsBack(Given::Send(0, b'm', 1)),
+    Call::Gets(Given::Send(0, b'm', 1)),
+    Call::Joins(0, 0),
+    Call::Gets(Given::Held(0)),
+];
 
 fn calls_hold<L: Ledger>(
-    alloc: Global,
-    channel: &mut Channel,
-    folder: &mut MemFolder,
-    scratch: &mut [u8],
+    stage: &mut Stage,
+    scratch: &mut Scratch,
     steps: &mut Steps<L>,
-) -> Result<bool, Memory>
-    requires served { IsServed channel.old }
-    requires scratch { 16777242 ≤ length scratch.old }
-{
-    let sent = Given::Send(0, b'm', 1);
-    ready(channel, Who::First, 3);
-    Ok(
-        joins(alloc, channel, folder, scratch, 0, 0, steps)?
-            && joins(alloc, channel, folder, scratch, 1, MINUTE, steps)?
-            && gets(channel, folder, scratch, Then::Undo, sent, steps)
-            && gets(channel, folder, scratch, Then::Settle, sent, steps)
-            && joins(alloc, channel, folder, scratch, 0, 0, steps)?
-            && are_held(channel, folder, scratch, steps),
-    )
+) -> Result<bool, Memory> {
+    stage.ready(Who::First, 3);
+    for call in &CALLS {
+        if !call_holds(stage, scratch, *call, steps)? {
+            return Ok(false);
+        }
+    }
+    Ok(are_counted(stage, steps))
 }
 
-// Whether the second copy is held back; then the first one is finished, and nothing else was counted.
-fn are_held<L: Ledger>(
-    channel: &mut Channel,
-    folder: &mut MemFolder,
-    scratch: &mut [u8],
+fn call_holds<L: Ledger>(
+    stage: &mut Stage,
+    scratch: &mut Scratch,
+    call: Call,
     steps: &mut Steps<L>,
-) -> bool
-    requires served { IsServed channel.old }
-    requires scratch { 16777242 ≤ length scratch.old }
-{
-    let held = gets(
-        channel,
-        folder,
-        scratch,
-        Then::Settle,
-        Given::Held(0),
-        steps,
-    );
-    if !held || !finish(channel, Who::First, 0, steps) {
+) -> Result<bool, Memory> {
+    match call {
+        Call::Joins(number, delay) => joins(stage, scratch, number, delay.min(MINUTE), steps),
+        Call::PutsBack(given) => Ok(gets(stage, scratch, false, given, steps)),
+        Call::Gets(given) => Ok(gets(stage, scratch, true, given, steps)),
+    }
+}
+
+// Whether the first copy is finished then, and nothing else was counted.
+fn are_counted<L: Ledger>(stage: &mut Stage, steps: &mut Steps<L>) -> bool {
+    if !stage.finish(Who::First, id_of(0), steps) {
         return false;
     }
-    let counts = channel.counts();
+    let counts = stage.channel.counts();
     places(counts) == (0, 0, 0, 2) && events(counts) == (3, 0, 0)
 }
 
-// Whether all holds. What wants memory before the calls or between them ends it.
-fn all_hold<L: Ledger>(alloc: Global, blank: Blank) -> bool
+// Whether all holds. What wants memory before the calls or between them ends those of a channel.
+fn all_hold<R: Abort, L: Ledger>(rt: &R, alloc: Global, blank: Blank) -> bool
     requires name { blank.name ≡ L.name }
     requires parts { blank.parts ≡ L.parts }
     requires some { 0 < L.parts }
 {
-    let Ok(mut scratch) = scratch(alloc) else {
+    let Ok(mut scratch) = Scratch::new(alloc) else {
         return true;
     };
     let mut steps: Steps<L> = Steps::new(blank);
-    each_holds(alloc, &mut scratch, &mut steps)
+    each_holds(rt, alloc, &mut scratch, &mut steps)
 }
 
-fn each_holds<L: Ledger>(alloc: Global, scratch: &mut [u8], steps: &mut Steps<L>) -> bool
-    requires { 16777242 ≤ length scratch.old }
-{
+fn each_holds<L: Ledger>(
+    rt: &impl Abort,
+    alloc: Global,
+    scratch: &mut Scratch,
+    steps: &mut Steps<L>,
+) -> bool {
     for memory in &ROOMS {
-        match holds(alloc, scratch, *memory, steps) {
-            Ok(true) => {}
+        match holds(rt, alloc, scratch, *memory, steps) {
+            Ok(true) | Err(Memory) => {}
             Ok(false) => return false,
-            Err(Memory) => return true,
         }
     }
     true
 }
 
 #[test]
-fn a_refused_call_leaves_all_as_it_was(rt: HostRuntime) -> Result<(), Fail> {
-    let hold = all_hold::<Brand>(rt.alloc(), Blank::new(1));
+fn a_refused_call_leaves_all_as_it_was(rt: HostRuntime) {
+    let hold = all_hold::<_, Brand>(&rt, rt.alloc(), Blank::new(1));
     assert!(rt; hold);
-    Ok(())
 }

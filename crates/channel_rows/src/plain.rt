@@ -1,9 +1,11 @@
 //! A channel as one plain list of copies, by the rules of the floor alone.
 
-use crate::calls::{FIRST_TIME, MINUTE, SECOND_TIME, Who};
+use crate::answers::Given;
+use crate::calls::{FIRST_TIME, SECOND_TIME, Who};
+use crate::runs::{HELD, MOST};
 use channel_core::Look;
-use nsq_base::Memory;
 use std::alloc::Global;
+use std::process::Abort;
 
 /// Where a copy is.
 #[derive(Clone, Copy)]
@@ -36,12 +38,6 @@ pub struct Plain {
     pub requeued: u64,
     pub timed_out: u64,
 }
-
-/// How long a copy that is held back is deferred: 20 s.
-pub const HELD: u64 = MINUTE / 3;
-
-/// A copy in flight is due back no later than so long after its sending: 100 s.
-pub const MOST: u64 = 5 * HELD;
 
 impl Plain {
     pub fn new(alloc: Global, ephemeral: bool, memory: u64) -> Plain {
@@ -143,53 +139,78 @@ impl Plain {
     }
 
     /// A message joins.
-    pub fn offer(&mut self, number: u8, delay: u64, now: u64) -> Result<(), Memory> {
+    pub fn offer(&mut self, rt: &impl Abort, number: u8, delay: u64, now: u64) {
         let copy = Kept {
             number,
             attempts: 0,
             place: Place::Queued,
         };
-        if self.put(copy, delay, now)? {
+        if self.put(rt, copy, delay, now) {
             self.joined = self.joined.saturating_add(1);
         }
-        Ok(())
     }
 
-    /// Whether a queued copy of this number, one attempt before these, could be sent to the client. Then it is.
-    pub fn send(&mut self, who: Who, number: u8, attempts: u16, now: u64) -> Result<bool, Memory> {
-        if !self.has_credit(who) || self.paused || self.with(number).is_some() {
-            return Ok(false);
+    // Whether the client may be sent a copy, if there is one.
+    fn is_open(&self, who: Who) -> bool {
+        !self.paused && self.has_credit(who)
+    }
+
+    /// Whether a queued copy of this number, one attempt before these, could be sent to the client.
+    pub fn may_send(&self, who: Who, number: u8, attempts: u16) -> bool {
+        self.is_open(who)
+            && self.with(number).is_none()
+            && self.queued_at(number, Some(attempts)).is_some()
+    }
+
+    /// The same; then it is.
+    pub fn send(&mut self, rt: &impl Abort, who: Who, number: u8, attempts: u16, now: u64) -> bool {
+        if !self.may_send(who, number, attempts) {
+            return false;
         }
-        let Some(copy) = self.take_queued(number, Some(attempts)) else {
-            return Ok(false);
-        };
-        self.copies.push(Kept {
-            number: copy.number,
+        if let Some(copy) = self.take_queued(number, Some(attempts)) {
+            let due = now.saturating_add(time_of(who));
+            self.fly(rt, who, copy.number, attempts, due, now);
+        }
+        true
+    }
+
+    // A copy of this number and attempts is with the client from now on, until it is due.
+    fn fly(&mut self, rt: &impl Abort, who: Who, number: u8, attempts: u16, due: u64, sent: u64) {
+        let copy = Kept {
+            number,
             attempts,
-            place: Place::InFlight(who, now.saturating_add(time_of(who)), now),
-        })?;
-        Ok(true)
+            place: Place::InFlight(who, due, sent),
+        };
+        self.copies.push(copy).expect(rt, "memory");
     }
 
-    /// Whether a queued copy of this number, one attempt before these, could be sent as far as its id goes.
-    pub fn may_send(&self, number: u8, attempts: u16) -> bool {
-        self.with(number).is_none() && self.queued_at(number, Some(attempts)).is_some()
+    /// Whether a queued copy of this number has to be held back from the client.
+    pub fn may_hold(&self, who: Who, number: u8) -> bool {
+        self.is_open(who) && self.with(number).is_some() && self.queued_at(number, None).is_some()
     }
 
-    /// Whether there is a queued copy of this number that can't be sent.
-    pub fn may_hold(&self, number: u8) -> bool {
-        self.with(number).is_some() && self.queued_at(number, None).is_some()
-    }
-
-    /// Whether a queued copy of this number had to be held back. Then it is.
-    pub fn hold(&mut self, who: Who, number: u8, now: u64) -> Result<bool, Memory> {
-        if !self.has_credit(who) || self.paused || self.with(number).is_none() {
-            return Ok(false);
+    /// The same; then it is.
+    pub fn hold(&mut self, rt: &impl Abort, who: Who, number: u8, now: u64) -> bool {
+        if !self.may_hold(who, number) {
+            return false;
         }
         let Some(copy) = self.take_queued(number, None) else {
-            return Ok(false);
+            return false;
         };
-        self.put(copy, HELD, now)
+        self.put(rt, copy, HELD, now)
+    }
+
+    /// Whether this is why the client is given nothing.
+    pub fn is_why(&self, fails: bool, who: Who, given: Given) -> bool {
+        match given {
+            Given::NoCredit => !self.has_credit(who),
+            Given::Paused => self.has_credit(who) && self.paused,
+            Given::NoneQueued => self.is_open(who) && self.places().0 == 0,
+            Given::Fault => {
+                fails && !self.ephemeral && self.is_open(who) && self.places().0 != 0
+            }
+            _ => false,
+        }
     }
 
     /// Whether the client has the copy of this number in flight. Then it is finished.
@@ -198,38 +219,34 @@ impl Plain {
     }
 
     /// Whether the client has the copy of this number in flight. Then it gets more time.
-    pub fn touch(&mut self, who: Who, number: u8, now: u64) -> Result<bool, Memory> {
+    pub fn touch(&mut self, rt: &impl Abort, who: Who, number: u8, now: u64) -> bool {
         let Some((copy, sent)) = self.take_flying(who, number) else {
-            return Ok(false);
+            return false;
         };
         let due = now
             .saturating_add(time_of(who))
             .min(sent.saturating_add(MOST));
-        self.copies.push(Kept {
-            number,
-            attempts: copy.attempts,
-            place: Place::InFlight(who, due, sent),
-        })?;
-        Ok(true)
+        self.fly(rt, who, number, copy.attempts, due, sent);
+        true
     }
 
     /// Whether the client has the copy of this number in flight. Then it is given back.
-    pub fn requeue(&mut self, who: Who, number: u8, delay: u64, now: u64) -> Result<bool, Memory> {
+    pub fn requeue(&mut self, rt: &impl Abort, who: Who, number: u8, delay: u64, now: u64) -> bool {
         let Some((copy, _sent)) = self.take_flying(who, number) else {
-            return Ok(false);
+            return false;
         };
-        let _kept = self.put(copy, delay, now)?;
+        let _kept = self.put(rt, copy, delay, now);
         self.requeued = self.requeued.saturating_add(1);
-        Ok(true)
+        true
     }
 
     /// Whether the client has the copy of this number in flight. It couldn't be given back, and came to its place anew.
-    pub fn stay(&mut self, who: Who, number: u8) -> Result<bool, Memory> {
+    pub fn stay(&mut self, rt: &impl Abort, who: Who, number: u8) -> bool {
         let Some((copy, _sent)) = self.take_flying(who, number) else {
-            return Ok(false);
+            return false;
         };
-        self.copies.push(copy)?;
-        Ok(true)
+        self.copies.push(copy).expect(rt, "memory");
+        true
     }
 
     /// When the next copy is due.
@@ -264,33 +281,33 @@ impl Plain {
     }
 
     /// Whether the copy that is due first is in flight and has this number. Then it is put back.
-    pub fn time_out(&mut self, number: u8, now: u64) -> Result<bool, Memory> {
+    pub fn time_out(&mut self, rt: &impl Abort, number: u8, now: u64) -> bool {
         let Some(copy) = self.take_first(now) else {
-            return Ok(false);
+            return false;
         };
         let flew = matches!(copy.place, Place::InFlight(_, _, _));
-        let _kept = self.put(copy, 0, now)?;
+        let _kept = self.put(rt, copy, 0, now);
         self.timed_out = self.timed_out.saturating_add(1);
-        Ok(flew && copy.number == number)
+        flew && copy.number == number
     }
 
     /// Whether the copy that is due first is deferred and has this number. Then it is put back.
-    pub fn come_due(&mut self, number: u8, now: u64) -> Result<bool, Memory> {
+    pub fn come_due(&mut self, rt: &impl Abort, number: u8, now: u64) -> bool {
         let Some(copy) = self.take_first(now) else {
-            return Ok(false);
+            return false;
         };
         let waited = matches!(copy.place, Place::Deferred(_));
-        let _kept = self.put(copy, 0, now)?;
-        Ok(waited && copy.number == number)
+        let _kept = self.put(rt, copy, 0, now);
+        waited && copy.number == number
     }
 
     /// Whether the copy that is due first has this number. It couldn't be put back, and came to its place anew.
-    pub fn stay_due(&mut self, number: u8, now: u64) -> Result<bool, Memory> {
+    pub fn stay_due(&mut self, rt: &impl Abort, number: u8, now: u64) -> bool {
         let Some(copy) = self.take_first(now) else {
-            return Ok(false);
+            return false;
         };
-        self.copies.push(copy)?;
-        Ok(copy.number == number)
+        self.copies.push(copy).expect(rt, "memory");
+        copy.number == number
     }
 
     /// All copies are gone.
@@ -311,22 +328,30 @@ impl Plain {
         self.timed_out = 0;
     }
 
+    /// What a deletion leaves.
+    pub fn delete(&mut self) {
+        self.empty();
+        self.restart();
+    }
+
     // Puts a copy where it waits; false where it is dropped.
-    fn put(&mut self, copy: Kept, delay: u64, now: u64) -> Result<bool, Memory> {
+    fn put(&mut self, rt: &impl Abort, copy: Kept, delay: u64, now: u64) -> bool {
         let place = if delay == 0 {
             if self.ephemeral && self.memory <= self.places().0 {
-                return Ok(false);
+                return false;
             }
             Place::Queued
         } else {
             Place::Deferred(now.saturating_add(delay))
         };
-        self.copies.push(Kept {
-            number: copy.number,
-            attempts: copy.attempts,
-            place,
-        })?;
-        Ok(true)
+        self.copies
+            .push(Kept {
+                number: copy.number,
+                attempts: copy.attempts,
+                place,
+            })
+            .expect(rt, "memory");
+        true
     }
 
     // Takes a queued copy of this number out, one attempt before these where some are given.

@@ -1,23 +1,19 @@
 //! Scripts of calls of a channel over a folder in memory: what each call answers, what the channel counts then, and what its files have.
 
-ghost use Rattle.std.specs.Prelude.{◌≡◌, ◌≤◌, ◌<◌, length, OnOk};
-ghost use Rattle.channel_rows.specs.Served.{IsServed};
+ghost use Rattle.std.specs.Prelude.{◌≡◌, ◌<◌};
 
-use crate::calls::{
-    Came, Given, Offered, Opened, Setup, Stage, Then, Who, come_again, delete, events, finish,
-    give, look, make_stage, message, move_due, offer, open, places, ready, requeue, scratch,
-    set_up, touch,
-};
+use crate::answers::{Came, Given, Offered, came_as, events, given_as, id_of, offered_as, places};
+use crate::calls::{Opened, Scratch, Setup, Stage, Who, defaults, end};
 use crate::{sending, storing};
 use backlog::Flushed;
-use channel_core::{Channel, Look, Requeue};
+use channel_core::{Look, Requeue};
 use disk_queue::{Emptied, Sync};
-use nsq_base::{Memory, Steps};
+use nsq_base::Steps;
 use nsq_fakes::{Failing, MemFolder};
 use std::alloc::Global;
 use std::marker::Brand;
+use std::process::Abort;
 use std::sync::ledger::{Blank, Ledger};
-use std::test::Fail;
 
 /// A channel whose clients asked for no message yet, and calls of it.
 pub struct Script {
@@ -82,189 +78,165 @@ const META: &str = "t:c.diskqueue.meta.dat";
 
 // Whether each step answers what it says.
 fn holds<L: Ledger>(
+    rt: &impl Abort,
     alloc: Global,
-    scratch: &mut [u8],
+    scratch: &mut Scratch,
     script: &Script,
     steps: &mut Steps<L>,
-) -> Result<bool, Memory>
-    requires { 16777242 ≤ length scratch.old }
-{
-    let folder = folder_of(alloc, script)?;
-    let Some(setup) = set_up(alloc, script.channel, script.memory)? else {
-        return Ok(false);
-    };
-    let mut stage = make_stage(alloc, setup, folder)?;
-    steps_hold(alloc, &mut stage, scratch, script.steps, steps)
+) -> bool {
+    let options = defaults(alloc, script.memory).expect(rt, "memory");
+    let setup = Setup::new(rt, alloc, script.channel, options);
+    let mut stage = Stage::new(rt, setup, folder_of(rt, alloc, script));
+    let held = steps_hold(rt, &mut stage, scratch, script.steps, steps);
+    end(stage);
+    held
 }
 
 fn steps_hold<L: Ledger>(
-    alloc: Global,
+    rt: &impl Abort,
     stage: &mut Stage,
-    scratch: &mut [u8],
+    scratch: &mut Scratch,
     script: &[Step],
     steps: &mut Steps<L>,
-) -> Result<bool, Memory>
-    requires served { IsServed stage.old.channel }
-    requires scratch { 16777242 ≤ length scratch.old }
-{
+) -> bool {
     if stage.channel.name() != stage.setup.name {
-        return Ok(false);
+        return false;
     }
     for step in script {
-        if !step_holds(
-            alloc,
-            &stage.setup,
-            &mut stage.channel,
-            &mut stage.folder,
-            scratch,
-            *step,
-            steps,
-        )? {
-            return Ok(false);
+        if !step_holds(rt, stage, scratch, *step, steps) {
+            return false;
         }
     }
-    Ok(true)
+    true
 }
 
 // The folder that a script begins with.
-fn folder_of(alloc: Global, script: &Script) -> Result<MemFolder, Memory> {
+fn folder_of(rt: &impl Abort, alloc: Global, script: &Script) -> MemFolder {
     let files = match script.meta {
-        Some(bytes) => meta_of(alloc, bytes)?,
+        Some(bytes) => meta_of(rt, alloc, bytes),
         None => Vec::new(alloc),
     };
-    let fails = script.fails.to_vec(alloc)?;
-    MemFolder::new(alloc, files, fails)
+    let fails = script.fails.to_vec(alloc).expect(rt, "memory");
+    MemFolder::new(alloc, files, fails).expect(rt, "memory")
 }
 
 // The file of these bytes under the metadata's name.
-fn meta_of(alloc: Global, bytes: &[u8]) -> Result<Vec<(String, Vec<u8>)>, Memory> {
+fn meta_of(rt: &impl Abort, alloc: Global, bytes: &[u8]) -> Vec<(String, Vec<u8>)> {
     let mut files = Vec::new(alloc);
-    let name = String::from_str(alloc, META)?;
-    let bytes = bytes.to_vec(alloc)?;
-    files.push((name, bytes))?;
-    Ok(files)
+    let name = String::from_str(alloc, META).expect(rt, "memory");
+    let bytes = bytes.to_vec(alloc).expect(rt, "memory");
+    files.push((name, bytes)).expect(rt, "memory");
+    files
 }
 
 // Whether a step answers what it says.
 fn step_holds<L: Ledger>(
-    alloc: Global,
-    setup: &Setup,
-    channel: &mut Channel,
-    folder: &mut MemFolder,
-    scratch: &mut [u8],
+    rt: &impl Abort,
+    stage: &mut Stage,
+    scratch: &mut Scratch,
     step: Step,
     steps: &mut Steps<L>,
-) -> Result<bool, Memory>
-    requires served { IsServed channel.old }
-    requires scratch { 16777242 ≤ length scratch.old }
-    ensures { OnOk result (IsServed channel.new) }
-{
+) -> bool {
     match step {
         Step::Offer(number, letter, delay, now, answer) => {
-            let message = message(alloc, number, letter, 0, delay.min(MOST))?;
-            Ok(offer(channel, folder, scratch, message, now.min(MOST), steps) == answer)
+            joins(rt, stage, scratch, (number, letter, 0, delay), now, steps) == answer
         }
         Step::Tried(number, letter, attempts) => {
-            let message = message(alloc, number, letter, attempts, 0)?;
-            Ok(offer(channel, folder, scratch, message, 0, steps) == Offered::Done)
+            joins(rt, stage, scratch, (number, letter, attempts, 0), 0, steps) == Offered::Done
         }
         Step::ComeAgain => {
-            come_again(channel)?;
-            Ok(true)
+            stage.come_again(rt);
+            true
         }
-        Step::Open(answer) => Ok(open(alloc, channel, folder, setup)? == answer),
-        Step::Delete(done) => Ok(delete(alloc, channel, folder, setup)? == done),
-        other => Ok(call_holds(channel, folder, scratch, other, steps)),
+        Step::Open(answer) => stage.open(rt) == answer,
+        Step::Delete(done) => stage.delete(rt) == done,
+        other => call_holds(stage, scratch, other, steps),
     }
+}
+
+// Offers a message of this number, letter, attempts and delay.
+fn joins<L: Ledger>(
+    rt: &impl Abort,
+    stage: &mut Stage,
+    scratch: &mut Scratch,
+    (number, letter, attempts, delay): (u8, u8, u16, u64),
+    now: u64,
+    steps: &mut Steps<L>,
+) -> Offered {
+    let id = id_of(number);
+    let delay = delay.min(MOST);
+    let took = stage.join(
+        rt,
+        scratch,
+        id,
+        letter,
+        attempts,
+        delay,
+        now.min(MOST),
+        steps,
+    );
+    offered_as(took, id, delay)
 }
 
 // Whether a call that moves a copy answers what it says.
 fn call_holds<L: Ledger>(
-    channel: &mut Channel,
-    folder: &mut MemFolder,
-    scratch: &mut [u8],
+    stage: &mut Stage,
+    scratch: &mut Scratch,
     step: Step,
     steps: &mut Steps<L>,
-) -> bool
-    requires served { IsServed channel.old }
-    requires scratch { 16777242 ≤ length scratch.old }
-    ensures { IsServed channel.new }
-{
+) -> bool {
     match step {
-        Step::Give(who, now, given) => {
-            give(
-                channel,
-                folder,
-                scratch,
-                who,
-                now.min(MOST),
-                Then::Settle,
-                steps,
-            ) == given
+        Step::Give(who, now, answer) => {
+            given_as(stage.give(scratch, who, now.min(MOST), true, steps)) == answer
         }
-        Step::PutBack(who, now, given) => {
-            give(
-                channel,
-                folder,
-                scratch,
-                who,
-                now.min(MOST),
-                Then::Undo,
-                steps,
-            ) == given
+        Step::PutBack(who, now, answer) => {
+            given_as(stage.give(scratch, who, now.min(MOST), false, steps)) == answer
         }
-        Step::Finish(who, number, yours) => finish(channel, who, number, steps) == yours,
+        Step::Finish(who, number, yours) => stage.finish(who, id_of(number), steps) == yours,
         Step::Touch(who, number, now, yours) => {
-            touch(channel, who, number, now.min(MOST), steps) == yours
+            stage.touch(who, id_of(number), now.min(MOST), steps) == yours
         }
         Step::Requeue(who, number, delay, now, answer) => {
             let delay = delay.min(MOST);
-            requeue(
-                channel,
-                folder,
-                scratch,
-                who,
-                number,
-                delay,
-                now.min(MOST),
-                steps,
-            ) == answer
+            stage.requeue(scratch, who, id_of(number), delay, now.min(MOST), steps) == answer
         }
-        Step::Move(now, came) => move_due(channel, folder, scratch, now, steps) == (came, true),
-        Step::Flush(answer) => channel.flush(folder, scratch, steps) == answer,
-        other => shows(channel, folder, other),
+        Step::Move(now, answer) => {
+            let (moved, told) = stage.move_due(scratch, now, steps);
+            told && came_as(moved) == answer
+        }
+        Step::Flush(answer) => stage.flush(scratch, steps) == answer,
+        other => shows(stage, other),
     }
 }
 
 // Whether a call that moves no single copy answers what it says.
-fn shows(channel: &mut Channel, folder: &mut MemFolder, step: Step) -> bool
-    requires { IsServed channel.old }
-    ensures { IsServed channel.new }
-{
+fn shows(stage: &mut Stage, step: Step) -> bool {
     match step {
         Step::Ready(who, count) => {
-            ready(channel, who, count);
+            stage.ready(who, count);
             true
         }
-        Step::Look(who, number, answer) => look(channel, who, number) == answer,
-        Step::NextDue(moment) => channel.next_due() == moment,
+        Step::Look(who, number, answer) => {
+            stage.channel.look(who.client(), id_of(number)) == answer
+        }
+        Step::NextDue(moment) => stage.channel.next_due() == moment,
         Step::Pause(on) => {
-            channel.pause(on);
-            channel.is_paused() == on
+            stage.channel.pause(on);
+            stage.channel.is_paused() == on
         }
         Step::Places(queued, on_disk, in_flight, deferred) => {
-            places(channel.counts()) == (queued, on_disk, in_flight, deferred)
+            places(stage.channel.counts()) == (queued, on_disk, in_flight, deferred)
         }
         Step::Events(joined, requeued, timed_out) => {
-            events(channel.counts()) == (joined, requeued, timed_out)
+            events(stage.channel.counts()) == (joined, requeued, timed_out)
         }
-        Step::Empty(answer) => channel.empty(folder) == answer,
-        Step::Sync(answer) => channel.sync(folder) == answer,
-        Step::Has(name, pieces) => match folder.file(name) {
+        Step::Empty(answer) => stage.empty() == answer,
+        Step::Sync(answer) => stage.sync() == answer,
+        Step::Has(name, pieces) => match stage.folder.file(name) {
             Some(bytes) => is_made_of(bytes, pieces),
             None => false,
         },
-        Step::Absent(name) => folder.file(name).is_none(),
+        Step::Absent(name) => stage.folder.file(name).is_none(),
         _ => false,
     }
 }
@@ -283,63 +255,61 @@ fn is_made_of(bytes: &[u8], pieces: &[&[u8]]) -> bool {
 
 // The name of the first of these scripts that doesn't hold, if any.
 fn first_wrong<L: Ledger>(
+    rt: &impl Abort,
     alloc: Global,
-    scratch: &mut [u8],
+    scratch: &mut Scratch,
     scripts: &'static [Script],
     steps: &mut Steps<L>,
-) -> Result<Option<&'static str>, Memory>
-    requires { 16777242 ≤ length scratch.old }
-{
+) -> Option<&'static str> {
     for script in scripts {
-        if !holds(alloc, scratch, script, steps)? {
-            return Ok(Some(script.name));
+        if !holds(rt, alloc, scratch, script, steps) {
+            return Some(script.name);
         }
     }
-    Ok(None)
+    None
 }
 
 // The name of the first script of these tables that doesn't hold, if any.
 fn first_of_all<L: Ledger>(
+    rt: &impl Abort,
     alloc: Global,
-    scratch: &mut [u8],
+    scratch: &mut Scratch,
     tables: &[&'static [Script]],
     steps: &mut Steps<L>,
-) -> Result<Option<&'static str>, Memory>
-    requires { 16777242 ≤ length scratch.old }
-{
+) -> Option<&'static str> {
     for scripts in tables {
-        let wrong = first_wrong(alloc, scratch, scripts, steps)?;
+        let wrong = first_wrong(rt, alloc, scratch, scripts, steps);
         if wrong.is_some() {
-            return Ok(wrong);
+            return wrong;
         }
     }
-    Ok(None)
+    None
 }
 
-// The name of the first script of all that doesn't hold, if any.
-fn wrong_script<L: Ledger>(alloc: Global, blank: Blank) -> Result<Option<&'static str>, Memory>
+// The same with room for the longest message.
+fn wrong_script<R: Abort, L: Ledger>(
+    rt: &R,
+    alloc: Global,
+    tables: &[&'static [Script]],
+    blank: Blank,
+) -> Option<&'static str>
     requires name { blank.name ≡ L.name }
     requires parts { blank.parts ≡ L.parts }
     requires some { 0 < L.parts }
 {
-    let mut scratch = scratch(alloc)?;
+    let mut scratch = Scratch::new(alloc).expect(rt, "memory");
     let mut steps: Steps<L> = Steps::new(blank);
-    let tables = [
-        sending::CREDIT.as_slice(),
-        sending::DRAWING.as_slice(),
-        sending::SETTLING.as_slice(),
-        sending::COMING_DUE.as_slice(),
-        storing::JOINING.as_slice(),
-        storing::FAILING.as_slice(),
-        storing::DROPPING.as_slice(),
-        storing::STOPPING.as_slice(),
-    ];
-    first_of_all(alloc, &mut scratch, &tables, &mut steps)
+    first_of_all(rt, alloc, &mut scratch, tables, &mut steps)
 }
 
 #[test]
-fn rows(rt: HostRuntime) -> Result<(), Fail> {
-    let wrong = wrong_script::<Brand>(rt.alloc(), Blank::new(1))?;
+fn rows(rt: HostRuntime) {
+    let tables = [
+        sending::giving(),
+        sending::settling(),
+        storing::joining(),
+        storing::dropping(),
+    ];
+    let wrong = wrong_script::<_, Brand>(&rt, rt.alloc(), &tables, Blank::new(1));
     assert_eq!(rt; wrong, None);
-    Ok(())
 }

@@ -1,12 +1,22 @@
 //! Scripts of what is sent, and of what becomes of it.
 
-use crate::calls::{Came, FIRST_TIME, Given, MINUTE, Offered, SECOND_TIME, Who};
+use crate::answers::{Came, Given, Offered};
+use crate::calls::{FIRST_TIME, MINUTE, SECOND_TIME, Who};
 use crate::script::{MOST, Script, Step};
 use channel_core::{Look, Requeue};
 use nsq_fakes::{Failing, FolderCall};
 
-/// Who gets a copy.
-pub static CREDIT: [Script; 4] = [
+/// Who gets a copy, and what is drawn.
+pub fn giving() -> &'static [Script] {
+    &GIVING
+}
+
+/// What a client does with a copy that it has, and what comes due.
+pub fn settling() -> &'static [Script] {
+    &SETTLING
+}
+
+static GIVING: [Script; 9] = [
     Script {
         name: "a client without credit gets none",
         channel: b"c",
@@ -87,10 +97,6 @@ pub static CREDIT: [Script; 4] = [
             Step::Give(Who::First, 0, Given::Send(2, b'c', 1)),
         ],
     },
-];
-
-/// What is drawn.
-pub static DRAWING: [Script; 5] = [
     Script {
         name: "a copy whose id is in flight is held back",
         channel: b"c",
@@ -184,8 +190,7 @@ pub static DRAWING: [Script; 5] = [
     },
 ];
 
-/// What a client does with a copy that it has.
-pub static SETTLING: [Script; 4] = [
+static SETTLING: [Script; 8] = [
     Script {
         name: "what is given back at once is queued, and after a delay deferred",
         channel: b"c",
@@ -272,10 +277,6 @@ pub static SETTLING: [Script; 4] = [
             Step::Events(1, 0, 0),
         ],
     },
-];
-
-/// What comes due.
-pub static COMING_DUE: [Script; 4] = [
     Script {
         name: "the copies of a client that left stay in flight",
         channel: b"c",

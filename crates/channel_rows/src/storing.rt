@@ -1,6 +1,7 @@
 //! Scripts of what joins a channel, and of what becomes of all its copies.
 
-use crate::calls::{Came, FIRST_TIME, Given, MINUTE, Offered, Opened, Who};
+use crate::answers::{Came, Given, Offered};
+use crate::calls::{FIRST_TIME, MINUTE, Opened, Who};
 use crate::script::{Script, Step};
 use backlog::Flushed;
 use channel_core::{Look, Requeue};
@@ -21,8 +22,17 @@ const SECOND_WRITE_FAILS: Failing = Failing {
     to: 2,
 };
 
-/// What joins.
-pub static JOINING: [Script; 6] = [
+/// What joins, and a folder that fails.
+pub fn joining() -> &'static [Script] {
+    &JOINING
+}
+
+/// Copies that are dropped, and a stop and a start.
+pub fn dropping() -> &'static [Script] {
+    &DROPPING
+}
+
+static JOINING: [Script; 12] = [
     Script {
         name: "an offered delay counts from its joining",
         channel: b"c",
@@ -123,10 +133,6 @@ pub static JOINING: [Script; 6] = [
             Step::Events(2, 1, 0),
         ],
     },
-];
-
-/// A folder that fails.
-pub static FAILING: [Script; 6] = [
     Script {
         name: "a fault hands the message back",
         channel: b"c",
@@ -223,8 +229,7 @@ pub static FAILING: [Script; 6] = [
     },
 ];
 
-/// Copies that are dropped.
-pub static DROPPING: [Script; 2] = [
+static DROPPING: [Script; 8] = [
     Script {
         name: "emptying drops all copies, wherever they are",
         channel: b"c",
@@ -267,10 +272,6 @@ pub static DROPPING: [Script; 2] = [
             Step::Places(0, 0, 0, 0),
         ],
     },
-];
-
-/// A stop and a start.
-pub static STOPPING: [Script; 6] = [
     Script {
         name: "a stop writes the ring, those in flight and the deferred ones",
         channel: b"c",

@@ -1,20 +1,21 @@
 //! The plain program beside a channel: whether what a call answered may be, and what is possible afterwards.
 
-use crate::broker::calls::{Given, Offered, SECOND_TIME, Setup, Who, message};
 use crate::broker::entries::{asked, commanded, of_client, of_daemon};
 use crate::broker::files::next_run;
-use crate::broker::possible::{Possible, is_message};
-use crate::broker::starting::{client, topic_alone, with_clients};
+use crate::broker::possible::{Possible, keep_if};
+use crate::broker::starting::{topic_alone, with_clients, with_second};
 use crate::broker::told::{comes_first, is_channel};
+use crate::calls::{Drew, Setup, Sight, Took, Who, message};
 use broker_changes::channels::has_credit;
 use broker_changes::topics::any_due;
 use broker_history::{Act, Ask, Entry};
 use broker_state::{ChannelState, State, TakenMessage, flying, in_flight, queued};
 use channel_core::{Channel, Moved};
-use nsq_base::{Chan, Memory, MsgId, Options, Topic};
+use nsq_base::{Body, Chan, MsgId, Options, Topic};
 use nsq_fakes::MemFolder;
 use nsq_outside::End;
 use std::alloc::Global;
+use std::process::Abort;
 use v2_frame::{Command, Message};
 
 /// The states that are possible beside a channel.
@@ -24,8 +25,8 @@ pub struct Beside {
     options: Options,
     topic: Topic,
     name: Chan,
-    // Whether calls of the folder fail.
-    fails: bool,
+    /// Whether calls of the folder fail.
+    pub fails: bool,
     possible: Possible,
 }
 
@@ -37,18 +38,20 @@ enum Why {
     NoneQueued,
 }
 
+/// What there is.
 impl Beside {
     /// Beside a new channel with both clients.
-    pub fn new(alloc: Global, setup: &Setup, fails: bool) -> Result<Beside, Memory> {
-        let state = first_state(alloc, &setup.options, setup.topic, setup.name, 0)?;
-        Ok(Beside {
+    pub fn new(rt: &impl Abort, setup: &Setup, fails: bool) -> Beside {
+        let alloc = setup.alloc;
+        let state = first_state(rt, alloc, &setup.options, setup.topic, setup.name, 0);
+        Beside {
             alloc,
-            options: setup.options.copy(alloc)?,
+            options: setup.options.copy(alloc).expect(rt, "memory"),
             topic: setup.topic,
             name: setup.name,
             fails,
-            possible: Possible::only(alloc, state)?,
-        })
+            possible: Possible::only(rt, alloc, state),
+        }
     }
 
     /// Whether two copies of this id are there.
@@ -80,92 +83,6 @@ impl Beside {
         state.channel_at(&self.topic, &self.name)
     }
 
-    /// Whether the copy that the topic owed may have been answered so.
-    pub fn was_offered(
-        &mut self,
-        id: MsgId,
-        delay: u64,
-        at: u64,
-        offered: &Offered,
-    ) -> Result<bool, Memory> {
-        match offered {
-            Offered::Done => self.gets(id, delay, at, End::Done),
-            Offered::Fault(back) => Ok(
-                self.comes_back(id, delay, back)? && self.gets(id, delay, at, End::Faulted(0))?,
-            ),
-            Offered::Memory => Err(Memory),
-        }
-    }
-
-    // Whether a fault may have given the message back, and this is it.
-    fn comes_back(&self, id: MsgId, delay: u64, back: &Message) -> Result<bool, Memory> {
-        let message = message(self.alloc, id, delay)?;
-        Ok(self.fails && delay == 0 && is_message(back, &message))
-    }
-
-    // The channel gets the message that its topic took, or a fault keeps it off. Then the topic has taken none.
-    fn gets(&mut self, id: MsgId, delay: u64, at: u64, end: End) -> Result<bool, Memory> {
-        let message = message(self.alloc, id, delay)?;
-        owe(self.alloc, &mut self.possible.states, self.name, &message)?;
-        let copied = of_daemon(at, Act::Copied(self.topic, self.name, message));
-        let goes = self.possible.goes(&copied, end)?;
-        owe_none(&mut self.possible.states);
-        Ok(goes)
-    }
-
-    /// Whether this may have been given to the client, and settled or put back.
-    pub fn was_given(
-        &mut self,
-        who: Who,
-        at: u64,
-        settles: bool,
-        given: Given,
-    ) -> Result<bool, Memory> {
-        let client = who.client();
-        match given {
-            Given::Send(message) => self.drew(of_client(client, at, Act::Sent(message)), settles),
-            Given::Held(id) => {
-                if !self.is_stuck(client, at)? {
-                    return Ok(false);
-                }
-                let held = Act::HeldBack(self.topic, self.name, id);
-                self.drew(of_daemon(at, held), settles)
-            }
-            Given::NoCredit => self.has_none(client, at, Why::NoCredit),
-            Given::Paused => self.has_none(client, at, Why::Paused),
-            Given::NoneQueued => self.has_none(client, at, Why::NoneQueued),
-            Given::Fault => Ok(self.fails && self.is_stuck(client, at)?),
-            Given::Memory => Err(Memory),
-            Given::Damaged => Ok(false),
-        }
-    }
-
-    // What was drawn was settled by this entry, or put back.
-    fn drew(&mut self, entry: Entry, settles: bool) -> Result<bool, Memory> {
-        if settles {
-            self.possible.goes(&entry, End::Done)
-        } else {
-            self.possible.may(&entry, End::Done)
-        }
-    }
-
-    // Whether the client could have been sent a copy, had a fault not kept it off, and some copy is queued.
-    fn is_stuck(&mut self, client: u64, at: u64) -> Result<bool, Memory> {
-        let stuck = of_client(client, at, Act::Stuck(self.topic, Some(self.name)));
-        let may = self.possible.may(&stuck, End::Faulted(0))?;
-        match self.first() {
-            Some(channel) => Ok(may && queued(&channel.copies) != 0),
-            None => Ok(false),
-        }
-    }
-
-    // Whether there is nothing to be sent to the client, for this reason.
-    fn has_none(&mut self, client: u64, at: u64, why: Why) -> Result<bool, Memory> {
-        let idle = of_client(client, at, Act::Idle);
-        let may = self.possible.may(&idle, End::Done)?;
-        Ok(may && self.why(client) == Some(why))
-    }
-
     // Why the client is given nothing.
     fn why(&self, client: u64) -> Option<Why> {
         let state = self.possible.states.first()?;
@@ -181,57 +98,6 @@ impl Beside {
             return Some(Why::NoneQueued);
         }
         None
-    }
-
-    /// Whether the client may give this command, the message of which is in flight with it or isn't, with this end.
-    pub fn commands(
-        &mut self,
-        who: Who,
-        at: u64,
-        command: Command,
-        flies: bool,
-        end: End,
-    ) -> Result<bool, Memory> {
-        let entry = commanded(self.alloc, &self.options, who.client(), at, command, flies)?;
-        self.possible.goes(&entry, end)
-    }
-
-    /// Whether a fault may have kept a copy from being given back at once.
-    pub fn keeps(
-        &mut self,
-        who: Who,
-        at: u64,
-        command: Command,
-        delay: u64,
-    ) -> Result<bool, Memory> {
-        let may = self.commands(who, at, command, true, End::Faulted(0))?;
-        Ok(may && self.fails && delay == 0)
-    }
-
-    /// Whether this may have come due.
-    pub fn moves(&mut self, at: u64, moved: Moved) -> Result<bool, Memory> {
-        match moved {
-            Moved::TimedOut(id) => self.moves_first(at, id, true, End::Done),
-            Moved::CameDue(id) => self.moves_first(at, id, false, End::Done),
-            Moved::Fault(id) => {
-                let flies = self.is_first(at, id, true);
-                Ok(self.fails && self.moves_first(at, id, flies, End::Faulted(0))?)
-            }
-            Moved::Nothing => Ok(self.none_due(at)),
-        }
-    }
-
-    // A copy of this id, in flight or deferred, was put back, or a fault kept it where it was; it was the next one due.
-    fn moves_first(&mut self, at: u64, id: MsgId, flies: bool, end: End) -> Result<bool, Memory> {
-        if !self.is_first(at, id, flies) {
-            return Ok(false);
-        }
-        let act = if flies {
-            Act::TimedOut(self.topic, self.name, id)
-        } else {
-            Act::CameDue(self.topic, self.name, id)
-        };
-        self.possible.goes(&of_daemon(at, act), end)
     }
 
     // Whether a copy of this id, in flight or deferred, is the next one due in some state.
@@ -258,114 +124,259 @@ impl Beside {
         true
     }
 
+    /// Whether calls of the channel on its folder may fail.
+    pub fn may_fail(&self) -> bool {
+        self.fails && !self.name.ephemeral()
+    }
+}
+
+/// What happens to single copies.
+impl Beside {
+    /// Whether the copy that the topic owed may have been answered so.
+    pub fn was_offered(
+        &mut self,
+        rt: &impl Abort,
+        id: MsgId,
+        delay: u64,
+        at: u64,
+        took: Took,
+    ) -> bool {
+        match took {
+            Took::Done => self.gets(rt, id, delay, at, End::Done),
+            Took::Fault(back) => {
+                self.fails
+                    && delay == 0
+                    && is_as_offered(back, id)
+                    && self.gets(rt, id, delay, at, End::Faulted(0))
+            }
+            Took::Memory(_) => panic!(rt; "memory"),
+        }
+    }
+
+    // The channel gets the message that its topic took, or a fault keeps it off. Then the topic has taken none.
+    fn gets(&mut self, rt: &impl Abort, id: MsgId, delay: u64, at: u64, end: End) -> bool {
+        let message = message(self.alloc, id, b'm', 0, delay).expect(rt, "memory");
+        owe(
+            rt,
+            self.alloc,
+            &mut self.possible.states,
+            self.name,
+            &message,
+        );
+        let copied = Act::Copied(self.topic, self.name, message);
+        let goes = self.possible.goes(rt, of_daemon(at, copied), end);
+        owe_none(&mut self.possible.states);
+        goes
+    }
+
+    /// Whether this may have been given to the client, and settled or put back.
+    pub fn was_given(
+        &mut self,
+        rt: &impl Abort,
+        who: Who,
+        at: u64,
+        settles: bool,
+        drew: Drew,
+    ) -> bool {
+        let client = who.client();
+        match drew {
+            Drew::Send(sight) => {
+                let sent = Act::Sent(message_of(rt, self.alloc, sight));
+                self.drew(rt, of_client(client, at, sent), settles) && sight.letter.is_some()
+            }
+            Drew::Held(id) => {
+                let held = Act::HeldBack(self.topic, self.name, id);
+                self.is_stuck(rt, client, at) && self.drew(rt, of_daemon(at, held), settles)
+            }
+            Drew::NoCredit => self.has_none(rt, client, at, Why::NoCredit),
+            Drew::Paused => self.has_none(rt, client, at, Why::Paused),
+            Drew::NoneQueued => self.has_none(rt, client, at, Why::NoneQueued),
+            Drew::Fault => self.fails && self.is_stuck(rt, client, at),
+            Drew::Memory => panic!(rt; "memory"),
+            Drew::Damaged => false,
+        }
+    }
+
+    // What was drawn was settled by this entry, or put back.
+    fn drew(&mut self, rt: &impl Abort, entry: Entry, settles: bool) -> bool {
+        if settles {
+            self.possible.goes(rt, entry, End::Done)
+        } else {
+            self.possible.may(rt, entry, End::Done)
+        }
+    }
+
+    // Whether the client could have been sent a copy, had a fault not kept it off, and some copy is queued.
+    fn is_stuck(&mut self, rt: &impl Abort, client: u64, at: u64) -> bool {
+        let stuck = of_client(client, at, Act::Stuck(self.topic, Some(self.name)));
+        let may = self.possible.may(rt, stuck, End::Faulted(0));
+        match self.first() {
+            Some(channel) => may && queued(&channel.copies) != 0,
+            None => false,
+        }
+    }
+
+    // Whether there is nothing to be sent to the client, for this reason.
+    fn has_none(&mut self, rt: &impl Abort, client: u64, at: u64, why: Why) -> bool {
+        let idle = of_client(client, at, Act::Idle);
+        self.possible.may(rt, idle, End::Done) && self.why(client) == Some(why)
+    }
+
+    /// Whether the client may give this command, the message of which is in flight with it or isn't, with this end.
+    pub fn commands(
+        &mut self,
+        rt: &impl Abort,
+        who: Who,
+        at: u64,
+        command: Command,
+        flies: bool,
+        end: End,
+    ) -> bool {
+        let client = who.client();
+        let entry = commanded(rt, self.alloc, &self.options, client, at, command, flies);
+        self.possible.goes(rt, entry, end)
+    }
+
+    /// Whether this may have come due.
+    pub fn moves(&mut self, rt: &impl Abort, at: u64, moved: Moved) -> bool {
+        match moved {
+            Moved::TimedOut(id) => self.moves_first(rt, at, id, true, End::Done),
+            Moved::CameDue(id) => self.moves_first(rt, at, id, false, End::Done),
+            Moved::Fault(id) => {
+                let flies = self.is_first(at, id, true);
+                self.fails && self.moves_first(rt, at, id, flies, End::Faulted(0))
+            }
+            Moved::Nothing => self.none_due(at),
+        }
+    }
+
+    // A copy of this id, in flight or deferred, was put back, or a fault kept it where it was; it was the next one due.
+    fn moves_first(&mut self, rt: &impl Abort, at: u64, id: MsgId, flies: bool, end: End) -> bool {
+        if !self.is_first(at, id, flies) {
+            return false;
+        }
+        let act = if flies {
+            Act::TimedOut(self.topic, self.name, id)
+        } else {
+            Act::CameDue(self.topic, self.name, id)
+        };
+        self.possible.goes(rt, of_daemon(at, act), end)
+    }
+}
+
+/// What happens to the channel.
+impl Beside {
     /// Whether the channel may be paused, or not any more.
-    pub fn pauses(&mut self, at: u64, on: bool) -> Result<bool, Memory> {
+    pub fn pauses(&mut self, rt: &impl Abort, at: u64, on: bool) -> bool {
         let ask = if on {
             Ask::Pause(self.topic, Some(self.name))
         } else {
             Ask::Unpause(self.topic, Some(self.name))
         };
-        self.possible.goes(&asked(at, ask), End::Done)
+        self.possible.goes(rt, asked(at, ask), End::Done)
     }
 
     /// Whether the second client may go. One of its number subscribes then.
-    pub fn comes_again(&mut self, at: u64) -> Result<bool, Memory> {
-        let gone = of_client(2, at, Act::Gone);
-        let goes = self.possible.goes(&gone, End::Done)?;
+    pub fn comes_again(&mut self, rt: &impl Abort, at: u64) -> bool {
+        let goes = self
+            .possible
+            .goes(rt, of_client(2, at, Act::Gone), End::Done);
         for state in self.possible.take() {
-            self.keep_with_second(state)?;
+            let served = with_second(rt, self.alloc, state, self.topic, self.name);
+            keep_if(rt, &mut self.possible.states, true, served);
         }
-        Ok(goes)
-    }
-
-    // Keeps the state with the second client, which asked for no message yet.
-    fn keep_with_second(&mut self, state: State) -> Result<(), Memory> {
-        let second = client(self.alloc, 2, SECOND_TIME, self.topic, self.name);
-        let served = state.with_client(self.alloc, second)?;
-        self.possible.states.push(served)?;
-        Ok(())
-    }
-
-    /// Whether calls of the channel on its folder may fail.
-    pub fn may_fail(&self) -> bool {
-        self.fails && !self.name.ephemeral()
+        goes
     }
 
     /// Whether all copies may be emptied out, or a fault may keep that from being done.
-    pub fn empties(&mut self, at: u64, done: bool) -> Result<bool, Memory> {
+    pub fn empties(&mut self, rt: &impl Abort, at: u64, done: bool) -> bool {
         let ask = Ask::Empty(self.topic, Some(self.name));
-        self.asks(at, ask, done)
+        self.asks(rt, at, ask, done)
     }
 
     /// Whether the channel may be deleted, or a fault may keep that from being done. Where it is done, it and its clients are there anew.
-    pub fn deletes(&mut self, at: u64, done: bool) -> Result<bool, Memory> {
+    pub fn deletes(&mut self, rt: &impl Abort, at: u64, done: bool) -> bool {
         let ask = Ask::Delete(self.topic, Some(self.name));
-        let may = self.asks(at, ask, done)?;
+        let may = self.asks(rt, at, ask, done);
         if may && done {
-            self.starts(at)?;
+            self.starts(rt, at);
         }
-        Ok(may)
+        may
     }
 
     // Something is asked and done, or a fault keeps it from being done.
-    fn asks(&mut self, at: u64, ask: Ask, done: bool) -> Result<bool, Memory> {
-        let entry = asked(at, ask);
-        if done {
-            return self.possible.goes(&entry, End::Done);
-        }
-        Ok(self.may_fail() && self.possible.goes(&entry, End::Faulted(0))?)
+    fn asks(&mut self, rt: &impl Abort, at: u64, ask: Ask, done: bool) -> bool {
+        let end = end_of(done);
+        let goes = self.possible.goes(rt, asked(at, ask), end);
+        goes && (done || self.may_fail())
     }
 
     /// The channel and its clients are there anew.
-    pub fn starts(&mut self, at: u64) -> Result<(), Memory> {
-        let state = first_state(self.alloc, &self.options, self.topic, self.name, at)?;
-        self.possible = Possible::only(self.alloc, state)?;
-        Ok(())
+    pub fn starts(&mut self, rt: &impl Abort, at: u64) {
+        let state = first_state(rt, self.alloc, &self.options, self.topic, self.name, at);
+        self.possible = Possible::only(rt, self.alloc, state);
     }
 
     /// Whether the folder's files have all that is left in a possible state. Then the state is the one in which the next run begins, with both
     /// clients.
-    pub fn begins(&mut self, folder: &mut MemFolder) -> Result<bool, Memory> {
-        for state in self.possible.take() {
-            self.begin(folder, &state)?;
+    pub fn begins(&mut self, rt: &impl Abort, folder: &mut MemFolder) -> bool {
+        let states = self.possible.take();
+        for state in &states {
+            if let Some(next) = next_run(rt, self.alloc, folder, state, &self.options) {
+                let served = with_clients(rt, self.alloc, next, self.topic, self.name);
+                keep_if(rt, &mut self.possible.states, true, served);
+            }
         }
-        Ok(!self.possible.states.is_empty())
-    }
-
-    // Keeps the state in which the run behind this one begins, if there is one, with both clients.
-    fn begin(&mut self, folder: &mut MemFolder, state: &State) -> Result<(), Memory> {
-        if let Some(next) = next_run(self.alloc, folder, state, &self.options)? {
-            let served = with_clients(self.alloc, next, self.topic, self.name)?;
-            self.possible.states.push(served)?;
-        }
-        Ok(())
+        !self.possible.states.is_empty()
     }
 
     /// Keeps the states in which what the channel tells is so. Whether there is one.
-    pub fn tells(&mut self, channel: &Channel) -> Result<bool, Memory> {
+    pub fn tells(&mut self, rt: &impl Abort, channel: &Channel) -> bool {
         for state in self.possible.take() {
-            self.keep_told(state, channel)?;
+            let told = is_channel(rt, self.alloc, &state, self.topic, channel);
+            keep_if(rt, &mut self.possible.states, told, state);
         }
-        Ok(!self.possible.states.is_empty())
+        !self.possible.states.is_empty()
     }
+}
 
-    // Keeps the state, where what the channel tells is so.
-    fn keep_told(&mut self, state: State, channel: &Channel) -> Result<(), Memory> {
-        let told = is_channel(self.alloc, &state, self.topic, channel)?;
-        self.possible.keep_if(told, state)
+/// How something ended that was done, or that a fault kept off.
+pub fn end_of(done: bool) -> End {
+    if done { End::Done } else { End::Faulted(0) }
+}
+
+// Whether a message that was offered at once is as it was then.
+fn is_as_offered(message: Sight, id: MsgId) -> bool {
+    message.stamp == 7
+        && message.attempts == 0
+        && message.id == id
+        && message.delay == 0
+        && message.letter == Some(b'm')
+}
+
+// The message that was drawn; without a letter where its body isn't one.
+fn message_of(rt: &impl Abort, alloc: Global, sight: Sight) -> Message {
+    let body = Body::copy(alloc, sight.letter.as_slice()).expect(rt, "memory");
+    Message {
+        stamp: sight.stamp,
+        attempts: sight.attempts,
+        id: sight.id,
+        body,
+        delay: sight.delay,
     }
 }
 
 // The state with a new channel and both clients.
 fn first_state(
+    rt: &impl Abort,
     alloc: Global,
     options: &Options,
     topic: Topic,
     name: Chan,
     at: u64,
-) -> Result<State, Memory> {
-    let state = topic_alone(alloc, options, topic, &[name], at)?;
-    with_clients(alloc, state, topic, name)
+) -> State {
+    let state = topic_alone(rt, alloc, options, topic, &[name], at);
+    with_clients(rt, alloc, state, topic, name)
 }
 
 // How many copies of this id aren't done with.
@@ -380,27 +391,21 @@ fn live(channel: &ChannelState, id: &MsgId) -> u64 {
 }
 
 // In each state the topic takes this message, and owes it to the channel.
-fn owe(
-    alloc: Global,
-    states: &mut [State],
-    channel: Chan,
-    message: &Message,
-) -> Result<(), Memory> {
+fn owe(rt: &impl Abort, alloc: Global, states: &mut [State], channel: Chan, message: &Message) {
     for state in states {
         for topic in &mut state.topics {
-            topic.taken = Some(taken(alloc, channel, message)?);
+            topic.taken = Some(taken(rt, alloc, channel, message));
         }
     }
-    Ok(())
 }
 
-fn taken(alloc: Global, channel: Chan, message: &Message) -> Result<TakenMessage, Memory> {
+fn taken(rt: &impl Abort, alloc: Global, channel: Chan, message: &Message) -> TakenMessage {
     let mut owed = Vec::new(alloc);
-    owed.push(channel)?;
-    Ok(TakenMessage {
-        message: message.copy(alloc)?,
+    owed.push(channel).expect(rt, "memory");
+    TakenMessage {
+        message: message.copy(alloc).expect(rt, "memory"),
         owed,
-    })
+    }
 }
 
 // In each state the topic has taken none.

@@ -1,22 +1,21 @@
 //! Random calls of a channel.
 
-ghost use Rattle.std.specs.Prelude.{◌≡◌, ◌≤◌, ◌<◌, ◌^◌, OnOk, IfOk, IfSome};
-ghost use Rattle.channel_rows.specs.Served.{IsServed};
+ghost use Rattle.std.specs.Prelude.{◌≡◌, ◌<◌};
 
 use crate::broker::beside::Beside;
-use crate::broker::calls::{self, Offered, Scratch, Setup, served};
-use crate::broker::dice::{Dice, in_milliseconds};
-use crate::broker::runs::{Run, SEEDS, all_runs, folder_of, options_of};
+use crate::broker::runs::{all_runs, dice_of, folder};
+use crate::calls::{Scratch, Setup, Stage, end};
+use crate::dice::{Dice, in_milliseconds};
+use crate::runs::{Run, SEEDS, options_of};
 use backlog::Flushed;
-use channel_core::{Channel, Requeue};
+use channel_core::Requeue;
 use disk_queue::{Emptied, Sync};
-use nsq_base::{Memory, MsgId, Steps};
-use nsq_fakes::MemFolder;
+use nsq_base::{MsgId, Steps};
 use nsq_outside::End;
 use std::alloc::Global;
 use std::marker::Brand;
+use std::process::Abort;
 use std::sync::ledger::{Blank, Ledger};
-use std::test::Fail;
 use v2_frame::Command;
 
 // How many calls each run of a seed makes: with 12 runs a little over 2,000 of each seed.
@@ -25,10 +24,7 @@ const CALLS: usize = 170;
 // A channel in a folder, and the plain program beside it.
 #[derive(Drop)]
 struct Pair {
-    alloc: Global,
-    setup: Setup,
-    channel: Channel,
-    folder: MemFolder,
+    stage: Stage,
     beside: Beside,
     dice: Dice,
 }
@@ -37,139 +33,92 @@ impl Pair {
     // One random call. Whether it answers, and the channel tells afterwards, what is so in a possible state.
     fn step<L: Ledger>(
         &mut self,
+        rt: &impl Abort,
         scratch: &mut Scratch,
         steps: &mut Steps<L>,
-    ) -> Result<bool, Memory>
-        requires { IsServed self.old.channel }
-        ensures { OnOk result (IsServed self.new.channel) }
-    {
-        let right = self.call(scratch, steps)?;
-        Ok(right && self.beside.tells(&self.channel)?)
+    ) -> bool {
+        let right = self.call(rt, scratch, steps);
+        let stage = &self.stage;
+        right && self.beside.tells(rt, &stage.channel)
     }
 
     fn call<L: Ledger>(
         &mut self,
+        rt: &impl Abort,
         scratch: &mut Scratch,
         steps: &mut Steps<L>,
-    ) -> Result<bool, Memory>
-        requires { IsServed self.old.channel }
-        ensures { OnOk result (IsServed self.new.channel) }
-    {
+    ) -> bool {
         match self.dice.below(64) {
-            0..=16 => self.offer(scratch, steps),
-            17..=33 => self.give(scratch, steps),
-            34..=37 => self.ready(),
-            38..=41 => self.finish(steps),
-            42..=44 => self.touch(steps),
-            45..=50 => self.requeue(scratch, steps),
-            51..=57 => self.move_due(scratch, steps),
-            58..=59 => self.pause(),
-            60 => self.come_again(),
-            61 => Ok(self.sync()),
-            _ => self.rare(scratch, steps),
+            0..=16 => self.offer(rt, scratch, steps),
+            17..=33 => self.give(rt, scratch, steps),
+            34..=37 => self.ready(rt),
+            38..=41 => self.finish(rt, steps),
+            42..=44 => self.touch(rt, steps),
+            45..=50 => self.requeue(rt, scratch, steps),
+            51..=57 => self.move_due(rt, scratch, steps),
+            58..=59 => self.pause(rt),
+            60 => self.come_again(rt),
+            61 => self.sync(),
+            _ => self.rare(rt, scratch, steps),
         }
     }
 
     // A call on all copies.
     fn rare<L: Ledger>(
         &mut self,
+        rt: &impl Abort,
         scratch: &mut Scratch,
         steps: &mut Steps<L>,
-    ) -> Result<bool, Memory>
-        requires { IsServed self.old.channel }
-        ensures { OnOk result (IsServed self.new.channel) }
-    {
+    ) -> bool {
         match self.dice.below(4) {
-            0 => self.empty(),
-            1 => self.delete(),
-            _ => self.restart(scratch, steps),
+            0 => self.empty(rt),
+            1 => self.delete(rt),
+            _ => self.restart(rt, scratch, steps),
         }
     }
 
     // A message joins, unless two of its id are there already.
     fn offer<L: Ledger>(
         &mut self,
+        rt: &impl Abort,
         scratch: &mut Scratch,
         steps: &mut Steps<L>,
-    ) -> Result<bool, Memory>
-        requires { IsServed self.old.channel }
-        ensures { OnOk result (IsServed self.new.channel) }
-    {
+    ) -> bool {
         let id = self.dice.id();
         let delay = self.dice.delay();
         let at = self.dice.moment();
         if self.beside.has_two(id) {
-            return Ok(true);
+            return true;
         }
-        let offered = self.offered(scratch, id, delay, at, steps)?;
-        self.beside.was_offered(id, delay, at, &offered)
-    }
-
-    fn offered<L: Ledger>(
-        &mut self,
-        scratch: &mut Scratch,
-        id: MsgId,
-        delay: u64,
-        at: u64,
-        steps: &mut Steps<L>,
-    ) -> Result<Offered, Memory>
-        requires served { IsServed self.old.channel }
-        requires at { at ≤ 2 ^ 62 }
-        requires delay { delay ≤ 2 ^ 62 }
-        ensures { OnOk result (IsServed self.new.channel) }
-    {
-        let message = calls::message(self.alloc, id, delay)?;
-        Ok(calls::offer(
-            &mut self.channel,
-            &mut self.folder,
-            scratch,
-            message,
-            at,
-            steps,
-        ))
+        let took = self.stage.join(rt, scratch, id, b'm', 0, delay, at, steps);
+        self.beside.was_offered(rt, id, delay, at, took)
     }
 
     // A copy is drawn, and settled or put back.
     fn give<L: Ledger>(
         &mut self,
+        rt: &impl Abort,
         scratch: &mut Scratch,
         steps: &mut Steps<L>,
-    ) -> Result<bool, Memory>
-        requires { IsServed self.old.channel }
-        ensures { OnOk result (IsServed self.new.channel) }
-    {
+    ) -> bool {
         let who = self.dice.who();
         let at = self.dice.moment();
         let settles = self.dice.below(5) != 0;
-        let given = calls::give(
-            self.alloc,
-            &mut self.channel,
-            &mut self.folder,
-            scratch,
-            who,
-            at,
-            settles,
-            steps,
-        )?;
-        self.beside.was_given(who, at, settles, given)
+        let drew = self.stage.give(scratch, who, at, settles, steps);
+        self.beside.was_given(rt, who, at, settles, drew)
     }
 
-    fn ready(&mut self) -> Result<bool, Memory>
-        requires { IsServed self.old.channel }
-        ensures { OnOk result (IsServed self.new.channel) }
-    {
+    fn ready(&mut self, rt: &impl Abort) -> bool {
         let who = self.dice.who();
         let count = self.dice.below(4) as u32;
         let at = self.dice.moment();
-        calls::ready(&mut self.channel, who, count);
-        self.beside
-            .commands(who, at, Command::Rdy(i64::from(count)), true, End::Done)
+        self.stage.ready(who, count);
+        let command = Command::Rdy(i64::from(count));
+        self.beside.commands(rt, who, at, command, true, End::Done)
     }
 
     // An id that a client names: half of the time one that is in flight, where there is one.
-    fn named(&mut self) -> MsgId
-        ensures { self.new.channel ≡ self.old.channel }
-    {
+    fn named(&mut self) -> MsgId {
         let id = self.dice.id();
         let place = self.dice.below(8);
         if place < 4 {
@@ -178,292 +127,224 @@ impl Pair {
         self.beside.flying_id(place).unwrap_or(id)
     }
 
-    fn finish<L: Ledger>(&mut self, steps: &mut Steps<L>) -> Result<bool, Memory>
-        requires { IsServed self.old.channel }
-        ensures { OnOk result (IsServed self.new.channel) }
-    {
+    fn finish<L: Ledger>(&mut self, rt: &impl Abort, steps: &mut Steps<L>) -> bool {
         let who = self.dice.who();
         let id = self.named();
         let at = self.dice.moment();
-        let flies = calls::finish(&mut self.channel, who, id, steps);
+        let flies = self.stage.finish(who, id, steps);
         self.beside
-            .commands(who, at, Command::Fin(id), flies, End::Done)
+            .commands(rt, who, at, Command::Fin(id), flies, End::Done)
     }
 
-    fn touch<L: Ledger>(&mut self, steps: &mut Steps<L>) -> Result<bool, Memory>
-        requires { IsServed self.old.channel }
-        ensures { OnOk result (IsServed self.new.channel) }
-    {
+    fn touch<L: Ledger>(&mut self, rt: &impl Abort, steps: &mut Steps<L>) -> bool {
         let who = self.dice.who();
         let id = self.named();
         let at = self.dice.moment();
-        let flies = calls::touch(&mut self.channel, who, id, at, steps);
+        let flies = self.stage.touch(who, id, at, steps);
         self.beside
-            .commands(who, at, Command::Touch(id), flies, End::Done)
+            .commands(rt, who, at, Command::Touch(id), flies, End::Done)
     }
 
+    // A fault may keep a copy from being given back at once.
     fn requeue<L: Ledger>(
         &mut self,
+        rt: &impl Abort,
         scratch: &mut Scratch,
         steps: &mut Steps<L>,
-    ) -> Result<bool, Memory>
-        requires { IsServed self.old.channel }
-        ensures { OnOk result (IsServed self.new.channel) }
-    {
+    ) -> bool {
         let who = self.dice.who();
         let id = self.named();
         let delay = self.dice.whole_delay();
         let at = self.dice.moment();
-        let back = calls::requeue(
-            &mut self.channel,
-            &mut self.folder,
-            scratch,
-            who,
-            id,
-            delay,
-            at,
-            steps,
-        );
+        let (flies, end, right) = match self.stage.requeue(scratch, who, id, delay, at, steps) {
+            Some(Requeue::Done) => (true, End::Done, true),
+            Some(Requeue::Fault) => (true, End::Faulted(0), self.beside.fails && delay == 0),
+            None => (false, End::Done, true),
+        };
         let command = Command::Req(id, in_milliseconds(delay));
-        match back {
-            Some(Requeue::Done) => self.beside.commands(who, at, command, true, End::Done),
-            Some(Requeue::Fault) => self.beside.keeps(who, at, command, delay),
-            None => self.beside.commands(who, at, command, false, End::Done),
-        }
+        self.beside.commands(rt, who, at, command, flies, end) && right
     }
 
     fn move_due<L: Ledger>(
         &mut self,
+        rt: &impl Abort,
         scratch: &mut Scratch,
         steps: &mut Steps<L>,
-    ) -> Result<bool, Memory>
-        requires { IsServed self.old.channel }
-        ensures { OnOk result (IsServed self.new.channel) }
-    {
+    ) -> bool {
         let at = self.dice.moment();
-        let (moved, told) = calls::move_due(
-            &mut self.channel,
-            &mut self.folder,
-            scratch,
-            at,
-            steps,
-        );
-        Ok(told && self.beside.moves(at, moved)?)
+        let (moved, told) = self.stage.move_due(scratch, at, steps);
+        told && self.beside.moves(rt, at, moved)
     }
 
     // More often a pause ends than one begins.
-    fn pause(&mut self) -> Result<bool, Memory>
-        requires { IsServed self.old.channel }
-        ensures { OnOk result (IsServed self.new.channel) }
-    {
+    fn pause(&mut self, rt: &impl Abort) -> bool {
         let on = self.dice.below(4) == 0;
         let at = self.dice.moment();
-        self.channel.pause(on);
-        self.beside.pauses(at, on)
+        self.stage.channel.pause(on);
+        self.beside.pauses(rt, at, on)
     }
 
     // The second client goes, and one of its number subscribes.
-    fn come_again(&mut self) -> Result<bool, Memory>
-        requires { IsServed self.old.channel }
-        ensures { OnOk result (IsServed self.new.channel) }
-    {
+    fn come_again(&mut self, rt: &impl Abort) -> bool {
         let at = self.dice.moment();
-        calls::come_again(&mut self.channel)?;
-        self.beside.comes_again(at)
+        self.stage.come_again(rt);
+        self.beside.comes_again(rt, at)
     }
 
-    fn sync(&mut self) -> bool
-        requires { IsServed self.old.channel }
-        ensures { IsServed self.new.channel }
-    {
-        match self.channel.sync(&mut self.folder) {
+    fn sync(&mut self) -> bool {
+        match self.stage.sync() {
             Sync::NotDue => true,
-            Sync::Done => !self.setup.name.ephemeral(),
+            Sync::Done => !self.stage.setup.name.ephemeral(),
             Sync::Failed => self.beside.may_fail(),
         }
     }
 
-    fn empty(&mut self) -> Result<bool, Memory>
-        requires { IsServed self.old.channel }
-        ensures { OnOk result (IsServed self.new.channel) }
-    {
+    fn empty(&mut self, rt: &impl Abort) -> bool {
         let at = self.dice.moment();
-        match self.channel.empty(&mut self.folder) {
-            Emptied::Done => self.beside.empties(at, true),
-            Emptied::Fault => self.beside.empties(at, false),
-        }
+        let done = match self.stage.empty() {
+            Emptied::Done => true,
+            Emptied::Fault => false,
+        };
+        self.beside.empties(rt, at, done)
     }
 
     // The channel is deleted, and made anew. Where the folder fails it stays.
-    fn delete(&mut self) -> Result<bool, Memory>
-        requires { IsServed self.old.channel }
-        ensures { OnOk result (IsServed self.new.channel) }
-    {
+    fn delete(&mut self, rt: &impl Abort) -> bool {
         let at = self.dice.moment();
-        let done = calls::delete(self.alloc, &mut self.channel, &mut self.folder, &self.setup)?;
-        self.beside.deletes(at, done)
+        let done = self.stage.delete(rt);
+        self.beside.deletes(rt, at, done)
     }
 
     // The channel is flushed and opened again; an ephemeral one stays. After a fault the channel is made anew.
     fn restart<L: Ledger>(
         &mut self,
+        rt: &impl Abort,
         scratch: &mut Scratch,
         steps: &mut Steps<L>,
-    ) -> Result<bool, Memory>
-        requires { IsServed self.old.channel }
-        ensures { OnOk result (IsServed self.new.channel) }
-    {
-        let flushed = self
-            .channel
-            .flush(&mut self.folder, &mut scratch.bytes, steps);
-        match flushed {
-            Flushed::Done if self.setup.name.ephemeral() => Ok(true),
-            Flushed::Done => {
-                let begins = self.beside.begins(&mut self.folder)?;
-                Ok(begins && self.reopen()?)
-            }
-            Flushed::Fault => Ok(self.beside.may_fail() && self.make_anew()?),
+    ) -> bool {
+        match self.stage.flush(scratch, steps) {
+            Flushed::Done => self.stage.setup.name.ephemeral() || self.begin(rt),
+            Flushed::Fault => self.beside.may_fail() && self.make_anew(rt),
         }
     }
 
-    // The channel is opened, with the pause that was kept. Where the folder fails, that is tried again.
-    fn reopen(&mut self) -> Result<bool, Memory>
-        requires { IsServed self.old.channel }
-        ensures { OnOk result (IsServed self.new.channel) }
-    {
-        let paused = self.channel.is_paused();
-        for _ in 0..100 {
-            match calls::open(
-                self.alloc,
-                &mut self.channel,
-                &mut self.folder,
-                &self.setup,
-                paused,
-            )? {
-                Some(true) => return Ok(true),
-                Some(false) if self.beside.may_fail() => {}
-                Some(false) | None => return Ok(false),
-            }
-        }
-        Ok(false)
+    // The next run begins.
+    fn begin(&mut self, rt: &impl Abort) -> bool {
+        let stage = &mut self.stage;
+        self.beside.begins(rt, &mut stage.folder) && self.reopen(rt)
     }
 
-    // The channel is deleted and made anew. Where the folder fails, that is tried again.
-    fn make_anew(&mut self) -> Result<bool, Memory>
-        requires { IsServed self.old.channel }
-        ensures { OnOk result (IsServed self.new.channel) }
-    {
-        for _ in 0..100 {
-            if calls::delete(self.alloc, &mut self.channel, &mut self.folder, &self.setup)? {
-                let at = self.dice.moment();
-                self.beside.starts(at)?;
-                return Ok(true);
-            }
-        }
-        Ok(false)
+    // The channel is opened, with the pause that was kept.
+    fn reopen(&mut self, rt: &impl Abort) -> bool {
+        let paused = self.stage.channel.is_paused();
+        let opened = self.stage.reopen(rt, self.beside.may_fail());
+        self.stage.channel.pause(paused);
+        opened
+    }
+
+    // The channel is deleted and made anew.
+    fn make_anew(&mut self, rt: &impl Abort) -> bool {
+        let made = self.stage.make_anew(rt);
+        let at = self.dice.moment();
+        self.beside.starts(rt, at);
+        made
     }
 }
 
 // Whether all calls of a run and a seed answer what is so in a possible state.
 fn holds<L: Ledger>(
+    rt: &impl Abort,
     alloc: Global,
     scratch: &mut Scratch,
     run: &Run,
-    dice: Dice,
+    seed: u64,
     steps: &mut Steps<L>,
-) -> Result<bool, Memory> {
-    let Some(mut pair) = pair_of(alloc, run, dice)? else {
-        return Ok(false);
-    };
-    calls_hold(&mut pair, scratch, steps)
+) -> bool {
+    let mut pair = pair_of(rt, alloc, run, seed);
+    let held = calls_hold(rt, &mut pair, scratch, steps);
+    let Pair {
+        stage,
+        beside: _beside,
+        dice: _,
+    } = pair;
+    end(stage);
+    held
 }
 
 fn calls_hold<L: Ledger>(
+    rt: &impl Abort,
     pair: &mut Pair,
     scratch: &mut Scratch,
     steps: &mut Steps<L>,
-) -> Result<bool, Memory>
-    requires { IsServed pair.old.channel }
-{
+) -> bool {
     for _ in 0..CALLS {
-        if !pair.step(scratch, steps)? {
-            return Ok(false);
+        if !pair.step(rt, scratch, steps) {
+            return false;
         }
     }
-    Ok(true)
+    true
 }
 
 // A channel in a folder, and the plain program beside it.
-fn pair_of(alloc: Global, run: &Run, dice: Dice) -> Result<Option<Pair>, Memory>
-    ensures { IfOk result (λ found. IfSome found (λ p. IsServed p.channel)) }
-{
-    let options = options_of(alloc, run)?;
-    let Some(setup) = Setup::new(run.ephemeral, options) else {
-        return Ok(None);
-    };
-    Ok(Some(pair_with(alloc, setup, run, dice)?))
-}
-
-fn pair_with(alloc: Global, setup: Setup, run: &Run, dice: Dice) -> Result<Pair, Memory>
-    ensures { IfOk result (λ p. IsServed p.channel) }
-{
-    let mut dice = dice;
-    let folder = folder_of(alloc, run, &mut dice)?;
-    let beside = Beside::new(alloc, &setup, run.fails)?;
-    let channel = served(alloc, &setup)?;
-    Ok(Pair {
-        alloc,
-        setup,
-        channel,
-        folder,
-        beside,
+fn pair_of(rt: &impl Abort, alloc: Global, run: &Run, seed: u64) -> Pair {
+    let mut dice = dice_of(seed, run);
+    let folder = folder(rt, alloc, run, &mut dice);
+    let setup = Setup::new(rt, alloc, run.channel(), options_of(rt, alloc, run));
+    Pair {
+        beside: Beside::new(rt, &setup, run.fails),
+        stage: Stage::new(rt, setup, folder),
         dice,
-    })
-}
-
-// The seed and the name of the first run that doesn't hold, if any.
-fn first_wrong<L: Ledger>(
-    alloc: Global,
-    scratch: &mut Scratch,
-    steps: &mut Steps<L>,
-) -> Result<Option<(u64, &'static str)>, Memory> {
-    for i in 0..SEEDS {
-        let seed = i + 1;
-        if let Some(name) = wrong_in(alloc, scratch, seed, steps)? {
-            return Ok(Some((seed, name)));
-        }
     }
-    Ok(None)
 }
 
 // The name of the first run that doesn't hold with this seed, if any.
 fn wrong_in<L: Ledger>(
+    rt: &impl Abort,
     alloc: Global,
     scratch: &mut Scratch,
     seed: u64,
     steps: &mut Steps<L>,
-) -> Result<Option<&'static str>, Memory> {
+) -> Option<&'static str> {
     for run in all_runs() {
-        if !holds(alloc, scratch, run, Dice::new(seed, run), steps)? {
-            return Ok(Some(run.name));
+        if !holds(rt, alloc, scratch, run, seed, steps) {
+            return Some(run.name);
         }
     }
-    Ok(None)
+    None
 }
 
-fn wrong_run<L: Ledger>(alloc: Global, blank: Blank) -> Result<Option<(u64, &'static str)>, Memory>
+// The seed and the name of the first run that doesn't hold, if any.
+fn first_wrong<L: Ledger>(
+    rt: &impl Abort,
+    alloc: Global,
+    scratch: &mut Scratch,
+    steps: &mut Steps<L>,
+) -> Option<(u64, &'static str)> {
+    for i in 0..SEEDS {
+        let seed = i + 1;
+        if let Some(name) = wrong_in(rt, alloc, scratch, seed, steps) {
+            return Some((seed, name));
+        }
+    }
+    None
+}
+
+fn wrong_run<R: Abort, L: Ledger>(
+    rt: &R,
+    alloc: Global,
+    blank: Blank,
+) -> Option<(u64, &'static str)>
     requires name { blank.name ≡ L.name }
     requires parts { blank.parts ≡ L.parts }
     requires some { 0 < L.parts }
 {
-    let mut scratch = Scratch::new(alloc)?;
+    let mut scratch = Scratch::new(alloc).expect(rt, "memory");
     let mut steps: Steps<L> = Steps::new(blank);
-    first_wrong(alloc, &mut scratch, &mut steps)
+    first_wrong(rt, alloc, &mut scratch, &mut steps)
 }
 
 #[test]
-fn runs(rt: HostRuntime) -> Result<(), Fail> {
-    let wrong = wrong_run::<Brand>(rt.alloc(), Blank::new(1))?;
+fn runs(rt: HostRuntime) {
+    let wrong = wrong_run::<_, Brand>(&rt, rt.alloc(), Blank::new(1));
     assert_eq!(rt; wrong, None);
-    Ok(())
 }

@@ -2,8 +2,9 @@
 
 use broker_history::{Act, Ask, Entry, Said};
 use broker_plain::{Phase, reply};
-use nsq_base::{Memory, Options};
+use nsq_base::Options;
 use std::alloc::Global;
+use std::process::Abort;
 use v2_frame::Command;
 
 // The connection that asks over HTTP.
@@ -30,17 +31,18 @@ pub fn asked(at: u64, ask: Ask) -> Entry {
 
 /// A command of a client that has subscribed, with its reply: the message that the command names is in flight with it or isn't.
 pub fn commanded(
+    rt: &impl Abort,
     alloc: Global,
     options: &Options,
     conn: u64,
     at: u64,
     command: Command,
     flies: bool,
-) -> Result<Entry, Memory> {
-    let given = reply(alloc, options, 0, Phase::Subscribed, flies, &command)?;
-    Ok(Entry {
+) -> Entry {
+    let given = reply(alloc, options, 0, Phase::Subscribed, flies, &command).expect(rt, "memory");
+    Entry {
         conn,
         at,
         act: Act::Did(command, given),
-    })
+    }
 }

@@ -3,9 +3,9 @@
 use broker_history::Entry;
 use broker_state::{ChannelState, MessageCopy, Place, State};
 use broker_steps::step;
-use nsq_base::Memory;
 use nsq_outside::End;
 use std::alloc::Global;
+use std::process::Abort;
 use v2_frame::Message;
 
 /// The states that are possible after what happened so far, as the plain program says; alike ones stand here once.
@@ -17,16 +17,19 @@ pub struct Possible {
 
 impl Possible {
     /// This state alone.
-    pub fn only(alloc: Global, state: State) -> Result<Possible, Memory> {
+    pub fn only(rt: &impl Abort, alloc: Global, state: State) -> Possible {
         let mut states = Vec::new(alloc);
-        states.push(state)?;
-        Ok(Possible { alloc, states })
+        states.push(state).expect(rt, "memory");
+        Possible { alloc, states }
     }
 
     /// An entry was made. Whether a step leads on by it from one of the states.
-    pub fn goes(&mut self, entry: &Entry, end: End) -> Result<bool, Memory> {
-        self.states = led_from(self.alloc, &self.states, entry, end)?;
-        Ok(!self.states.is_empty())
+    pub fn goes(&mut self, rt: &impl Abort, entry: Entry, end: End) -> bool {
+        let states = led_from(rt, self.alloc, &self.states, &entry, end);
+        let goes = !states.is_empty();
+        self.states = states;
+        let_go(entry);
+        goes
     }
 
     /// Hands the states out, and has none then.
@@ -35,56 +38,53 @@ impl Possible {
     }
 
     /// An entry could have been made, and wasn't. Whether a step would lead on by it from one of the states: those stay.
-    pub fn may(&mut self, entry: &Entry, end: End) -> Result<bool, Memory> {
+    pub fn may(&mut self, rt: &impl Abort, entry: Entry, end: End) -> bool {
         for state in self.take() {
-            self.keep_leading(state, entry, end)?;
+            let leads = leads_on(rt, self.alloc, &state, &entry, end);
+            keep_if(rt, &mut self.states, leads, state);
         }
-        Ok(!self.states.is_empty())
-    }
-
-    // Keeps the state, where the entry leads on from it.
-    fn keep_leading(&mut self, state: State, entry: &Entry, end: End) -> Result<(), Memory> {
-        let leads = leads_on(self.alloc, &state, entry, end)?;
-        self.keep_if(leads, state)
-    }
-
-    /// Keeps the state, where that is so.
-    pub fn keep_if(&mut self, so: bool, state: State) -> Result<(), Memory> {
-        if so {
-            self.states.push(state)?;
-        }
-        Ok(())
+        let_go(entry);
+        !self.states.is_empty()
     }
 }
 
+/// Keeps the state among these, where that is so.
+pub fn keep_if(rt: &impl Abort, states: &mut Vec<State>, so: bool, state: State) {
+    if so {
+        states.push(state).expect(rt, "memory");
+    }
+}
+
+fn let_go(_entry: Entry) {}
+
 // The states that an entry leads to from these.
 fn led_from(
+    rt: &impl Abort,
     alloc: Global,
     states: &[State],
     entry: &Entry,
     end: End,
-) -> Result<Vec<State>, Memory> {
+) -> Vec<State> {
     let mut led = Vec::new(alloc);
     for state in states {
-        add_new(&mut led, step(alloc, state, entry, end)?)?;
+        let next = step(alloc, state, entry, end).expect(rt, "memory");
+        add_new(rt, &mut led, next);
     }
-    Ok(led)
+    led
 }
 
 // Adds each of these states that isn't like one that is there.
-fn add_new(led: &mut Vec<State>, states: Vec<State>) -> Result<(), Memory> {
+fn add_new(rt: &impl Abort, led: &mut Vec<State>, states: Vec<State>) {
     for next in states {
-        if !is_among(led, &next) {
-            led.push(next)?;
-        }
+        let new = !is_among(led, &next);
+        keep_if(rt, led, new, next);
     }
-    Ok(())
 }
 
-/// Whether an entry leads on from this state.
-pub fn leads_on(alloc: Global, state: &State, entry: &Entry, end: End) -> Result<bool, Memory> {
-    let led = step(alloc, state, entry, end)?;
-    Ok(!led.is_empty())
+// Whether an entry leads on from this state.
+fn leads_on(rt: &impl Abort, alloc: Global, state: &State, entry: &Entry, end: End) -> bool {
+    let led = step(alloc, state, entry, end).expect(rt, "memory");
+    !led.is_empty()
 }
 
 // Whether one of these states is like another to which the same entries led.

@@ -1,13 +1,14 @@
 //! The states that runs begin with.
 
-use crate::broker::calls::{FIRST_TIME, SECOND_TIME};
+use crate::calls::{FIRST_TIME, SECOND_TIME};
 use broker_plain::Phase;
 use broker_state::{ChannelState, Client, Route, State, TopicState};
-use nsq_base::{Body, Chan, Memory, Options, Topic};
+use nsq_base::{Body, Chan, Options, Topic};
 use std::alloc::Global;
+use std::process::Abort;
 
-/// A client of a channel with so much time for a message, which asked for none yet. It has no heartbeat.
-pub fn client(alloc: Global, number: u64, timeout: u64, topic: Topic, channel: Chan) -> Client {
+// A client of a channel with so much time for a message, which asked for none yet. It has no heartbeat.
+fn client(alloc: Global, number: u64, timeout: u64, topic: Topic, channel: Chan) -> Client {
     Client {
         number,
         phase: Phase::Subscribed,
@@ -28,28 +29,44 @@ pub fn client(alloc: Global, number: u64, timeout: u64, topic: Topic, channel: C
 
 /// The state with both clients of this channel, as they subscribed.
 pub fn with_clients(
+    rt: &impl Abort,
     alloc: Global,
     state: State,
     topic: Topic,
     channel: Chan,
-) -> Result<State, Memory> {
-    state
-        .with_client(alloc, client(alloc, 1, FIRST_TIME, topic, channel))?
-        .with_client(alloc, client(alloc, 2, SECOND_TIME, topic, channel))
+) -> State {
+    let first = client(alloc, 1, FIRST_TIME, topic, channel);
+    let state = state.with_client(alloc, first).expect(rt, "memory");
+    with_second(rt, alloc, state, topic, channel)
+}
+
+/// The state with the second client of this channel, as it subscribed.
+pub fn with_second(
+    rt: &impl Abort,
+    alloc: Global,
+    state: State,
+    topic: Topic,
+    channel: Chan,
+) -> State {
+    let second = client(alloc, 2, SECOND_TIME, topic, channel);
+    state.with_client(alloc, second).expect(rt, "memory")
 }
 
 /// A topic with these channels and nothing in them, and no client.
 pub fn topic_alone(
+    rt: &impl Abort,
     alloc: Global,
     options: &Options,
     topic: Topic,
     channels: &[Chan],
     moment: u64,
-) -> Result<State, Memory> {
+) -> State {
     let mut topics = Vec::new(alloc);
-    topics.push(empty_topic(alloc, topic, channels)?)?;
-    Ok(State {
-        options: options.copy(alloc)?,
+    topics
+        .push(empty_topic(rt, alloc, topic, channels))
+        .expect(rt, "memory");
+    State {
+        options: options.copy(alloc).expect(rt, "memory"),
         epoch: 1,
         ids_used: 0,
         moment,
@@ -57,14 +74,16 @@ pub fn topic_alone(
         began: Vec::new(alloc),
         clients: Vec::new(alloc),
         topics,
-    })
+    }
 }
 
 // A topic with these channels.
-fn empty_topic(alloc: Global, topic: Topic, channels: &[Chan]) -> Result<TopicState, Memory> {
+fn empty_topic(rt: &impl Abort, alloc: Global, topic: Topic, channels: &[Chan]) -> TopicState {
     let mut empty = TopicState::new(alloc, topic);
     for channel in channels {
-        empty = empty.with_channel(alloc, ChannelState::new(alloc, *channel))?;
+        empty = empty
+            .with_channel(alloc, ChannelState::new(alloc, *channel))
+            .expect(rt, "memory");
     }
-    Ok(empty)
+    empty
 }

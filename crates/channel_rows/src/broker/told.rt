@@ -1,51 +1,58 @@
 //! What a channel and a topic tell of themselves, and whether that is so in a state.
 
-use crate::broker::calls::Who;
-use crate::broker::dice::NUMBERS;
 use crate::broker::possible::is_message;
+use crate::calls::Who;
+use crate::dice::IDS;
 use broker_history::{Ask, ChannelStats, ClientStats, Items, Said, Stats, TopicStats};
 use broker_said::may_say;
 use broker_state::{Client, MessageCopy, Place, State, TakenMessage, flying_of, flying_with};
 use channel_core::{Channel, Look};
-use nsq_base::{Body, Chan, Memory, MsgId, Topic};
+use nsq_base::{Body, Chan, MsgId, Topic};
 use std::alloc::Global;
+use std::process::Abort;
 use topic_core::TopicQueue;
 
 /// Whether what the channel tells is so in this state: its statistics, when the next copy is due, and where each copy is.
 pub fn is_channel(
+    rt: &impl Abort,
     alloc: Global,
     state: &State,
     topic: Topic,
     channel: &Channel,
-) -> Result<bool, Memory> {
+) -> bool {
     let Some(plain) = state.channel_at(&topic, &channel.name()) else {
-        return Ok(false);
+        return false;
     };
-    if !is_next_due(&plain.copies, channel.next_due()) {
-        return Ok(false);
-    }
-    let flights = in_flight(alloc, &plain.copies)?;
-    if !are_looks(&flights, channel) {
-        return Ok(false);
-    }
-    let stats = channel_told(alloc, state, topic, channel)?;
-    Ok(may_say(
-        state,
-        &Ask::Stats(Some(topic), Some(channel.name())),
-        &Said::Stats(stats),
-    ))
+    is_next_due(&plain.copies, channel.next_due())
+        && are_looks(&plain.copies, channel)
+        && says(
+            state,
+            topic,
+            channel.name(),
+            channel_told(rt, alloc, state, topic, channel),
+        )
+}
+
+// Whether this may be said to who asks for the statistics of a channel.
+fn says(state: &State, topic: Topic, channel: Chan, stats: Stats) -> bool {
+    let ask = Ask::Stats(Some(topic), Some(channel));
+    may_say(state, &ask, &Said::Stats(stats))
 }
 
 // The statistics with what the channel tells; what it doesn't know is the state's.
 fn channel_told(
+    rt: &impl Abort,
     alloc: Global,
     state: &State,
     topic: Topic,
     channel: &Channel,
-) -> Result<Stats, Memory> {
+) -> Stats {
     let mut channels = Items::new(alloc);
-    channels.push(channel_stats(alloc, state, channel)?)?;
+    channels
+        .push(channel_stats(rt, alloc, state, channel))
+        .expect(rt, "memory");
     topic_told(
+        rt,
         alloc,
         TopicStats {
             backend_depth: 0,
@@ -58,16 +65,16 @@ fn channel_told(
     )
 }
 
-fn topic_told(alloc: Global, topic: TopicStats) -> Result<Stats, Memory> {
+fn topic_told(rt: &impl Abort, alloc: Global, topic: TopicStats) -> Stats {
     let mut topics = Items::new(alloc);
-    topics.push(topic)?;
-    Ok(Stats { topics })
+    topics.push(topic).expect(rt, "memory");
+    Stats { topics }
 }
 
-fn channel_stats(alloc: Global, state: &State, channel: &Channel) -> Result<ChannelStats, Memory> {
+fn channel_stats(rt: &impl Abort, alloc: Global, state: &State, channel: &Channel) -> ChannelStats {
     let counts = channel.counts();
-    let clients = clients_told(alloc, &state.clients, channel)?;
-    Ok(ChannelStats {
+    let clients = clients_told(rt, alloc, &state.clients, channel);
+    ChannelStats {
         backend_depth: counts.backend_depth,
         channel_name: channel.name(),
         clients,
@@ -78,19 +85,21 @@ fn channel_stats(alloc: Global, state: &State, channel: &Channel) -> Result<Chan
         paused: channel.is_paused(),
         requeue_count: counts.requeue_count,
         timeout_count: counts.timeout_count,
-    })
+    }
 }
 
 fn clients_told(
+    rt: &impl Abort,
     alloc: Global,
     clients: &[Client],
     channel: &Channel,
-) -> Result<Items<ClientStats>, Memory> {
+) -> Items<ClientStats> {
     let mut told = Items::new(alloc);
     for client in clients {
-        told.push(client_told(alloc, client, channel.in_flight(client.number)))?;
+        let client = client_told(alloc, client, channel.in_flight(client.number));
+        told.push(client).expect(rt, "memory");
     }
-    Ok(told)
+    told
 }
 
 // What is told of a client with so many copies in flight.
@@ -160,20 +169,9 @@ fn is_due_at(copies: &[MessageCopy], id: &MsgId, at: Option<u128>, flies: bool) 
     false
 }
 
-// Those of the copies that are in flight.
-fn in_flight(alloc: Global, copies: &[MessageCopy]) -> Result<Vec<MessageCopy>, Memory> {
-    let mut flights = Vec::new(alloc);
-    for copy in copies {
-        if copy.place.is_in_flight() {
-            flights.push(copy.copy(alloc)?)?;
-        }
-    }
-    Ok(flights)
-}
-
-// Whether the channel tells of each id and client where its copy is, of these copies in flight.
+// Whether the channel tells of each id and client where its copy is, of these copies.
 fn are_looks(copies: &[MessageCopy], channel: &Channel) -> bool {
-    for number in 0..NUMBERS {
+    for number in 0..IDS {
         let id = MsgId::make(1, number);
         if !is_look(copies, channel, Who::First.client(), &id)
             || !is_look(copies, channel, Who::Second.client(), &id)
@@ -202,19 +200,23 @@ fn look(copies: &[MessageCopy], client: u64, id: &MsgId) -> Look {
 /// Whether what the topic tells is so in this state: its statistics, what it took, and the channels that are owed that. No channel of it has
 /// the name that is given.
 pub fn is_topic(
+    rt: &impl Abort,
     alloc: Global,
     state: &State,
     topic: &TopicQueue,
     none: Chan,
-) -> Result<bool, Memory> {
+) -> bool {
     let Some(plain) = state.topic_of(&topic.name()) else {
-        return Ok(false);
+        return false;
     };
-    if !is_taken(&plain.taken, topic) {
-        return Ok(false);
-    }
+    is_taken(&plain.taken, topic) && says(state, topic.name(), none, queue_told(rt, alloc, topic))
+}
+
+// The statistics with what the topic's queue tells.
+fn queue_told(rt: &impl Abort, alloc: Global, topic: &TopicQueue) -> Stats {
     let depths = topic.depths();
-    let stats = topic_told(
+    topic_told(
+        rt,
         alloc,
         TopicStats {
             backend_depth: depths.disk,
@@ -224,12 +226,7 @@ pub fn is_topic(
             paused: topic.is_paused(),
             topic_name: topic.name(),
         },
-    )?;
-    Ok(may_say(
-        state,
-        &Ask::Stats(Some(topic.name()), Some(none)),
-        &Said::Stats(stats),
-    ))
+    )
 }
 
 // Whether the topic took this message, which is owed to these channels.

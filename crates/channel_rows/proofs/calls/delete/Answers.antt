@@ -7,4 +7,4 @@ use Rattle.channel_rows.proofs.calls.delete.Goals as goal
 pub returns-in-Fault : goal.returns-in-Fault
 returns-in-Fault c =
     let rest = c.in-Fault.ensures.seen.rest in
-    as_served c.replace-old.result _ (ap (λ (v : Seen). v.drawn) rest) (ap (λ (v : Seen). v.clients) rest) (subst IsServed (sym c.replace-old.ensures.value) c.requires)
+    subst IsServed (sym c.put.ensures) (as_served c.replace-old.result _ (ap (λ (v : Seen). v.drawn) rest) (ap (λ (v : Seen). v.clients) rest) (subst IsServed (sym c.replace-old.ensures.value) c.requires.old))

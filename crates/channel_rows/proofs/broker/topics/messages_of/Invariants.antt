@@ -3,4 +3,4 @@ use Rattle.backlog.specs.Seen.{FitsLimit}
 use Rattle.channel_rows.proofs.broker.topics.messages_of.Given as goal
 
 abbrev pub invariant-loop-i : goal.invariant-loop-i
-invariant-loop-i l = All FitsLimit l.messages.items
+invariant-loop-i g l = All FitsLimit l.messages.items

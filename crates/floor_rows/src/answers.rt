@@ -4,131 +4,142 @@ use crate::stats::put_stats;
 use crate::texts::{put, put_names, put_number, put_sent};
 use broker_history::{Act, Said};
 use desk::Turned;
-use nsq_base::{Memory, Names};
+use nsq_base::Names;
 use nsq_outside::End;
 use std::alloc::Global;
+use std::process::Abort;
 use v2_frame::{Command, Frame, FrameKind, Message, Taken};
 
-/// What a turn answered.
-pub fn put_answer(alloc: Global, out: &mut Vec<u8>, answer: &Turned) -> Result<(), Memory> {
+/// What a turn answered, in full or in brief: what is in brief says neither what closes nor the moment of names, and leaves clients away.
+pub fn put_answer(rt: &impl Abort, alloc: Global, out: &mut Vec<u8>, answer: &Turned, full: bool) {
     match answer {
-        Turned::Begun => put(out, b"begun"),
-        Turned::Reply(frame, closes) => put_reply(out, frame, *closes),
-        Turned::Quiet => put(out, b"quiet"),
-        Turned::Deleted => put(out, b"deleted"),
-        Turned::Stopping => put(out, b"stopping"),
-        Turned::Send(frame) => put_push(alloc, out, frame),
-        Turned::Idle => put(out, b"idle"),
-        Turned::Silent => put(out, b"silent"),
-        Turned::Ended => put(out, b"ended"),
-        Turned::Said(said) => put_said(out, said),
-        Turned::Listed(names, at) => put_listed(out, names, *at),
-        Turned::Strange => put(out, b"strange"),
-        Turned::Memory => put(out, b"memory"),
+        Turned::Begun => put(rt, out, b"begun"),
+        Turned::Reply(frame, closes) => put_reply(rt, out, frame, *closes, full),
+        Turned::Quiet => put(rt, out, b"quiet"),
+        Turned::Deleted => put(rt, out, b"deleted"),
+        Turned::Stopping => put(rt, out, b"stopping"),
+        Turned::Send(frame) => put_push(rt, alloc, out, frame),
+        Turned::Idle => put(rt, out, b"idle"),
+        Turned::Silent => put(rt, out, b"silent"),
+        Turned::Ended => put(rt, out, b"ended"),
+        Turned::Said(said) => put_said(rt, out, said, full),
+        Turned::Listed(names, at) => put_listed(rt, out, names, *at, full),
+        Turned::Strange => put(rt, out, b"strange"),
+        Turned::Memory => put(rt, out, b"memory"),
     }
 }
 
-fn put_listed(out: &mut Vec<u8>, names: &Names, at: u64) -> Result<(), Memory> {
-    put(out, b"names at ")?;
-    put_number(out, u128::from(at))?;
-    put_names(out, names)
+fn put_listed(rt: &impl Abort, out: &mut Vec<u8>, names: &Names, at: u64, full: bool) {
+    put(rt, out, b"names");
+    if full {
+        put(rt, out, b" at ");
+        put_number(rt, out, u128::from(at));
+    }
+    put_names(rt, out, names);
 }
 
-// A reply, of which a text that isn't of its kind says so.
-fn put_reply(out: &mut Vec<u8>, frame: &Frame, closes: bool) -> Result<(), Memory> {
+// A reply, which says in full where its text isn't of its kind, and whether it closes.
+fn put_reply(rt: &impl Abort, out: &mut Vec<u8>, frame: &Frame, closes: bool, full: bool) {
     let text = frame.body.bytes();
-    put(out, text)?;
+    put(rt, out, text);
+    if !full {
+        return;
+    }
     if (frame.kind == FrameKind::Error) != text.starts_with(b"E_") {
-        put(out, b" of another kind")?;
+        put(rt, out, b" of another kind");
     }
     if closes {
-        put(out, b", closes")?;
+        put(rt, out, b", closes");
     }
-    Ok(())
 }
 
-fn put_push(alloc: Global, out: &mut Vec<u8>, frame: &Frame) -> Result<(), Memory> {
-    put(out, b"sends ")?;
+fn put_push(rt: &impl Abort, alloc: Global, out: &mut Vec<u8>, frame: &Frame) {
+    put(rt, out, b"sends ");
     match frame.kind {
-        FrameKind::Message => match Message::take(alloc, frame.body.bytes()) {
-            Taken::Whole(message) => put_sent(out, &message),
-            Taken::Short => put(out, b"too little"),
-            Taken::Memory => Err(Memory),
-        },
-        FrameKind::Response => put(out, frame.body.bytes()),
-        FrameKind::Error => put(out, b"an error"),
+        FrameKind::Message => put_taken(rt, out, &Message::take(alloc, frame.body.bytes())),
+        FrameKind::Response => put(rt, out, frame.body.bytes()),
+        FrameKind::Error => put(rt, out, b"an error"),
     }
 }
 
-fn put_said(out: &mut Vec<u8>, said: &Said) -> Result<(), Memory> {
+fn put_taken(rt: &impl Abort, out: &mut Vec<u8>, taken: &Taken) {
+    match taken {
+        Taken::Whole(message) => put_sent(rt, out, message),
+        Taken::Short => put(rt, out, b"too little"),
+        Taken::Memory => panic!(rt; "memory"),
+    }
+}
+
+fn put_said(rt: &impl Abort, out: &mut Vec<u8>, said: &Said, full: bool) {
     match said {
-        Said::Done => put(out, b"done"),
-        Said::NoTopic => put(out, b"no topic"),
-        Said::NoChannel => put(out, b"no channel"),
-        Said::Ids => put(out, b"ids spent"),
-        Said::Disk => put(out, b"disk fault"),
-        Said::Stats(stats) => put_stats(out, stats),
+        Said::Done => put(rt, out, b"done"),
+        Said::NoTopic => put(rt, out, b"no topic"),
+        Said::NoChannel => put(rt, out, b"no channel"),
+        Said::Ids => put(rt, out, b"ids spent"),
+        Said::Disk => put(rt, out, b"disk fault"),
+        Said::Stats(stats) => put_stats(rt, out, stats, full),
     }
 }
 
 /// What the client is answered, or is told over HTTP, of an act with this end at a moment; nothing of a move.
-pub fn put_told(out: &mut Vec<u8>, act: &Act, at: u64, end: End) -> Result<(), Memory> {
+pub fn put_told(rt: &impl Abort, out: &mut Vec<u8>, act: &Act, at: u64, end: End) {
     match act {
-        Act::Began => put(out, b"begun"),
-        Act::Did(command, reply) => put_done(out, command, reply, end),
-        Act::Refused(_, frame) => put_frame(out, frame),
+        Act::Began => put(rt, out, b"begun"),
+        Act::Did(command, reply) => put_done(rt, out, command, reply, end),
+        Act::Refused(_, frame) => put_frame(rt, out, frame),
         Act::Sent(message) => {
-            put(out, b"sends ")?;
-            put_sent(out, message)
+            put(rt, out, b"sends ");
+            put_sent(rt, out, message);
         }
-        Act::Beat => put(out, b"sends _heartbeat_"),
-        Act::Idle | Act::Stuck(_, Some(_)) => put(out, b"idle"),
-        Act::Silent => put(out, b"silent"),
-        Act::Dropped => put(out, b"deleted"),
-        Act::Gone => put(out, b"ended"),
+        Act::Beat => put(rt, out, b"sends _heartbeat_"),
+        Act::Idle | Act::Stuck(_, Some(_)) => put(rt, out, b"idle"),
+        Act::Silent => put(rt, out, b"silent"),
+        Act::Dropped => put(rt, out, b"deleted"),
+        Act::Gone => put(rt, out, b"ended"),
         Act::Asked(_, said) => match end {
-            End::Done => put_said(out, said),
-            End::Faulted(_) | End::Skip => put(out, b"disk fault"),
+            End::Done => put_said(rt, out, said, true),
+            End::Faulted(_) | End::Skip => put(rt, out, b"disk fault"),
         },
-        Act::Listed(names) => put_listed(out, names, at),
-        Act::Ticked => put(out, b"quiet"),
-        Act::Stop => put(out, b"stopping"),
-        _ => Ok(()),
+        Act::Listed(names) => put_listed(rt, out, names, at, true),
+        Act::Ticked => put(rt, out, b"quiet"),
+        Act::Stop => put(rt, out, b"stopping"),
+        _ => {}
     }
 }
 
 // What the client of a command is answered.
 fn put_done(
+    rt: &impl Abort,
     out: &mut Vec<u8>,
     command: &Command,
     reply: &Option<Frame>,
     end: End,
-) -> Result<(), Memory> {
+) {
     if end != End::Done {
-        return put_disk_fault(out, command);
+        return put_disk_fault(rt, out, command);
     }
     match reply {
-        Some(frame) => put_frame(out, frame),
-        None => put(out, b"quiet"),
+        Some(frame) => put_frame(rt, out, frame),
+        None => put(rt, out, b"quiet"),
     }
 }
 
-fn put_disk_fault(out: &mut Vec<u8>, command: &Command) -> Result<(), Memory> {
+fn put_disk_fault(rt: &impl Abort, out: &mut Vec<u8>, command: &Command) {
     match command {
-        Command::Pub(_, _) => put(out, b"E_PUB_FAILED disk fault, closes"),
-        Command::Mpub(_, _) => put(out, b"E_MPUB_FAILED disk fault, closes"),
-        Command::Dpub(_, _, _) => put(out, b"E_DPUB_FAILED disk fault, closes"),
-        Command::Req(_, _) => put(out, b"E_REQ_FAILED disk fault"),
-        _ => put(out, b"a disk fault that cannot be"),
+        Command::Pub(_, _) => put(rt, out, b"E_PUB_FAILED disk fault, closes"),
+        Command::Mpub(_, _) => put(rt, out, b"E_MPUB_FAILED disk fault, closes"),
+        Command::Dpub(_, _, _) => put(rt, out, b"E_DPUB_FAILED disk fault, closes"),
+        Command::Req(_, _) => put(rt, out, b"E_REQ_FAILED disk fault"),
+        _ => put(rt, out, b"a disk fault that cannot be"),
     }
 }
 
 // A reply: an error closes the connection, unless a message isn't in flight or can't be given back.
-fn put_frame(out: &mut Vec<u8>, frame: &Frame) -> Result<(), Memory> {
+fn put_frame(rt: &impl Abort, out: &mut Vec<u8>, frame: &Frame) {
     let text = frame.body.bytes();
     let stays = text.starts_with(b"E_FIN_FAILED")
         || text.starts_with(b"E_REQ_FAILED")
         || text.starts_with(b"E_TOUCH_FAILED");
     let closes = frame.kind == FrameKind::Error && !stays;
-    put_reply(out, frame, closes)
+    put_reply(rt, out, frame, closes, true);
 }

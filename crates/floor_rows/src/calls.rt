@@ -1,14 +1,15 @@
 //! Calls as text. What a client sends is its command's line with its bodies behind it, all parted by spaces; an id may be an i and the last digit
 //! of one of the first sixteen of the first run.
 
-ghost use Rattle.std.specs.Prelude.{◌≡◌, ◌∷◌, [], IfOk, IfSome};
+ghost use Rattle.std.specs.Prelude.{◌≡◌, ◌∷◌, [], IfSome};
 ghost use Rattle.desk.specs.Calls.{CanAsk, CanCall};
 
-use crate::texts::{FIRST_IDS, look_up, put, put_each};
+use crate::texts::{FIRST_IDS, look_up, put, put_word};
 use broker_history::Ask;
 use desk::Call;
-use nsq_base::{Bodies, Body, Chan, Memory, Topic};
+use nsq_base::{Bodies, Body, Chan, Topic};
 use std::alloc::Global;
+use std::process::Abort;
 use v2_frame::{Fault, FaultKind, Got, Limits, Reader};
 
 const LIMITS: Limits = Limits {
@@ -103,29 +104,29 @@ pub fn parted(text: &str) -> (&str, &str) {
 }
 
 /// The call of this text; none where it is no call.
-pub fn call_of(alloc: Global, text: &str) -> Result<Option<Call>, Memory>
-    ensures { IfOk result (λ call. IfSome call CanCall) }
+pub fn call_of(rt: &impl Abort, alloc: Global, text: &str) -> Option<Call>
+    ensures { IfSome result CanCall }
 {
     let (word, rest) = parted(text);
     match look_up(&WORDS, word.as_bytes()) {
-        Some(Word::Bad) => Ok(bad(rest)),
-        Some(Word::Publish) => published(alloc, rest),
-        Some(Word::Begin) => Ok(Some(Call::Begin)),
-        Some(Word::Next) => Ok(Some(Call::Next)),
-        Some(Word::Gone) => Ok(Some(Call::Gone)),
-        Some(Word::Names) => Ok(Some(Call::Names)),
-        Some(Word::Tick) => Ok(Some(Call::Tick)),
-        Some(Word::Stop) => Ok(Some(Call::Stop)),
-        None => asked_or_sent(alloc, text),
+        Some(Word::Bad) => bad(rest),
+        Some(Word::Publish) => published(rt, alloc, rest),
+        Some(Word::Begin) => Some(Call::Begin),
+        Some(Word::Next) => Some(Call::Next),
+        Some(Word::Gone) => Some(Call::Gone),
+        Some(Word::Names) => Some(Call::Names),
+        Some(Word::Tick) => Some(Call::Tick),
+        Some(Word::Stop) => Some(Call::Stop),
+        None => asked_or_sent(rt, alloc, text),
     }
 }
 
-fn asked_or_sent(alloc: Global, text: &str) -> Result<Option<Call>, Memory>
-    ensures { IfOk result (λ call. IfSome call CanCall) }
+fn asked_or_sent(rt: &impl Abort, alloc: Global, text: &str) -> Option<Call>
+    ensures { IfSome result CanCall }
 {
     let (word, rest) = parted(text);
     let Some(asking) = look_up(&ASKINGS, word.as_bytes()) else {
-        return sent(alloc, text);
+        return sent(rt, alloc, text);
     };
     let (topic, channel) = parted(rest);
     match ask_of(
@@ -133,8 +134,8 @@ fn asked_or_sent(alloc: Global, text: &str) -> Result<Option<Call>, Memory>
         Topic::read(topic.as_bytes()),
         Chan::read(channel.as_bytes()),
     ) {
-        Some(ask) => Ok(Some(Call::Ask(ask))),
-        None => Ok(None),
+        Some(ask) => Some(Call::Ask(ask)),
+        None => None,
     }
 }
 
@@ -166,127 +167,137 @@ fn ask_of(asking: Asking, topic: Option<Topic>, channel: Option<Chan>) -> Option
 }
 
 // A publish of one message: its topic, its delay in nanoseconds and its body.
-fn published(alloc: Global, text: &str) -> Result<Option<Call>, Memory>
-    ensures { IfOk result (λ call. IfSome call CanCall) }
+fn published(rt: &impl Abort, alloc: Global, text: &str) -> Option<Call>
+    ensures { IfSome result CanCall }
 {
     let (topic, rest) = parted(text);
     let (delay, body) = parted(rest);
     let (Some(topic), Ok(delay)) = (Topic::read(topic.as_bytes()), delay.parse::<u64>()) else {
-        return Ok(None);
+        return None;
     };
     if delay > LONGEST || body.len() > 100 {
-        return Ok(None);
+        return None;
     }
-    let bodies = one_body(alloc, body)?;
-    Ok(Some(Call::Ask(Ask::Publish(topic, delay, bodies))))
+    let bodies = one_body(rt, alloc, body);
+    Some(Call::Ask(Ask::Publish(topic, delay, bodies)))
 }
 
-fn one_body(alloc: Global, body: &str) -> Result<Bodies, Memory>
-    ensures { IfOk result (λ bodies. bodies ≡ body.now ∷ []) }
+fn one_body(rt: &impl Abort, alloc: Global, body: &str) -> Bodies
+    ensures { result ≡ body.now ∷ [] }
 {
     let mut bodies = Bodies::new(alloc);
-    bodies.push(Body::copy(alloc, body.as_bytes())?)?;
-    Ok(bodies)
+    let body = Body::copy(alloc, body.as_bytes()).expect(rt, "memory");
+    bodies.push(body).expect(rt, "memory");
+    bodies
 }
 
 // What a client sends.
-fn sent(alloc: Global, text: &str) -> Result<Option<Call>, Memory>
-    ensures { IfOk result (λ call. IfSome call CanCall) }
+fn sent(rt: &impl Abort, alloc: Global, text: &str) -> Option<Call>
+    ensures { IfSome result CanCall }
 {
-    let mut bytes = Vec::from_slice(alloc, b"  V2")?;
-    put_command(alloc, &mut bytes, text)?;
-    read(alloc, &bytes)
+    let mut bytes = Vec::new(alloc);
+    put(rt, &mut bytes, b"  V2");
+    put_command(rt, &mut bytes, text);
+    read(rt, alloc, &bytes)
 }
 
 // The call of a client's bytes from its first one on.
-fn read(alloc: Global, bytes: &[u8]) -> Result<Option<Call>, Memory>
-    ensures { IfOk result (λ call. IfSome call CanCall) }
+fn read(rt: &impl Abort, alloc: Global, bytes: &[u8]) -> Option<Call>
+    ensures { IfSome result CanCall }
 {
-    let mut reader = Reader::new(alloc, LIMITS)?;
-    reader.feed(bytes)?;
+    let mut reader = Reader::new(alloc, LIMITS).expect(rt, "memory");
+    reader.feed(bytes).expect(rt, "memory");
     match reader.next() {
-        Got::Whole(command) => Ok(Some(Call::Command(command))),
-        Got::Fault(fault) => Ok(Some(Call::Bad(fault))),
-        Got::More => Ok(None),
-        Got::Memory => Err(Memory),
+        Got::Whole(command) => Some(Call::Command(command)),
+        Got::Fault(fault) => Some(Call::Bad(fault)),
+        Got::More => None,
+        Got::Memory => panic!(rt; "memory"),
     }
 }
 
-fn put_command(alloc: Global, bytes: &mut Vec<u8>, text: &str) -> Result<(), Memory> {
+fn put_command(rt: &impl Abort, bytes: &mut Vec<u8>, text: &str) {
     let (word, rest) = parted(text);
+    let (first, behind) = parted(rest);
     match look_up(&FORMS, word.as_bytes()) {
         Some(Form::Body) => {
-            put_line(bytes, word, "")?;
-            put_sized(bytes, rest.as_bytes())
+            put_line(rt, bytes, word, "");
+            put_sized(rt, bytes, rest);
         }
         Some(Form::Topic) => {
-            let (topic, body) = parted(rest);
-            put_line(bytes, word, topic)?;
-            put_sized(bytes, body.as_bytes())
+            put_line(rt, bytes, word, first);
+            put_sized(rt, bytes, behind);
         }
         Some(Form::List) => {
-            let (topic, list) = parted(rest);
-            put_line(bytes, word, topic)?;
-            put_list(alloc, bytes, list)
+            put_line(rt, bytes, word, first);
+            put_list(rt, bytes, behind);
         }
-        Some(Form::Delayed) => put_delayed(bytes, rest),
-        Some(Form::Id) => put_of_id(bytes, word, rest),
-        None => put_line(bytes, text, ""),
+        Some(Form::Delayed) => put_delayed(rt, bytes, word, first, behind),
+        Some(Form::Id) => put_of_id(rt, bytes, word, rest),
+        None => put_line(rt, bytes, text, ""),
     }
 }
 
 // A line of two words, or of one where the second is empty.
-fn put_line(bytes: &mut Vec<u8>, word: &str, rest: &str) -> Result<(), Memory> {
-    if rest.is_empty() {
-        return put_each(bytes, &[word.as_bytes(), b"\n"]);
+fn put_line(rt: &impl Abort, bytes: &mut Vec<u8>, word: &str, rest: &str) {
+    put(rt, bytes, word.as_bytes());
+    if !rest.is_empty() {
+        put_word(rt, bytes, rest.as_bytes());
     }
-    put_each(bytes, &[word.as_bytes(), b" ", rest.as_bytes(), b"\n"])
+    put(rt, bytes, b"\n");
 }
 
-// A size, and so many bytes.
-fn put_sized(bytes: &mut Vec<u8>, body: &[u8]) -> Result<(), Memory> {
-    put_size(bytes, body.len())?;
-    put(bytes, body)
+// A size, and a body of so many bytes.
+fn put_sized(rt: &impl Abort, bytes: &mut Vec<u8>, body: &str) {
+    put_size(rt, bytes, body.len());
+    put(rt, bytes, body.as_bytes());
 }
 
-fn put_size(bytes: &mut Vec<u8>, size: usize) -> Result<(), Memory> {
+fn put_size(rt: &impl Abort, bytes: &mut Vec<u8>, size: usize) {
     let size = u32::try_from(size).unwrap_or(0);
-    put(bytes, &size.to_be_bytes())
+    put(rt, bytes, &size.to_be_bytes());
 }
 
-// A DPUB of a topic, a delay and a body.
-fn put_delayed(bytes: &mut Vec<u8>, rest: &str) -> Result<(), Memory> {
-    let (topic, rest) = parted(rest);
+// A command of a topic, a delay and a body.
+fn put_delayed(rt: &impl Abort, bytes: &mut Vec<u8>, word: &str, topic: &str, rest: &str) {
     let (delay, body) = parted(rest);
-    put(bytes, b"DPUB ")?;
-    put_line(bytes, topic, delay)?;
-    put_sized(bytes, body.as_bytes())
+    put(rt, bytes, word.as_bytes());
+    put(rt, bytes, b" ");
+    put_line(rt, bytes, topic, delay);
+    put_sized(rt, bytes, body);
 }
 
 // A line that names a message.
-fn put_of_id(bytes: &mut Vec<u8>, word: &str, rest: &str) -> Result<(), Memory> {
-    put_each(bytes, &[word.as_bytes(), b" "])?;
+fn put_of_id(rt: &impl Abort, bytes: &mut Vec<u8>, word: &str, rest: &str) {
+    put(rt, bytes, word.as_bytes());
+    put(rt, bytes, b" ");
     match rest.strip_prefix("i") {
-        Some(digit) => put_each(bytes, &[FIRST_IDS, digit.as_bytes(), b"\n"]),
-        None => put_line(bytes, rest, ""),
+        Some(digit) => {
+            put(rt, bytes, FIRST_IDS);
+            put_line(rt, bytes, digit, "");
+        }
+        None => put_line(rt, bytes, rest, ""),
     }
 }
 
 // The size of a list of messages, their count, and each with its size.
-fn put_list(alloc: Global, bytes: &mut Vec<u8>, list: &str) -> Result<(), Memory> {
-    let mut bodies = Vec::new(alloc);
-    let count = put_bodies(&mut bodies, list)?;
-    put_size(bytes, bodies.len().saturating_add(4))?;
-    put_size(bytes, count)?;
-    put(bytes, &bodies)
+fn put_list(rt: &impl Abort, bytes: &mut Vec<u8>, list: &str) {
+    let count = count_of(list);
+    // The count has four bytes, and so has each size; a space stands between two bodies of the text alone.
+    let spaces = count.saturating_sub(1);
+    let sizes = count.saturating_mul(4);
+    let size = list.len().saturating_sub(spaces).saturating_add(sizes);
+    put_size(rt, bytes, size.saturating_add(4));
+    put_size(rt, bytes, count);
+    for body in list.split(" ") {
+        put_sized(rt, bytes, body);
+    }
 }
 
-// Messages, each with its size. How many they are.
-fn put_bodies(bytes: &mut Vec<u8>, list: &str) -> Result<usize, Memory> {
+// How many bodies stand in a list.
+fn count_of(list: &str) -> usize {
     let mut count: usize = 0;
-    for body in list.split(" ") {
-        put_sized(bytes, body.as_bytes())?;
+    for _ in list.split(" ") {
         count = count.saturating_add(1);
     }
-    Ok(count)
+    count
 }

@@ -2,9 +2,11 @@
 
 ghost use Rattle.std.specs.Prelude.{◌≤◌, ◌<◌};
 
-use nsq_base::Memory;
+use crate::calls::parted;
+use crate::texts::{look_up, same};
 use nsq_fakes::{Failing, FolderCall};
 use std::alloc::Global;
+use std::process::Abort;
 
 /// Random numbers.
 #[derive(Clone, Copy)]
@@ -16,6 +18,112 @@ pub struct Dice {
 const FOLDER_CALLS: u64 = 2_000;
 
 const FAULTS: u64 = 40;
+
+/// Calls of which one is drawn.
+#[derive(Clone, Copy)]
+pub struct Calls {
+    /// The number drawn is below this one; of a single call, where it is 0, none is drawn.
+    pub below: u64,
+    /// Lines of a number and a call: the one that is made is the first whose number is above the one drawn. A word with an @ stands for words.
+    pub lines: &'static str,
+}
+
+/// What somebody asks who needs no connection.
+pub const ASKS: Calls = Calls {
+    below: 32,
+    lines: "
+        2 create @topic
+        8 create @topic @channel
+        9 delete @topic
+        11 delete @topic @channel
+        12 empty @topic
+        13 empty @topic @channel
+        14 pause @topic @channel
+        15 pause @topic
+        18 unpause @topic @channel
+        20 unpause @topic
+        26 stats
+        28 names
+        32 publish @topic @wait @body
+    ",
+};
+
+/// What a client publishes.
+pub const PUBLISHES: Calls = Calls {
+    below: 8,
+    lines: "
+        1 DPUB @topic @delay @body
+        2 MPUB @topic @body @body
+        8 PUB @topic @body
+    ",
+};
+
+/// What a client says that joins a channel.
+pub const JOINS: Calls = Calls {
+    below: 8,
+    lines: r#"
+        1 IDENTIFY {"heartbeat_interval":-1}
+        2 IDENTIFY {"heartbeat_interval":1000,"msg_timeout":2000}
+        3 @early
+        8 SUB @topic @channel
+    "#,
+};
+
+/// What a client says that joined one.
+pub const SAYS: Calls = Calls {
+    below: 16,
+    lines: "
+        1 SUB @topic @channel
+        12 RDY @credit
+        14 NOP
+        15 @late
+        16 @wrong
+    ",
+};
+
+/// What a client does with a message, whose id stands at @id.
+pub const HANDLES: Calls = Calls {
+    below: 8,
+    lines: "
+        3 FIN @id
+        5 TOUCH @id
+        8 REQ @id @back
+    ",
+};
+
+pub const BEGIN: Calls = Calls {
+    below: 0,
+    lines: "1 begin",
+};
+
+pub const GONE: Calls = Calls {
+    below: 0,
+    lines: "1 gone",
+};
+
+pub const NEXT: Calls = Calls {
+    below: 0,
+    lines: "1 next",
+};
+
+pub const TICK: Calls = Calls {
+    below: 0,
+    lines: "1 tick",
+};
+
+// The words that a word with an @ stands for, parted by strokes.
+static WORDS: [(&[u8], &str); 10] = [
+    (b"@topic", "t|t|e#ephemeral"),
+    (b"@channel", "a|a|b|c#ephemeral"),
+    (b"@body", "x|yy|zzz|a-longer-body"),
+    (b"@wait", "0|0|500000000|5000000000"),
+    (b"@delay", "0|300|1000|3600001"),
+    (b"@early", "IDENTIFY {}|IDENTIFY []|RDY 1|CLS"),
+    (b"@credit", "1|2|3|9|0|9"),
+    (b"@late", "CLS|RDY 2501"),
+    (b"@wrong", "IDENTIFY {}|bad word|bad size"),
+    (b"@back", "0|0|300|1000|99999999"),
+];
 
 impl Dice {
     /// Random numbers of this seed.
@@ -37,21 +145,8 @@ impl Dice {
         (self.state >> 33) % bound
     }
 
-    // One of these words, or none where there are none.
-    fn word(&mut self, words: &[&'static str]) -> &'static str {
-        let count = words.len() as u64;
-        if count == 0 {
-            return "";
-        }
-        let at = self.below(count) as usize;
-        match words.get(at) {
-            Some(word) => word,
-            None => "",
-        }
-    }
-
     /// Some calls of a folder that fail, of any method.
-    pub fn faults(&mut self, alloc: Global) -> Result<Vec<Failing>, Memory> {
+    pub fn faults(&mut self, rt: &impl Abort, alloc: Global) -> Vec<Failing> {
         let mut fails = Vec::new(alloc);
         for _ in 0..FAULTS {
             let call = match self.below(4) {
@@ -61,9 +156,9 @@ impl Dice {
             };
             let from = self.below(FOLDER_CALLS);
             let to = from.wrapping_add(self.below(3)).wrapping_add(1);
-            fails.push(Failing { call, from, to })?;
+            fails.push(Failing { call, from, to }).expect(rt, "memory");
         }
-        Ok(fails)
+        fails
     }
 
     /// How much later it is: mostly nothing.
@@ -84,129 +179,63 @@ impl Dice {
         0
     }
 
-    /// What somebody asks who needs no connection.
-    pub fn ask(&mut self, out: &mut String) -> Result<(), Memory> {
-        match self.below(32) {
-            0 | 1 => self.topic_call(out, "create "),
-            2..=7 => self.channel_call(out, "create "),
-            8 => self.topic_call(out, "delete "),
-            9 | 10 => self.channel_call(out, "delete "),
-            11 => self.topic_call(out, "empty "),
-            12 => self.channel_call(out, "empty "),
-            13 => self.channel_call(out, "pause "),
-            14 => self.topic_call(out, "pause "),
-            15..=17 => self.channel_call(out, "unpause "),
-            18 | 19 => self.topic_call(out, "unpause "),
-            20..=25 => put(out, "stats"),
-            26 | 27 => put(out, "names"),
-            _ => {
-                let topic = self.topic();
-                let delay = self.word(&[" 0 ", " 0 ", " 500000000 ", " 5000000000 "]);
-                put_each(out, &["publish ", topic, delay, self.body()])
+    /// Puts one of these calls, and this id where one has its place.
+    pub fn put_call(&mut self, rt: &impl Abort, out: &mut String, calls: Calls, id: &str) {
+        let call = self.one_call(calls);
+        for word in call.split(" ") {
+            if !out.is_empty() {
+                out.push_str(" ").expect(rt, "memory");
             }
+            let word = if same(word.as_bytes(), b"@id") {
+                id
+            } else {
+                self.one_word(word)
+            };
+            out.push_str(word).expect(rt, "memory");
         }
     }
 
-    fn topic(&mut self) -> &'static str {
-        self.word(&["t", "t", "e#ephemeral"])
-    }
-
-    fn channel(&mut self) -> &'static str {
-        self.word(&["a", "a", "b", "c#ephemeral"])
-    }
-
-    fn body(&mut self) -> &'static str {
-        self.word(&["x", "yy", "zzz", "a-longer-body"])
-    }
-
-    fn topic_call(&mut self, out: &mut String, word: &str) -> Result<(), Memory> {
-        put(out, word)?;
-        put(out, self.topic())
-    }
-
-    fn channel_call(&mut self, out: &mut String, word: &str) -> Result<(), Memory> {
-        self.topic_call(out, word)?;
-        put(out, " ")?;
-        put(out, self.channel())
-    }
-
-    /// What a client publishes.
-    pub fn publish(&mut self, out: &mut String) -> Result<(), Memory> {
-        match self.below(8) {
-            0 => {
-                let topic = self.topic();
-                let delay = self.word(&[" 0 ", " 300 ", " 1000 ", " 3600001 "]);
-                put_each(out, &["DPUB ", topic, delay, self.body()])
-            }
-            1 => {
-                let topic = self.topic();
-                let first = self.body();
-                put_each(out, &["MPUB ", topic, " ", first, " ", self.body()])
-            }
-            _ => {
-                let topic = self.topic();
-                put_each(out, &["PUB ", topic, " ", self.body()])
+    // One of these calls, with its words as they stand there.
+    fn one_call(&mut self, calls: Calls) -> &'static str {
+        let drawn = self.drawn(calls.below);
+        for line in calls.lines.lines() {
+            let (bound, call) = parted(line.trim());
+            if drawn < bound.parse::<u64>().unwrap_or(0) {
+                return call;
             }
         }
+        ""
     }
 
-    /// What a client says that joins a channel.
-    pub fn joins(&mut self, out: &mut String) -> Result<(), Memory> {
-        match self.below(8) {
-            0 => put(out, r#"IDENTIFY {"heartbeat_interval":-1}"#),
-            1 => put(
-                out,
-                r#"IDENTIFY {"heartbeat_interval":1000,"msg_timeout":2000}"#,
-            ),
-            2 => put(
-                out,
-                self.word(&["IDENTIFY {}", "IDENTIFY []", "RDY 1", "CLS"]),
-            ),
-            _ => self.channel_call(out, "SUB "),
+    // A random number below this one, where that isn't 0.
+    fn drawn(&mut self, bound: u64) -> u64 {
+        if bound == 0 {
+            return 0;
         }
+        self.below(bound)
     }
 
-    /// What a client says that joined one.
-    pub fn says(&mut self, out: &mut String) -> Result<(), Memory> {
-        match self.below(16) {
-            0 => self.channel_call(out, "SUB "),
-            1..=11 => put(
-                out,
-                self.word(&["RDY 1", "RDY 2", "RDY 3", "RDY 9", "RDY 0", "RDY 9"]),
-            ),
-            12 | 13 => put(out, "NOP"),
-            14 => put(out, self.word(&["CLS", "RDY 2501"])),
-            _ => put(out, self.word(&["IDENTIFY {}", "bad word", "bad size"])),
-        }
-    }
-
-    /// What a client does with a message of this id.
-    pub fn handles(&mut self, out: &mut String, id: &str) -> Result<(), Memory> {
-        match self.below(8) {
-            0 | 1 | 2 => put_id(out, "FIN ", id),
-            3 | 4 => put_id(out, "TOUCH ", id),
-            _ => {
-                put_id(out, "REQ ", id)?;
-                put(out, self.word(&[" 0", " 0", " 300", " 1000", " 99999999"]))
+    // One of the words that a word stands for, or itself.
+    fn one_word<'a>(&mut self, word: &'a str) -> &'a str {
+        let Some(words) = look_up(&WORDS, word.as_bytes()) else {
+            return word;
+        };
+        let mut place = self.drawn(count_of(words));
+        for word in words.split("|") {
+            if place == 0 {
+                return word;
             }
+            place = place.wrapping_sub(1);
         }
+        ""
     }
 }
 
-fn put(out: &mut String, text: &str) -> Result<(), Memory> {
-    out.push_str(text)?;
-    Ok(())
-}
-
-// A command's word with the id of a message.
-fn put_id(out: &mut String, word: &str, id: &str) -> Result<(), Memory> {
-    put(out, word)?;
-    put(out, id)
-}
-
-fn put_each(out: &mut String, texts: &[&str]) -> Result<(), Memory> {
-    for text in texts {
-        put(out, text)?;
+// How many words there are.
+fn count_of(words: &str) -> u64 {
+    let mut count: u64 = 0;
+    for _ in words.split("|") {
+        count = count.wrapping_add(1);
     }
-    Ok(())
+    count
 }

@@ -1,94 +1,97 @@
 //! Entries as text, and whether they are those of a turn.
 
-use crate::texts::{put, put_channels, put_each, put_id, put_message, put_number, put_sent, same};
+use crate::texts::{put, put_channels, put_id, put_message, put_number, put_sent, put_word, same};
 use broker_history::{Act, Ask, Entry};
 use desk::Call;
-use nsq_base::{Bodies, Body, Chan, Memory, MsgId, Names, Topic};
+use nsq_base::{Body, Chan, MsgId, Names, Topic};
 use nsq_outside::End;
+use std::process::Abort;
 use v2_frame::{Command, Message};
 
 /// An act and how it ended. Of a command, of what is asked and of a fault neither what it says nor what is answered stands here.
-pub fn put_entry(out: &mut Vec<u8>, act: &Act, end: End) -> Result<(), Memory> {
-    put_act(out, act)?;
+pub fn put_entry(rt: &impl Abort, out: &mut Vec<u8>, act: &Act, end: End) {
+    put_act(rt, out, act);
     match end {
-        End::Done => Ok(()),
+        End::Done => {}
         End::Faulted(count) => {
-            put(out, b", faulted ")?;
-            put_number(out, u128::from(count))
+            put(rt, out, b", faulted ");
+            put_number(rt, out, u128::from(count));
         }
-        End::Skip => put(out, b", skipped"),
+        End::Skip => put(rt, out, b", skipped"),
     }
 }
 
-fn put_act(out: &mut Vec<u8>, act: &Act) -> Result<(), Memory> {
+fn put_act(rt: &impl Abort, out: &mut Vec<u8>, act: &Act) {
     match act {
-        Act::Began => put(out, b"began"),
-        Act::Did(_, _) => put(out, b"did"),
-        Act::Refused(_, _) => put(out, b"refused"),
+        Act::Began => put(rt, out, b"began"),
+        Act::Did(_, _) => put(rt, out, b"did"),
+        Act::Refused(_, _) => put(rt, out, b"refused"),
         Act::Sent(message) => {
-            put(out, b"sent ")?;
-            put_sent(out, message)
+            put(rt, out, b"sent ");
+            put_sent(rt, out, message);
         }
-        Act::Beat => put(out, b"beat"),
-        Act::Idle => put(out, b"idle"),
-        Act::Silent => put(out, b"silent"),
-        Act::Dropped => put(out, b"dropped"),
-        Act::Gone => put(out, b"gone"),
-        Act::Asked(_, _) => put(out, b"asked"),
-        Act::Listed(_) => put(out, b"listed"),
-        Act::Ticked => put(out, b"ticked"),
-        Act::Stop => put(out, b"stop"),
-        _ => put_move(out, act),
+        Act::Beat => put(rt, out, b"beat"),
+        Act::Idle => put(rt, out, b"idle"),
+        Act::Silent => put(rt, out, b"silent"),
+        Act::Dropped => put(rt, out, b"dropped"),
+        Act::Gone => put(rt, out, b"gone"),
+        Act::Asked(_, _) => put(rt, out, b"asked"),
+        Act::Listed(_) => put(rt, out, b"listed"),
+        Act::Ticked => put(rt, out, b"ticked"),
+        Act::Stop => put(rt, out, b"stop"),
+        _ => put_move(rt, out, act),
     }
 }
 
-fn put_move(out: &mut Vec<u8>, act: &Act) -> Result<(), Memory> {
+fn put_move(rt: &impl Abort, out: &mut Vec<u8>, act: &Act) {
     match act {
-        Act::Took(topic, message, names) => put_took(out, topic, message, names),
+        Act::Took(topic, message, names) => put_took(rt, out, topic, message, names),
         Act::Copied(topic, channel, message) => {
-            put_place(out, b"copied ", topic, channel)?;
-            put_message(out, message)
+            put_place(rt, out, b"copied", topic, channel);
+            put_message(rt, out, message);
         }
-        Act::TimedOut(topic, channel, id) => put_moved(out, b"timed-out ", topic, channel, id),
-        Act::CameDue(topic, channel, id) => put_moved(out, b"came-due ", topic, channel, id),
-        Act::HeldBack(topic, channel, id) => put_moved(out, b"held-back ", topic, channel, id),
+        Act::TimedOut(topic, channel, id) => put_moved(rt, out, b"timed-out", topic, channel, id),
+        Act::CameDue(topic, channel, id) => put_moved(rt, out, b"came-due", topic, channel, id),
+        Act::HeldBack(topic, channel, id) => put_moved(rt, out, b"held-back", topic, channel, id),
         Act::Stuck(topic, channel) => {
-            put_each(out, &[b"stuck ", topic.bytes()])?;
-            put_channels(out, channel.as_slice())
+            put(rt, out, b"stuck");
+            put_word(rt, out, topic.bytes());
+            put_channels(rt, out, channel.as_slice());
         }
-        _ => Ok(()),
+        _ => {}
     }
 }
 
-fn put_took(
-    out: &mut Vec<u8>,
-    topic: &Topic,
-    message: &Message,
-    names: &Names,
-) -> Result<(), Memory> {
-    put_each(out, &[b"took ", topic.bytes(), b" "])?;
-    put_message(out, message)?;
-    put(out, b" for")?;
+fn put_took(rt: &impl Abort, out: &mut Vec<u8>, topic: &Topic, message: &Message, names: &Names) {
+    put(rt, out, b"took");
+    put_word(rt, out, topic.bytes());
+    put(rt, out, b" ");
+    put_message(rt, out, message);
+    put(rt, out, b" for");
     if names.count() != 1 || !same(names.topic(0).bytes(), topic.bytes()) {
-        return put(out, b" others");
+        return put(rt, out, b" others");
     }
-    put_channels(out, names.channels(0))
+    put_channels(rt, out, names.channels(0));
 }
 
 fn put_moved(
+    rt: &impl Abort,
     out: &mut Vec<u8>,
     word: &[u8],
     topic: &Topic,
     channel: &Chan,
     id: &MsgId,
-) -> Result<(), Memory> {
-    put_place(out, word, topic, channel)?;
-    put_id(out, id)
+) {
+    put_place(rt, out, word, topic, channel);
+    put_id(rt, out, id);
 }
 
-// Behind a word a topic and a channel of it.
-fn put_place(out: &mut Vec<u8>, word: &[u8], topic: &Topic, channel: &Chan) -> Result<(), Memory> {
-    put_each(out, &[word, topic.bytes(), b" ", channel.bytes(), b" "])
+// A word, and behind it a topic and a channel of it.
+fn put_place(rt: &impl Abort, out: &mut Vec<u8>, word: &[u8], topic: &Topic, channel: &Chan) {
+    put(rt, out, word);
+    put_word(rt, out, topic.bytes());
+    put_word(rt, out, channel.bytes());
+    put(rt, out, b" ");
 }
 
 /// Whether an act is a move, or the daemon's Stuck.
@@ -137,7 +140,7 @@ fn is_command(a: &Command, b: &Command) -> bool {
         (Command::Identify(a), Command::Identify(b)) => is_body(a, b),
         (Command::Sub(a, c), Command::Sub(b, d)) => a == b && c == d,
         (Command::Pub(a, c), Command::Pub(b, d)) => a == b && is_body(c, d),
-        (Command::Mpub(a, c), Command::Mpub(b, d)) => a == b && are_bodies(c, d),
+        (Command::Mpub(a, c), Command::Mpub(b, d)) => a == b && c == d,
         (Command::Dpub(a, c, e), Command::Dpub(b, d, f)) => a == b && c == d && is_body(e, f),
         (Command::Rdy(a), Command::Rdy(b)) => a == b,
         (Command::Fin(a), Command::Fin(b)) => a == b,
@@ -153,13 +156,9 @@ fn is_body(a: &Body, b: &Body) -> bool {
     same(a.bytes(), b.bytes())
 }
 
-fn are_bodies(a: &Bodies, b: &Bodies) -> bool {
-    a == b
-}
-
 fn is_ask(a: &Ask, b: &Ask) -> bool {
     match (a, b) {
-        (Ask::Publish(a, c, e), Ask::Publish(b, d, f)) => a == b && c == d && are_bodies(e, f),
+        (Ask::Publish(a, c, e), Ask::Publish(b, d, f)) => a == b && c == d && e == f,
         (Ask::Stats(a, c), Ask::Stats(b, d)) => a == b && c == d,
         (Ask::Create(a, c), Ask::Create(b, d)) => is_place(a, c, b, d),
         (Ask::Delete(a, c), Ask::Delete(b, d)) => is_place(a, c, b, d),

@@ -14,9 +14,11 @@ mod dice;
 #[cfg(test)]
 mod entries;
 #[cfg(test)]
-mod outside;
+mod files;
 #[cfg(test)]
-mod plain;
+mod judged;
+#[cfg(test)]
+mod outside;
 #[cfg(test)]
 mod random;
 #[cfg(test)]
@@ -25,6 +27,8 @@ mod restarts;
 mod rows;
 #[cfg(test)]
 mod script;
+#[cfg(test)]
+mod settings;
 #[cfg(test)]
 mod stats;
 #[cfg(test)]

@@ -28,19 +28,18 @@ impl Clock for Shown<'_> {
     }
 }
 
-/// A journal that keeps its entries, and tells here how many were noted.
+/// A journal that keeps its entries, and tells where that is asked how many were noted.
 #[derive(Drop)]
 pub struct Counted<'a> {
     inner: MemJournal<Entry>,
-    noted: &'a AtomicU64,
+    noted: Option<&'a AtomicU64>,
 }
 
 impl<'a> Counted<'a> {
     /// An empty journal.
-    pub fn new(alloc: Global, noted: &'a AtomicU64) -> Counted<'a>
+    pub fn new(alloc: Global, noted: Option<&'a AtomicU64>) -> Counted<'a>
         ensures { kept_of result.inner ≡ None }
     {
-        noted.store(0, Ordering::SeqCst);
         Counted {
             inner: MemJournal::new(alloc),
             noted,
@@ -70,7 +69,8 @@ impl Journal<Entry> for Counted<'_> {
 
     fn note(&mut self, end: End) {
         self.inner.note(end);
-        let noted = self.inner.entries().len();
-        self.noted.store(noted as u64, Ordering::SeqCst);
+        if let Some(noted) = self.noted {
+            noted.store(self.inner.entries().len() as u64, Ordering::SeqCst);
+        }
     }
 }

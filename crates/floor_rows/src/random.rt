@@ -1,16 +1,16 @@
 //! Random turns of three clients at two topics, of which one is ephemeral, over a folder that fails at random: the plain program finds what they
 //! noted legal, and each is answered as its entry says.
 
-ghost use Rattle.std.specs.Prelude.{IfOk};
 ghost use Rattle.nsq_base.specs.Options.{IsInRange};
 
-use crate::dice::Dice;
-use crate::plain::states_of;
+use crate::dice::{ASKS, BEGIN, Calls, Dice, GONE, HANDLES, JOINS, NEXT, PUBLISHES, SAYS, TICK};
+use crate::judged::first_states_of;
 use crate::script::{Bench, Dials, Done, Left, floor_of, is_in_order, put_turn};
-use crate::texts::{look_up, put, put_each, put_number};
-use nsq_base::{Body, Memory, Options};
+use crate::texts::{look_up, put, put_number, put_word};
+use nsq_base::Options;
 use nsq_fakes::MemFolder;
 use std::alloc::Global;
+use std::process::Abort;
 
 // How many seeds there are; the first is 1.
 const SEEDS: u64 = 20;
@@ -77,11 +77,10 @@ static TOLD: [(&[u8], Told); 5] = [
     (b"silent", Told::Closed),
 ];
 
-// A run: a floor, what its clients know, and whether it stopped.
+// What clients know, and whether the daemon stopped.
 #[derive(Drop)]
-struct Run<'a> {
+struct Clients {
     alloc: Global,
-    bench: Bench<'a>,
     dice: Dice,
     reading: u64,
     sides: [Side; 3],
@@ -90,107 +89,76 @@ struct Run<'a> {
     stopped: bool,
 }
 
-impl<'a> Run<'a> {
-    // What was done, and what the floor left.
-    fn end(self) -> (Vec<Done>, Left<'a>) {
-        let Run {
-            alloc: _,
-            bench,
-            dice: _,
-            reading: _,
-            sides: _,
-            sent: _,
-            stopped: _,
-        } = self;
-        let (done, _, left) = bench.end(false);
-        (done, left)
-    }
-
-    // One random turn. Whether it was strange, or stopping, exactly where it should.
-    fn turn(&mut self, count: u64) -> Result<bool, Memory> {
-        self.pass();
-        let side = self.dice.below(3) as usize;
-        let mut call = String::new(self.alloc);
-        if count == RUNNING {
-            call.push_str("stop")?;
-        } else {
-            self.put_call(&mut call, side)?;
+impl Clients {
+    // Three clients that haven't begun.
+    fn new(alloc: Global, seed: u64) -> Clients {
+        Clients {
+            alloc,
+            dice: Dice::new(seed),
+            reading: 0,
+            sides: [side_of(1), side_of(2), side_of(3)],
+            sent: Vec::new(alloc),
+            stopped: false,
         }
-        self.make(side, &call)
     }
 
-    // A turn of this call. Whether it was strange, or stopping, exactly where it should.
-    fn make(&mut self, side: usize, call: &str) -> Result<bool, Memory> {
-        let number = self.side(side).number;
-        if !self.bench.turn(number, call)? {
-            return Ok(false);
-        }
-        self.learn(side, call)
-    }
-
-    // The clock stands, goes on, or goes back for one turn.
-    fn pass(&mut self) {
+    // What the clock shows next: it stands, goes on, or goes back for one turn.
+    fn pass(&mut self) -> u64 {
         self.reading = self.reading.saturating_add(self.dice.later());
-        let shown = if self.dice.below(16) == 0 {
+        if self.dice.below(16) == 0 {
             self.reading / 2
         } else {
             self.reading
-        };
-        self.bench.show(shown);
-    }
-
-    fn side(&self, side: usize) -> Side {
-        match self.sides.get(side) {
-            Some(side) => *side,
-            None => side_of(1),
         }
     }
 
-    // A call of a client or of somebody who needs no connection.
-    fn put_call(&mut self, call: &mut String, side: usize) -> Result<(), Memory> {
-        let side = self.side(side);
+    fn side(&self, rt: &impl Abort, place: usize) -> Side {
+        *self.sides.get(place).expect(rt, "a side")
+    }
+
+    // The turn of this count: a call of a client or of somebody who needs no connection, or a stop.
+    fn call(&mut self, rt: &impl Abort, count: u64, place: usize) -> String {
+        let mut call = String::new(self.alloc);
+        if count == RUNNING {
+            call.push_str("stop").expect(rt, "memory");
+        } else {
+            self.put_call(rt, &mut call, place);
+        }
+        call
+    }
+
+    fn put_call(&mut self, rt: &impl Abort, call: &mut String, place: usize) {
+        let side = self.side(rt, place);
         let goes_on = self.dice.below(8) != 0;
-        match self.dice.below(64) {
-            0..=8 => self.dice.ask(call),
-            9..=11 => Ok(call.push_str("tick")?),
-            _ if goes_on && !side.is_there => Ok(call.push_str("begin")?),
-            _ if goes_on && side.closed => Ok(call.push_str("gone")?),
-            12..=23 => self.dice.publish(call),
-            _ if goes_on && !side.joined => self.dice.joins(call),
-            24..=32 => self.dice.says(call),
-            33..=40 => self.put_handling(call),
-            41 => Ok(call.push_str("gone")?),
-            42 => Ok(call.push_str("begin")?),
-            _ => Ok(call.push_str("next")?),
+        let drawn = self.dice.below(64);
+        match calls_of(side, goes_on, drawn) {
+            Some(calls) => self.dice.put_call(rt, call, calls, ""),
+            None => self.put_handling(rt, call),
         }
     }
 
     // What is done with one of the last messages that were sent.
-    fn put_handling(&mut self, call: &mut String) -> Result<(), Memory> {
+    fn put_handling(&mut self, rt: &impl Abort, call: &mut String) {
         let back = self.dice.below(3) as usize;
         let at = self.sent.len().saturating_sub(1).saturating_sub(back);
         match self.sent.get(at) {
-            Some(id) => self.dice.handles(call, id),
-            None => self.dice.handles(call, "i0"),
+            Some(id) => self.dice.put_call(rt, call, HANDLES, id),
+            None => self.dice.put_call(rt, call, HANDLES, "i0"),
         }
     }
 
-    // What the turn's answer tells. Whether it was strange, or stopping, exactly where it should.
-    fn learn(&mut self, side: usize, call: &str) -> Result<bool, Memory> {
-        let Some(done) = self.bench.last() else {
-            return Ok(false);
-        };
-        let told = told_by(&done.answer);
-        if let Some(id) = sent_id(self.alloc, &done.answer)? {
-            self.sent.push(id)?;
+    // What a turn's answer tells. Whether it was strange, or stopping, exactly where it should.
+    fn learn(&mut self, rt: &impl Abort, place: usize, call: &str, answer: &[u8]) -> bool {
+        if let Some(id) = sent_id(rt, self.alloc, answer) {
+            self.sent.push(id).expect(rt, "memory");
         }
-        Ok(self.note(side, call, told))
+        self.note(rt, place, call, told_by(answer))
     }
 
     // Notes what a call was answered. Whether it was strange, or stopping, exactly where it should.
-    fn note(&mut self, side: usize, call: &str, told: Told) -> bool {
+    fn note(&mut self, rt: &impl Abort, place: usize, call: &str, told: Told) -> bool {
         let kind = look_up(&KINDS, call.as_bytes()).unwrap_or(Kind::Other);
-        let before = self.side(side);
+        let before = self.side(rt, place);
         let stops = self.stopped && ends_at_stop(kind) || matches!(kind, Kind::Stop);
         let strange = match kind {
             Kind::Begin => before.is_there,
@@ -200,17 +168,28 @@ impl<'a> Run<'a> {
             Kind::Gone => side_of(before.number.saturating_add(3)),
             _ => learned(before, kind, call, told),
         };
-        self.put_side(side, after);
+        *self.sides.get_mut(place).expect(rt, "a side") = after;
         self.stopped = self.stopped || matches!(kind, Kind::Stop);
         matches!(told, Told::Strange) == strange
             && matches!(told, Told::Stopping) == (!strange && stops)
     }
+}
 
-    fn put_side(&mut self, side: usize, now: Side) {
-        if let Some(place) = self.sides.get_mut(side) {
-            *place = now;
-        }
-    }
+// What is called by a client, or by somebody who needs no connection; none where the client does something with a message.
+fn calls_of(side: Side, goes_on: bool, drawn: u64) -> Option<Calls> {
+    Some(match drawn {
+        0..=8 => ASKS,
+        9..=11 => TICK,
+        _ if goes_on && !side.is_there => BEGIN,
+        _ if goes_on && side.closed => GONE,
+        12..=23 => PUBLISHES,
+        _ if goes_on && !side.joined => JOINS,
+        24..=32 => SAYS,
+        33..=40 => return None,
+        41 => GONE,
+        42 => BEGIN,
+        _ => NEXT,
+    })
 }
 
 // What an answer tells.
@@ -233,15 +212,17 @@ fn learned(before: Side, kind: Kind, call: &str, told: Told) -> Side {
 }
 
 // The id of the message that an answer sends.
-fn sent_id(alloc: Global, answer: &[u8]) -> Result<Option<String>, Memory> {
-    let text = String::from_utf8_lossy(alloc, answer)?;
-    let Some(rest) = text.strip_prefix("sends ") else {
-        return Ok(None);
-    };
-    match rest.split_once("*") {
-        Some((id, _)) => Ok(Some(String::from_str(alloc, id)?)),
-        None => Ok(None),
+fn sent_id(rt: &impl Abort, alloc: Global, answer: &[u8]) -> Option<String> {
+    let text = String::from_utf8_lossy(alloc, answer).expect(rt, "memory");
+    match id_in(&text) {
+        Some(id) => Some(String::from_str(alloc, id).expect(rt, "memory")),
+        None => None,
     }
+}
+
+fn id_in(text: &str) -> Option<&str> {
+    let (id, _) = text.strip_prefix("sends ")?.split_once("*")?;
+    Some(id)
 }
 
 // Whether it is a client's call, other than its beginning.
@@ -263,10 +244,10 @@ fn ends_at_stop(kind: Kind) -> bool {
 }
 
 // Options with short times, and no texts, since each state has a copy of them.
-fn options_of(alloc: Global, seed: u64) -> Result<Options, Memory>
-    ensures { IfOk result IsInRange }
+fn options_of(rt: &impl Abort, alloc: Global, seed: u64) -> Options
+    ensures { IsInRange result }
 {
-    let mut options = Options::defaults(alloc)?;
+    let mut options = Options::defaults(alloc).expect(rt, "memory");
     options.mem_queue_size = match seed % 4 {
         1 => 1,
         3 => 3,
@@ -276,131 +257,119 @@ fn options_of(alloc: Global, seed: u64) -> Result<Options, Memory>
     options.max_msg_timeout = 3_000_000_000;
     options.max_bytes_per_file = 200;
     options.sync_every = 7;
-    if options.in_range() {
-        Ok(options)
-    } else {
-        Err(Memory)
-    }
-}
-
-// A run of a seed.
-fn run_of<'a>(
-    alloc: Global,
-    seed: u64,
-    options: &Options,
-    dials: &'a Dials,
-) -> Result<Run<'a>, Memory>
-    requires { IsInRange options.now }
-{
-    let mut dice = Dice::new(seed);
-    let folder = MemFolder::new(alloc, Vec::new(alloc), dice.faults(alloc)?)?;
-    let floor = floor_of(alloc, options, folder, dials)?;
-    Ok(Run {
-        alloc,
-        bench: Bench::new(alloc, floor, dials),
-        dice,
-        reading: 0,
-        sides: [side_of(1), side_of(2), side_of(3)],
-        sent: Vec::new(alloc),
-        stopped: false,
-    })
+    assert!(rt; options.in_range(), "options that none has");
+    options
 }
 
 // What is wrong with a seed's turns, as text; nothing where they are right.
-fn put_wrong_in(alloc: Global, text: &mut Vec<u8>, seed: u64) -> Result<(), Memory> {
+fn put_wrong(rt: &impl Abort, alloc: Global, text: &mut Vec<u8>, seed: u64) {
     let dials = Dials::new();
-    let options = options_of(alloc, seed)?;
-    let mut run = run_of(alloc, seed, &options, &dials)?;
-    let right = turns_are_right(&mut run)?;
-    let (done, left) = run.end();
-    judge(alloc, text, &options, right, &done, &left)
+    let options = options_of(rt, alloc, seed);
+    let mut clients = Clients::new(alloc, seed);
+    let fails = clients.dice.faults(rt, alloc);
+    let folder = MemFolder::new(alloc, Vec::new(alloc), fails).expect(rt, "memory");
+    let mut bench = Bench::new(alloc, floor_of(rt, alloc, &options, folder, &dials), &dials);
+    let right = turns_are_right(rt, &mut clients, &mut bench, &dials);
+    let (done, _, left) = bench.end(false);
+    judge(rt, alloc, text, &options, right, &done, &left);
 }
 
-fn turns_are_right(run: &mut Run) -> Result<bool, Memory> {
+fn turns_are_right(
+    rt: &impl Abort,
+    clients: &mut Clients,
+    bench: &mut Bench,
+    dials: &Dials,
+) -> bool {
     for count in 0..TURNS {
-        if !run.turn(count)? {
-            return Ok(false);
+        dials.show(clients.pass());
+        if !turn(rt, clients, bench, count) {
+            return false;
         }
     }
-    Ok(true)
+    true
+}
+
+// One random turn. Whether it was strange, or stopping, exactly where it should.
+fn turn(rt: &impl Abort, clients: &mut Clients, bench: &mut Bench, count: u64) -> bool {
+    let place = clients.dice.below(3) as usize;
+    let call = clients.call(rt, count, place);
+    let number = clients.side(rt, place).number;
+    if !bench.turn(rt, number, &call) {
+        return false;
+    }
+    match bench.last() {
+        Some(done) => clients.learn(rt, place, &call, &done.answer),
+        None => false,
+    }
 }
 
 // What is wrong with turns that were made.
 fn judge(
+    rt: &impl Abort,
     alloc: Global,
     text: &mut Vec<u8>,
     options: &Options,
     right: bool,
     done: &[Done],
     left: &Left,
-) -> Result<(), Memory> {
+) {
     if !right {
-        return tell(text, b"the last is answered wrongly", done, left);
+        return tell(rt, text, b"the last is answered wrongly", done, left);
     }
-    if let Some(stray) = out_of_order(alloc, done, left)? {
-        put(text, b"not in order")?;
-        return put_line(text, stray, left);
+    if let Some(stray) = out_of_order(rt, alloc, done, left) {
+        put(rt, text, b"not in order");
+        return put_line(rt, text, stray, left);
     }
-    if states_of(alloc, options, &[], left.journal.entries())?.is_empty() {
-        return tell(text, b"not legal", done, left);
+    if first_states_of(rt, alloc, options, &[], left.journal.entries()).is_empty() {
+        tell(rt, text, b"not legal", done, left);
     }
-    Ok(())
 }
 
 // The first turn whose entries aren't in order.
 fn out_of_order<'a>(
+    rt: &impl Abort,
     alloc: Global,
     done: &'a [Done],
     left: &Left,
-) -> Result<Option<&'a Done>, Memory> {
+) -> Option<&'a Done> {
     for one in done {
-        if !is_in_order(alloc, one, left.journal.entries())? {
-            return Ok(Some(one));
+        if !is_in_order(rt, alloc, one, left.journal.entries()) {
+            return Some(one);
         }
     }
-    Ok(None)
+    None
 }
 
 // What is said of turns, and the turns.
-fn tell(text: &mut Vec<u8>, what: &[u8], done: &[Done], left: &Left) -> Result<(), Memory> {
-    put(text, what)?;
+fn tell(rt: &impl Abort, text: &mut Vec<u8>, what: &[u8], done: &[Done], left: &Left) {
+    put(rt, text, what);
     for one in done {
-        put_line(text, one, left)?;
+        put_line(rt, text, one, left);
     }
-    Ok(())
 }
 
 // A turn in a line of its own.
-fn put_line(text: &mut Vec<u8>, one: &Done, left: &Left) -> Result<(), Memory> {
-    put(text, b"\n")?;
-    put_number(text, u128::from(one.at))?;
-    put(text, b": ")?;
-    put_number(text, u128::from(one.number))?;
-    put_each(text, &[b" ", one.call.as_bytes(), b" => "])?;
-    put_turn(text, one, left.journal.entries())
+fn put_line(rt: &impl Abort, text: &mut Vec<u8>, one: &Done, left: &Left) {
+    put(rt, text, b"\n");
+    put_number(rt, text, u128::from(one.at));
+    put(rt, text, b": ");
+    put_number(rt, text, u128::from(one.number));
+    put_word(rt, text, one.call.as_bytes());
+    put(rt, text, b" => ");
+    put_turn(rt, text, one, left.journal.entries());
 }
 
-// What is wrong with the first seed that is, as text.
-fn put_wrong(alloc: Global, wrong: &mut Vec<u8>) -> Result<(), Memory> {
-    for seed in 1..SEEDS + 1 {
-        put_wrong_in(alloc, wrong, seed)?;
-        if !wrong.is_empty() {
-            put(wrong, b"\nseed ")?;
-            return put_number(wrong, u128::from(seed));
-        }
-    }
-    Ok(())
-}
-
-fn wrong(alloc: Global) -> Result<String, Memory> {
+// Stops the run where a seed's turns aren't right.
+fn try_seed(rt: &impl Abort, alloc: Global, seed: u64) {
     let mut wrong = Vec::new(alloc);
-    put_wrong(alloc, &mut wrong)?;
-    Ok(String::from_utf8_lossy(alloc, &wrong)?)
+    put_wrong(rt, alloc, &mut wrong, seed);
+    let text = String::from_utf8_lossy(alloc, &wrong).expect(rt, "memory");
+    assert!(rt; wrong.is_empty(), "{text}\nseed {seed}");
 }
 
 #[test]
-fn random_turns(rt: HostRuntime) -> Result<(), Memory> {
-    let wrong = wrong(rt.alloc())?;
-    assert!(rt; wrong.is_empty(), "{wrong}");
-    Ok(())
+fn random_turns(rt: HostRuntime) {
+    for seed in 1..SEEDS + 1 {
+        try_seed(&rt, rt.alloc(), seed);
+    }
 }

@@ -4,13 +4,9 @@
 //! The crate has nothing but tests. A row is a transcript of runs, or a trial; one function says whether it holds, and one test names the row that
 //! doesn't.
 
-mod answers;
 mod bench;
 mod faults;
-mod files;
 mod findings;
-mod judged;
-mod outside;
 mod rows;
 mod setting;
 mod tables;

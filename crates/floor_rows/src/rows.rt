@@ -1,15 +1,16 @@
 //! Whether a row holds, and the test over all tables.
 
-ghost use Rattle.std.specs.Prelude.{IfOk};
-ghost use Rattle.nsq_base.specs.Options.{IsInRange};
-
-use crate::plain::{File, states_of};
+use crate::files::{File, folder_of, named, same_file};
+use crate::judged::first_states_of;
 use crate::script::{Bench, Dials, Done, Left, behind_number, floor_of, is_in_order, put_turn};
+use crate::settings::{SECOND, options_of};
 use crate::tables::tables;
-use crate::texts::{put_each, same};
-use nsq_base::{Memory, Options};
-use nsq_fakes::{Failing, MemFolder};
+use crate::texts::{put_line, same};
+use nsq_base::Options;
+use nsq_fakes::Failing;
+use queue_plain::NamedFile;
 use std::alloc::Global;
+use std::process::Abort;
 
 /// What a run starts from.
 #[derive(Clone, Copy)]
@@ -23,8 +24,6 @@ pub struct Start {
     /// The folder's files.
     pub files: &'static [File],
 }
-
-pub const SECOND: u64 = 1_000_000_000;
 
 /// The default options and an empty folder.
 pub const EMPTY: Start = Start {
@@ -58,39 +57,6 @@ pub const PLAIN: Row = Row {
     leaves: &[],
 };
 
-fn options_of(alloc: Global, start: Start) -> Result<Options, Memory>
-    ensures { IfOk result IsInRange }
-{
-    let mut options = Options::defaults(alloc)?;
-    options.mem_queue_size = start.memory;
-    options.msg_timeout = start.timeout;
-    options.sync_timeout = start.unsaved;
-    if options.in_range() {
-        Ok(options)
-    } else {
-        Err(Memory)
-    }
-}
-
-fn folder_of(alloc: Global, row: &Row) -> Result<MemFolder, Memory> {
-    let fails = Vec::from_slice(alloc, row.fails)?;
-    let mut files = Vec::new(alloc);
-    add_files(alloc, &mut files, row.start.files)?;
-    MemFolder::new(alloc, files, fails)
-}
-
-fn add_files(
-    alloc: Global,
-    files: &mut Vec<(String, Vec<u8>)>,
-    further: &[File],
-) -> Result<(), Memory> {
-    for (name, bytes) in further {
-        let name = String::from_str(alloc, name)?;
-        files.push((name, Vec::from_slice(alloc, bytes)?))?;
-    }
-    Ok(())
-}
-
 // What differs in a row.
 #[derive(Drop)]
 struct Difference {
@@ -101,152 +67,136 @@ struct Difference {
 }
 
 // What differs in a row.
-fn differs(alloc: Global, row: &Row) -> Result<Difference, Memory> {
+fn differs(rt: &impl Abort, alloc: Global, row: &Row) -> Difference {
     let dials = Dials::new();
-    let options = options_of(alloc, row.start)?;
-    let floor = floor_of(alloc, &options, folder_of(alloc, row)?, &dials)?;
-    let mut bench = Bench::new(alloc, floor, &dials);
-    let stray = run(&mut bench, row.lines)?;
+    let start = row.start;
+    let options = options_of(rt, alloc, start.memory, start.timeout, start.unsaved);
+    let files = named(rt, alloc, start.files, 0);
+    let folder = folder_of(rt, alloc, &files, row.fails);
+    let mut bench = Bench::new(alloc, floor_of(rt, alloc, &options, folder, &dials), &dials);
+    let stray = run(rt, &mut bench, row.lines);
     let (done, written, left) = bench.end(row.flush.is_some());
     let faulted = left.folder.faults() != 0;
     let mut text = Vec::new(alloc);
     if let Some(line) = stray {
-        say(&mut text, line, b"is no line")?;
-    } else if row.flush.is_some_and(|wanted| wanted != written) {
-        say(&mut text, "the flush", b"ends otherwise")?;
+        put_line(rt, &mut text, line, b"is no line");
+    } else if matches!(row.flush, Some(wanted) if wanted != written) {
+        put_line(rt, &mut text, "the flush", b"ends otherwise");
     } else {
-        compare(alloc, &mut text, row, &options, &done, &left)?;
+        compare_lines(rt, alloc, &mut text, row.lines, &done, &left);
     }
-    Ok(Difference { text, faulted })
+    if text.is_empty() {
+        judge(rt, alloc, &mut text, row, &options, &files, &left);
+    }
+    Difference { text, faulted }
 }
 
 // The first line that says nothing, if there is one.
-fn run<'a>(bench: &mut Bench, lines: &'a str) -> Result<Option<&'a str>, Memory> {
+fn run<'a>(rt: &impl Abort, bench: &mut Bench, lines: &'a str) -> Option<&'a str> {
     for line in lines.lines() {
         let line = line.trim();
-        if !line.is_empty() && !bench.line(line)? {
-            return Ok(Some(line));
+        if !line.is_empty() && !bench.line(rt, line) {
+            return Some(line);
         }
     }
-    Ok(None)
+    None
 }
 
-// What differs from the lines, then in what stands behind them.
-fn compare(
+// What differs in what stands behind the lines.
+fn judge(
+    rt: &impl Abort,
     alloc: Global,
     text: &mut Vec<u8>,
     row: &Row,
     options: &Options,
-    done: &[Done],
+    files: &[NamedFile],
     left: &Left,
-) -> Result<(), Memory> {
-    compare_lines(alloc, text, row.lines, done, left)?;
-    if !text.is_empty() {
-        return Ok(());
+) {
+    if first_states_of(rt, alloc, options, files, left.journal.entries()).is_empty() {
+        return put_line(rt, text, "", b"isn't legal");
     }
-    let entries = left.journal.entries();
-    if states_of(alloc, options, row.start.files, entries)?.is_empty() {
-        return say(text, "", b"isn't legal");
-    }
+    compare_files(rt, text, row, left);
+}
+
+fn compare_files(rt: &impl Abort, text: &mut Vec<u8>, row: &Row, left: &Left) {
     for (name, bytes) in row.leaves {
-        if left.folder.file(name) != *bytes {
-            return say(text, name, left.folder.file(name).unwrap_or(b"isn't there"));
+        let file = left.folder.file(name);
+        if !same_file(file, *bytes) {
+            return put_line(rt, text, name, file.unwrap_or(b"isn't there"));
         }
     }
-    Ok(())
 }
 
 // What differs from the lines that are turns.
 fn compare_lines(
+    rt: &impl Abort,
     alloc: Global,
     text: &mut Vec<u8>,
     lines: &str,
     done: &[Done],
     left: &Left,
-) -> Result<(), Memory> {
+) {
     let mut next: usize = 0;
     for line in lines.lines() {
         let line = line.trim();
         if line.is_empty() || line.starts_with("at ") {
             continue;
         }
-        compare_line(alloc, text, line, done.get(next), left)?;
+        compare_line(rt, alloc, text, line, done.get(next), left);
         if !text.is_empty() {
-            return Ok(());
+            return;
         }
         next = next.saturating_add(1);
     }
-    Ok(())
 }
 
 // What differs from a line.
 fn compare_line(
+    rt: &impl Abort,
     alloc: Global,
     text: &mut Vec<u8>,
     line: &str,
     done: Option<&Done>,
     left: &Left,
-) -> Result<(), Memory> {
+) {
     let Some(done) = done else {
-        return say(text, line, b"wasn't made");
+        return put_line(rt, text, line, b"wasn't made");
     };
     let mut told = Vec::new(alloc);
-    put_turn(&mut told, done, left.journal.entries())?;
+    put_turn(rt, &mut told, done, left.journal.entries());
     let (_, wanted) = behind_number(line);
     if !same(&told, wanted.as_bytes()) {
-        return say(text, line, &told);
+        return put_line(rt, text, line, &told);
     }
-    if !is_in_order(alloc, done, left.journal.entries())? {
-        return say(text, line, b"isn't in order");
+    if !is_in_order(rt, alloc, done, left.journal.entries()) {
+        put_line(rt, text, line, b"isn't in order");
     }
-    Ok(())
 }
 
-// Says this of a line.
-fn say(text: &mut Vec<u8>, line: &str, what: &[u8]) -> Result<(), Memory> {
-    put_each(text, &[line.as_bytes(), b": ", what])
+// What differs in a row. One over a folder with faults, or in which it lacked memory, begins once more. So where one allocation fails, whichever it is
+// (`rt try --test --fail-alloc N`), the row holds or the run ends at once, as a row itself has no memory. What differs otherwise counts the first
+// time: a turn in which an allocation failed may have lost nothing, and noted nothing that it didn't answer.
+fn wrong_in(rt: &impl Abort, alloc: Global, row: &Row) -> Vec<u8> {
+    let first = differs(rt, alloc, row);
+    let starved = first.faulted || !row.fails.is_empty();
+    if first.text.is_empty() || !starved {
+        return first.text;
+    }
+    differs(rt, alloc, row).text
 }
 
-// What differs in a row. One that ends for want of memory outside of its turns, or in which the folder found none, begins once more; so the rows hold
-// too where one allocation fails, whichever it is: `rt try --test --fail-alloc N`. What differs otherwise counts the first time: a turn in which an
-// allocation failed may have lost nothing, and noted nothing that it didn't answer.
-fn wrong_in(alloc: Global, row: &Row) -> Result<Vec<u8>, Memory> {
-    if let Ok(first) = differs(alloc, row) {
-        let starved = first.faulted || !row.fails.is_empty();
-        if first.text.is_empty() || !starved {
-            return Ok(first.text);
-        }
-    }
-    Ok(differs(alloc, row)?.text)
-}
-
-// The names of the rows that don't hold, each with what differs in it.
-fn wrong(alloc: Global) -> Result<String, Memory> {
-    let mut wrong = Vec::new(alloc);
-    for table in tables() {
-        put_wrongs(alloc, &mut wrong, table)?;
-    }
-    Ok(String::from_utf8_lossy(alloc, &wrong)?)
-}
-
-fn put_wrongs(alloc: Global, wrong: &mut Vec<u8>, table: &[Row]) -> Result<(), Memory> {
-    for row in table {
-        put_wrong(alloc, wrong, row)?;
-    }
-    Ok(())
-}
-
-fn put_wrong(alloc: Global, wrong: &mut Vec<u8>, row: &Row) -> Result<(), Memory> {
-    let differs = wrong_in(alloc, row)?;
-    if differs.is_empty() {
-        return Ok(());
-    }
-    put_each(wrong, &[b"\n", row.name.as_bytes(), b"\n  ", &differs])
+// Stops the run where a row doesn't hold, with its name and what differs in it.
+fn try_row(rt: &impl Abort, alloc: Global, row: &Row) {
+    let wrong = wrong_in(rt, alloc, row);
+    let text = String::from_utf8_lossy(alloc, &wrong).expect(rt, "memory");
+    assert!(rt; wrong.is_empty(), "{}\n  {text}", row.name);
 }
 
 #[test]
-fn transcripts(rt: HostRuntime) -> Result<(), Memory> {
-    let wrong = wrong(rt.alloc())?;
-    assert!(rt; wrong.is_empty(), "{wrong}");
-    Ok(())
+fn transcripts(rt: HostRuntime) {
+    for table in &tables() {
+        for row in *table {
+            try_row(&rt, rt.alloc(), row);
+        }
+    }
 }

@@ -16,32 +16,20 @@ mod turns;
 
 use crate::rows::Row;
 
-pub fn tables() -> [&'static [Row]; 25] {
+pub fn tables() -> [&'static [Row]; 13] {
     [
         turns::rows(),
-        statistics::rows_1(),
-        statistics::rows_2(),
-        refusals::rows_1(),
-        refusals::rows_2(),
+        statistics::rows(),
+        refusals::rows(),
         bytes::rows(),
-        identities::rows_1(),
-        identities::rows_2(),
-        deletions::rows_1(),
-        deletions::rows_2(),
-        ephemeral::rows_1(),
-        ephemeral::rows_2(),
-        ticks::rows_1(),
-        ticks::rows_2(),
-        ticks::rows_3(),
+        identities::rows(),
+        deletions::rows(),
+        ephemeral::rows(),
+        ticks::rows(),
         stops::rows(),
-        moments::rows_1(),
-        moments::rows_2(),
-        moments::rows_3(),
-        faults::rows_1(),
-        faults::rows_2(),
-        faults::rows_3(),
-        copies::rows_1(),
-        copies::rows_2(),
+        moments::rows(),
+        faults::rows(),
+        copies::rows(),
         kinds::rows(),
     ]
 }

@@ -4,22 +4,24 @@ ghost use Rattle.std.specs.Prelude.{◌≡◌, false};
 ghost use Rattle.nsq_base.specs.Options.{IsInRange};
 ghost use Rattle.path_closing.specs.Floors.{flushed_of};
 
+use crate::answers::put_answer;
 use crate::calls::{call_of, parted};
-use crate::restarts::answers::put_answer;
-use crate::restarts::outside::Noted;
+use crate::outside::Counted;
+use crate::script::yes_or_no;
 use crate::texts::{put, put_number};
-use nsq_base::{Memory, Options};
+use nsq_base::Options;
 use nsq_fakes::{MemClock, MemFolder};
 use nsq_outside::Kit;
 use path_closing::{Floor, Saved, ShutEnd, save, shut};
 use path_opening::{Refused, Why, open};
 use std::alloc::Global;
+use std::process::Abort;
 
 /// A floor in memory.
-pub type MemFloor = Floor<MemFolder, MemClock, Noted>;
+pub type MemFloor = Floor<MemFolder, MemClock, Counted<'static>>;
 
 /// What a floor in memory left.
-pub type Left = Kit<MemFolder, MemClock, Noted>;
+pub type Left = Kit<MemFolder, MemClock, Counted<'static>>;
 
 /// How an opening ended.
 #[derive(Drop)]
@@ -40,27 +42,24 @@ pub struct Bench {
 
 /// Opens a folder, over a clock that gives these readings.
 pub fn open_folder(
+    rt: &impl Abort,
     alloc: Global,
     folder: MemFolder,
     options: &Options,
     readings: &[u64],
-) -> Result<Opened, Memory>
+) -> Opened
     requires { IsInRange options.now }
 {
-    let clock = clock_of(alloc, readings)?;
+    let readings = Vec::from_slice(alloc, readings).expect(rt, "memory");
     let kit = Kit {
         folder,
-        clock,
-        journal: Noted::new(alloc),
+        clock: MemClock::new(alloc, readings).expect(rt, "memory"),
+        journal: Counted::new(alloc, None),
     };
     match open(alloc, kit, options) {
-        Ok(floor) => Ok(Opened::Open(Bench { alloc, floor })),
-        Err(Refused { why, kit }) => Ok(Opened::Refused(why, folder_in(kit))),
+        Ok(floor) => Opened::Open(Bench { alloc, floor }),
+        Err(Refused { why, kit }) => Opened::Refused(why, folder_in(kit)),
     }
-}
-
-fn clock_of(alloc: Global, readings: &[u64]) -> Result<MemClock, Memory> {
-    MemClock::new(alloc, Vec::from_slice(alloc, readings)?)
 }
 
 /// The folder of what is left.
@@ -80,42 +79,35 @@ impl Bench {
     }
 
     /// What a call is answered; none where the text is no call. With a number in front it is a turn.
-    pub fn answer(&mut self, text: &str) -> Result<Option<Vec<u8>>, Memory> {
+    pub fn answer(&mut self, rt: &impl Abort, text: &str) -> Option<Vec<u8>> {
+        let mut told = Vec::new(self.alloc);
         let (first, rest) = parted(text);
-        match first.parse::<u64>() {
-            Ok(number) => self.turn(number, rest),
-            Err(_) => self.ask(text),
-        }
+        let is_call = match first.parse::<u64>() {
+            Ok(number) => self.turn(rt, &mut told, number, rest),
+            Err(_) => self.ask(rt, &mut told, text),
+        };
+        if is_call { Some(told) } else { None }
     }
 
-    fn turn(&mut self, number: u64, text: &str) -> Result<Option<Vec<u8>>, Memory> {
-        let Some(call) = call_of(self.alloc, text)? else {
-            return Ok(None);
+    // Tells what a turn answers. Whether the text is a call's.
+    fn turn(&mut self, rt: &impl Abort, told: &mut Vec<u8>, number: u64, text: &str) -> bool {
+        let Some(call) = call_of(rt, self.alloc, text) else {
+            return false;
         };
         let answer = self.floor.turn(self.alloc, number, call);
-        let mut told = Vec::new(self.alloc);
-        put_answer(self.alloc, &mut told, &answer)?;
-        Ok(Some(told))
+        put_answer(rt, self.alloc, told, &answer, false);
+        true
     }
 
-    fn ask(&mut self, text: &str) -> Result<Option<Vec<u8>>, Memory> {
-        let mut told = Vec::new(self.alloc);
-        if self.put_told(&mut told, text)? {
-            Ok(Some(told))
-        } else {
-            Ok(None)
-        }
-    }
-
-    // Whether it is another call than a turn.
-    fn put_told(&mut self, told: &mut Vec<u8>, text: &str) -> Result<bool, Memory> {
+    // Tells what another call than a turn answers. Whether it is one.
+    fn ask(&mut self, rt: &impl Abort, told: &mut Vec<u8>, text: &str) -> bool {
         match text {
-            "save" => put(told, saved_text(self.save()))?,
-            "changed" => put(told, flag_text(self.floor.changed()))?,
-            "epoch" => put_number(told, u128::from(self.floor.epoch()))?,
-            _ => return Ok(false),
+            "save" => put(rt, told, saved_text(self.save())),
+            "changed" => put(rt, told, yes_or_no(self.floor.changed())),
+            "epoch" => put_number(rt, told, u128::from(self.floor.epoch())),
+            _ => return false,
         }
-        Ok(true)
+        true
     }
 
     // Saves the names.
@@ -142,8 +134,4 @@ fn saved_text(saved: Saved) -> &'static [u8] {
         Saved::Fault => b"fault",
         Saved::Memory => b"memory",
     }
-}
-
-fn flag_text(flag: bool) -> &'static [u8] {
-    if flag { b"yes" } else { b"no" }
 }

@@ -1,11 +1,11 @@
 //! What is found in files, as text.
 
-use crate::restarts::judged::names_found;
-use crate::texts::{put, put_count, put_each, put_flag, put_sent, same};
+use crate::judged::names_found;
+use crate::texts::{put, put_count, put_flag, put_sent, put_word, same};
 use broker_files::{FoundNames, FoundTopic};
-use nsq_base::Memory;
 use queue_plain::NamedFile;
 use std::alloc::Global;
+use std::process::Abort;
 use v2_frame::Message;
 
 /// What is found in files: the epoch, a line for the messages of each queue in order, and the statistics that a floor over it has.
@@ -17,68 +17,75 @@ pub struct Listing {
 }
 
 /// What is found in these files; none where an opening is refused.
-pub fn listing_of(alloc: Global, files: &[NamedFile]) -> Result<Option<Listing>, Memory> {
-    match names_found(alloc, files)? {
-        Some(names) => Ok(Some(listed(alloc, &names)?)),
-        None => Ok(None),
+pub fn listing_of(rt: &impl Abort, alloc: Global, files: &[NamedFile]) -> Option<Listing> {
+    match names_found(rt, alloc, files) {
+        Some(names) => Some(listed(rt, alloc, &names)),
+        None => None,
     }
 }
 
-fn listed(alloc: Global, names: &FoundNames) -> Result<Listing, Memory> {
-    let stats = Vec::from_slice(alloc, b"stats")?;
-    let mut listing = Listing {
+fn listed(rt: &impl Abort, alloc: Global, names: &FoundNames) -> Listing {
+    let mut queues = Vec::new(alloc);
+    let mut stats = Vec::new(alloc);
+    put(rt, &mut stats, b"stats");
+    for topic in &names.topics {
+        list_topic(rt, alloc, &mut queues, &mut stats, topic);
+    }
+    Listing {
         epoch: names.epoch,
-        queues: Vec::new(alloc),
+        queues,
         stats,
-    };
-    list_topics(alloc, &mut listing, &names.topics)?;
-    Ok(listing)
-}
-
-fn list_topics(alloc: Global, listing: &mut Listing, topics: &[FoundTopic]) -> Result<(), Memory> {
-    for topic in topics {
-        list_topic(alloc, listing, topic)?;
     }
-    Ok(())
 }
 
-fn list_topic(alloc: Global, listing: &mut Listing, topic: &FoundTopic) -> Result<(), Memory> {
-    list_queue(alloc, listing, topic.name.bytes(), &topic.messages)?;
-    put_flag(&mut listing.stats, b"paused", topic.paused)?;
-    put(&mut listing.stats, b" [")?;
-    for channel in &topic.channels {
-        list_queue(alloc, listing, channel.name.bytes(), &channel.messages)?;
-        put_flag(&mut listing.stats, b"paused", channel.paused)?;
-    }
-    put(&mut listing.stats, b" ]")
-}
-
-// Lists the messages of a queue of a topic or a channel, and how many of them wait, all on disk.
-fn list_queue(
+fn list_topic(
+    rt: &impl Abort,
     alloc: Global,
-    listing: &mut Listing,
-    name: &[u8],
-    messages: &[Message],
-) -> Result<(), Memory> {
-    listing.queues.push(line_of(alloc, name, messages)?)?;
-    let count = messages.len() as u128;
-    put_each(&mut listing.stats, &[b" ", name])?;
-    put_count(&mut listing.stats, b"depth", count)?;
-    put_count(&mut listing.stats, b"disk", count)
-}
-
-fn line_of(alloc: Global, name: &[u8], messages: &[Message]) -> Result<Vec<u8>, Memory> {
-    let mut line = Vec::from_slice(alloc, name)?;
-    put_messages(&mut line, messages)?;
-    Ok(line)
-}
-
-fn put_messages(line: &mut Vec<u8>, messages: &[Message]) -> Result<(), Memory> {
-    for message in messages {
-        put(line, b"; ")?;
-        put_sent(line, message)?;
+    queues: &mut Vec<Vec<u8>>,
+    stats: &mut Vec<u8>,
+    topic: &FoundTopic,
+) {
+    let line = line_of(rt, alloc, topic.name.bytes(), &topic.messages);
+    queues.push(line).expect(rt, "memory");
+    put_counted(
+        rt,
+        stats,
+        topic.name.bytes(),
+        topic.messages.len(),
+        topic.paused,
+    );
+    put(rt, stats, b" [");
+    for channel in &topic.channels {
+        let line = line_of(rt, alloc, channel.name.bytes(), &channel.messages);
+        queues.push(line).expect(rt, "memory");
+        put_counted(
+            rt,
+            stats,
+            channel.name.bytes(),
+            channel.messages.len(),
+            channel.paused,
+        );
     }
-    Ok(())
+    put(rt, stats, b" ]");
+}
+
+// The statistics of a topic or a channel, of which so many messages wait, all on disk.
+fn put_counted(rt: &impl Abort, stats: &mut Vec<u8>, name: &[u8], count: usize, paused: bool) {
+    put_word(rt, stats, name);
+    put_count(rt, stats, b"depth", count as u128);
+    put_count(rt, stats, b"disk", count as u128);
+    put_flag(rt, stats, b"paused", paused);
+}
+
+// The messages of a queue of a topic or a channel.
+fn line_of(rt: &impl Abort, alloc: Global, name: &[u8], messages: &[Message]) -> Vec<u8> {
+    let mut line = Vec::new(alloc);
+    put(rt, &mut line, name);
+    for message in messages {
+        put(rt, &mut line, b"; ");
+        put_sent(rt, &mut line, message);
+    }
+    line
 }
 
 impl Listing {

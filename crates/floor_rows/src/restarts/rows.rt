@@ -2,20 +2,22 @@
 //!
 //! A line `NUMBER CALL => ANSWER` is a turn of this number; `save`, `changed` and `epoch` without a number are other calls of an open path.
 
+use crate::files::{File, bytes_of, files_in, files_left, folder_of, named, same_file};
+use crate::judged::{is_kept, may_refuse, states_of};
 use crate::restarts::bench::{Bench, Left, Opened, open_folder};
-use crate::restarts::files::{File, bytes_of, files_in, files_left, folder_of, named, same_file};
-use crate::restarts::judged::{is_kept, may_refuse, states_of};
-use crate::restarts::setting::{DEFAULTS, Setting, options_of};
+use crate::restarts::setting::{DEFAULTS, Setting};
 use crate::restarts::tables::tables;
-use crate::texts::{put, put_each, put_id, same};
+use crate::settings::options_of;
+use crate::texts::{put, put_id, put_line, put_word, same};
 use broker_history::{Act, Entry};
-use nsq_base::{Memory, Options};
+use nsq_base::Options;
 use nsq_fakes::{Failing, MemFolder};
 use nsq_outside::End;
 use path_closing::ShutEnd;
 use path_opening::Why;
 use queue_plain::NamedFile;
 use std::alloc::Global;
+use std::process::Abort;
 
 /// A run over the files that the one before it left.
 #[derive(Clone, Copy)]
@@ -74,100 +76,86 @@ struct Ran<'a> {
 }
 
 // What differs in a row, as text; nothing where it holds.
-fn differs(alloc: Global, row: &Row) -> Result<Vec<u8>, Memory> {
+fn differs(rt: &impl Abort, alloc: Global, row: &Row) -> Vec<u8> {
     let mut text = Vec::new(alloc);
-    let mut files = named(alloc, row.files, row.padded)?;
-    make_all(alloc, &mut text, row.runs, &mut files)?;
-    Ok(text)
-}
-
-// What differs in runs over these files, one after another.
-fn make_all(
-    alloc: Global,
-    text: &mut Vec<u8>,
-    runs: &[Run],
-    files: &mut Vec<NamedFile>,
-) -> Result<(), Memory> {
-    for run in runs {
-        make(alloc, text, run, files)?;
+    let mut files = named(rt, alloc, row.files, row.padded);
+    for run in row.runs {
+        make(rt, alloc, &mut text, run, &mut files);
         if !text.is_empty() {
-            return Ok(());
+            return text;
         }
     }
-    Ok(())
+    text
 }
 
 // What differs in a run over these files. Then they are those that it left.
-fn make(
-    alloc: Global,
-    text: &mut Vec<u8>,
-    run: &Run,
-    files: &mut Vec<NamedFile>,
-) -> Result<(), Memory> {
-    let options = options_of(alloc, run.setting)?;
-    let folder = folder_of(alloc, files, run.fails)?;
-    match open_folder(alloc, folder, &options, run.setting.clock)? {
-        Opened::Refused(why, folder) => refuse(alloc, text, run, files, why, folder),
-        Opened::Open(bench) => serve(alloc, text, run, files, &options, bench),
+fn make(rt: &impl Abort, alloc: Global, text: &mut Vec<u8>, run: &Run, files: &mut Vec<NamedFile>) {
+    let setting = run.setting;
+    let options = options_of(rt, alloc, setting.memory, setting.timeout, setting.unsaved);
+    let folder = folder_of(rt, alloc, files, run.fails);
+    match open_folder(rt, alloc, folder, &options, setting.clock) {
+        Opened::Refused(why, folder) => refuse(rt, alloc, text, run, files, why, folder),
+        Opened::Open(bench) => serve(rt, alloc, text, run, files, &options, bench),
     }
 }
 
 // What differs in a run that was refused.
 fn refuse(
+    rt: &impl Abort,
     alloc: Global,
     text: &mut Vec<u8>,
     run: &Run,
     files: &mut Vec<NamedFile>,
     why: Why,
     folder: MemFolder,
-) -> Result<(), Memory> {
-    if run.refused != Some(why) || !may_refuse(alloc, files, why)? {
-        return say(text, "the opening", b"is refused for that");
+) {
+    if run.refused != Some(why) || !may_refuse(rt, alloc, files, why) {
+        return put_line(rt, text, "the opening", b"is refused for that");
     }
-    *files = files_left(alloc, folder)?;
-    compare_files(text, run, files)
+    *files = files_left(rt, alloc, folder);
+    compare_files(rt, text, run, files);
 }
 
 // What differs in a run that was opened.
 fn serve(
+    rt: &impl Abort,
     alloc: Global,
     text: &mut Vec<u8>,
     run: &Run,
     files: &mut Vec<NamedFile>,
     options: &Options,
     mut bench: Bench,
-) -> Result<(), Memory> {
+) {
     if run.refused.is_some() {
-        return say(text, "the opening", b"isn't refused");
+        return put_line(rt, text, "the opening", b"isn't refused");
     }
-    compare_lines(text, &mut bench, run.lines)?;
-    if !text.is_empty() {
-        return Ok(());
+    compare_lines(rt, text, &mut bench, run.lines);
+    if text.is_empty() {
+        finish(rt, alloc, text, run, files, options, bench);
     }
-    finish(alloc, text, run, files, options, bench)
 }
 
 // What differs in the end of a run. Then the files are those that it left.
 fn finish(
+    rt: &impl Abort,
     alloc: Global,
     text: &mut Vec<u8>,
     run: &Run,
     files: &mut Vec<NamedFile>,
     options: &Options,
     bench: Bench,
-) -> Result<(), Memory> {
+) {
     let began = bench.began();
     let (end, mut left) = ended(run, bench);
-    let after = files_in(alloc, &mut left.folder)?;
+    let after = files_in(rt, alloc, &mut left.folder);
     let ran = Ran {
         began,
         end,
         left: &left,
         after: &after,
     };
-    compare_end(alloc, text, run, options, files, ran)?;
+    compare_end(rt, alloc, text, run, options, files, ran);
     *files = after;
-    Ok(())
 }
 
 // Shuts a floor, or lets it go where the run says so.
@@ -180,146 +168,124 @@ fn ended(run: &Run, bench: Bench) -> (Option<ShutEnd>, Left) {
 }
 
 // What differs from the lines of a run.
-fn compare_lines(text: &mut Vec<u8>, bench: &mut Bench, lines: &str) -> Result<(), Memory> {
+fn compare_lines(rt: &impl Abort, text: &mut Vec<u8>, bench: &mut Bench, lines: &str) {
     for line in lines.lines() {
         let line = line.trim();
         if line.is_empty() {
             continue;
         }
-        compare_line(text, bench, line)?;
+        compare_line(rt, text, bench, line);
         if !text.is_empty() {
-            return Ok(());
+            return;
         }
     }
-    Ok(())
 }
 
-fn compare_line(text: &mut Vec<u8>, bench: &mut Bench, line: &str) -> Result<(), Memory> {
+fn compare_line(rt: &impl Abort, text: &mut Vec<u8>, bench: &mut Bench, line: &str) {
     let Some((call, wanted)) = line.split_once(" => ") else {
-        return say(text, line, b"is no line");
+        return put_line(rt, text, line, b"is no line");
     };
-    let Some(told) = bench.answer(call)? else {
-        return say(text, line, b"is no call");
+    let Some(told) = bench.answer(rt, call) else {
+        return put_line(rt, text, line, b"is no call");
     };
-    if same(&told, wanted.as_bytes()) {
-        return Ok(());
+    if !same(&told, wanted.as_bytes()) {
+        put_line(rt, text, line, &told);
     }
-    say(text, line, &told)
 }
 
 // What differs in what a run over these files noted and left.
 fn compare_end(
+    rt: &impl Abort,
     alloc: Global,
     text: &mut Vec<u8>,
     run: &Run,
     options: &Options,
     before: &[NamedFile],
     ran: Ran<'_>,
-) -> Result<(), Memory> {
+) {
     if ran.end != run.end {
-        return say(text, "the end", b"is another");
+        return put_line(rt, text, "the end", b"is another");
     }
     let entries = ran.left.journal.entries();
-    let states = states_of(alloc, options, before, ran.began, entries)?;
+    let states = states_of(rt, alloc, options, before, ran.began, entries);
     if states.is_empty() {
-        return say(text, "the history", b"isn't legal");
+        return put_line(rt, text, "the history", b"isn't legal");
     }
-    if matches!(ran.end, Some(ShutEnd::Clean)) && !is_kept(alloc, &states, ran.after)? {
-        return say(text, "the end", b"keeps something else");
+    if matches!(ran.end, Some(ShutEnd::Clean)) && !is_kept(rt, alloc, &states, ran.after) {
+        return put_line(rt, text, "the end", b"keeps something else");
     }
-    compare_held(alloc, text, run, entries)?;
-    if !text.is_empty() {
-        return Ok(());
+    compare_held(rt, alloc, text, run, entries);
+    if text.is_empty() {
+        compare_files(rt, text, run, ran.after);
     }
-    compare_files(text, run, ran.after)
 }
 
 fn compare_held(
+    rt: &impl Abort,
     alloc: Global,
     text: &mut Vec<u8>,
     run: &Run,
     entries: &[(Entry, End)],
-) -> Result<(), Memory> {
-    let held = held_back(alloc, entries)?;
-    if same(&held, run.held.as_bytes()) {
-        return Ok(());
+) {
+    let held = held_back(rt, alloc, entries);
+    if !same(&held, run.held.as_bytes()) {
+        put_line(rt, text, "held back", &held);
     }
-    say(text, "held back", &held)
 }
 
-fn compare_files(text: &mut Vec<u8>, run: &Run, files: &[NamedFile]) -> Result<(), Memory> {
+fn compare_files(rt: &impl Abort, text: &mut Vec<u8>, run: &Run, files: &[NamedFile]) {
     for (name, bytes) in run.leaves {
         let left = bytes_of(files, name);
         if !same_file(left, *bytes) {
-            return say(text, name, left.unwrap_or(b"isn't there"));
+            return put_line(rt, text, name, left.unwrap_or(b"isn't there"));
         }
     }
-    Ok(())
 }
 
 // The copies that were held back, in order: the topic, the channel and the id of each.
-fn held_back(alloc: Global, entries: &[(Entry, End)]) -> Result<Vec<u8>, Memory> {
+fn held_back(rt: &impl Abort, alloc: Global, entries: &[(Entry, End)]) -> Vec<u8> {
     let mut text = Vec::new(alloc);
     for (entry, _) in entries {
-        put_held(&mut text, &entry.act)?;
+        put_held(rt, &mut text, &entry.act);
     }
-    Ok(text)
+    text
 }
 
-fn put_held(text: &mut Vec<u8>, act: &Act) -> Result<(), Memory> {
+fn put_held(rt: &impl Abort, text: &mut Vec<u8>, act: &Act) {
     let Act::HeldBack(topic, channel, id) = act else {
-        return Ok(());
+        return;
     };
     if !text.is_empty() {
-        put(text, b"; ")?;
+        put(rt, text, b"; ");
     }
-    put_each(text, &[topic.bytes(), b" ", channel.bytes(), b" "])?;
-    put_id(text, id)
+    put(rt, text, topic.bytes());
+    put_word(rt, text, channel.bytes());
+    put(rt, text, b" ");
+    put_id(rt, text, id);
 }
 
-// Says this of a line, or of something else.
-fn say(text: &mut Vec<u8>, line: &str, what: &[u8]) -> Result<(), Memory> {
-    put_each(text, &[line.as_bytes(), b": ", what])
+// What differs in a row. One that differs begins once more: an opening, a turn or a shutting may have found no memory. So where one allocation fails,
+// whichever it is (`rt try --test --fail-alloc N`), the row holds or the run ends at once, as a row itself has no memory.
+fn wrong_in(rt: &impl Abort, alloc: Global, row: &Row) -> Vec<u8> {
+    let first = differs(rt, alloc, row);
+    if first.is_empty() {
+        return first;
+    }
+    differs(rt, alloc, row)
 }
 
-// What differs in a row. One that ends for want of memory, or in which the folder found none, begins once more; so the rows hold too where one
-// allocation fails, whichever it is: `rt try --test --fail-alloc N`.
-fn wrong_in(alloc: Global, row: &Row) -> Result<Vec<u8>, Memory> {
-    if let Ok(first) = differs(alloc, row) {
-        if first.is_empty() {
-            return Ok(first);
-        }
-    }
-    differs(alloc, row)
-}
-
-// The names of the rows that don't hold, each with what differs in it.
-fn wrong(alloc: Global) -> Result<String, Memory> {
-    let mut wrong = Vec::new(alloc);
-    for table in tables() {
-        put_wrongs(alloc, &mut wrong, table)?;
-    }
-    Ok(String::from_utf8_lossy(alloc, &wrong)?)
-}
-
-fn put_wrongs(alloc: Global, wrong: &mut Vec<u8>, table: &[Row]) -> Result<(), Memory> {
-    for row in table {
-        put_wrong(alloc, wrong, row)?;
-    }
-    Ok(())
-}
-
-fn put_wrong(alloc: Global, wrong: &mut Vec<u8>, row: &Row) -> Result<(), Memory> {
-    let differs = wrong_in(alloc, row)?;
-    if differs.is_empty() {
-        return Ok(());
-    }
-    put_each(wrong, &[b"\n", row.name.as_bytes(), b"\n  ", &differs])
+// Stops the run where a row doesn't hold, with its name and what differs in it.
+fn try_row(rt: &impl Abort, alloc: Global, row: &Row) {
+    let wrong = wrong_in(rt, alloc, row);
+    let text = String::from_utf8_lossy(alloc, &wrong).expect(rt, "memory");
+    assert!(rt; wrong.is_empty(), "{}\n  {text}", row.name);
 }
 
 #[test]
-fn transcripts(rt: HostRuntime) -> Result<(), Memory> {
-    let wrong = wrong(rt.alloc())?;
-    assert!(rt; wrong.is_empty(), "{wrong}");
-    Ok(())
+fn transcripts(rt: HostRuntime) {
+    for table in &tables() {
+        for row in *table {
+            try_row(&rt, rt.alloc(), row);
+        }
+    }
 }

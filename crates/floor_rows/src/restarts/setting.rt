@@ -1,12 +1,6 @@
 //! What a run is given: options, a clock, and a folder of which some calls fail.
 
-ghost use Rattle.std.specs.Prelude.{IfOk};
-ghost use Rattle.nsq_base.specs.Options.{IsInRange};
-
-use nsq_base::{Memory, Options};
-use std::alloc::Global;
-
-pub const SECOND: u64 = 1_000_000_000;
+use crate::settings::SECOND;
 
 /// The options of a run that aren't the defaults, and its clock.
 #[derive(Clone, Copy)]
@@ -28,18 +22,3 @@ pub const DEFAULTS: Setting = Setting {
     unsaved: 2 * SECOND,
     clock: &[],
 };
-
-/// The options of a setting.
-pub fn options_of(alloc: Global, setting: Setting) -> Result<Options, Memory>
-    ensures { IfOk result IsInRange }
-{
-    let mut options = Options::defaults(alloc)?;
-    options.mem_queue_size = setting.memory;
-    options.msg_timeout = setting.timeout;
-    options.sync_timeout = setting.unsaved;
-    if options.in_range() {
-        Ok(options)
-    } else {
-        Err(Memory)
-    }
-}

@@ -2,7 +2,7 @@
 
 use crate::rows::{EMPTY, PLAIN, Row, Start};
 
-static ROWS_1: [Row; 3] = [
+static ROWS: [Row; 5] = [
     Row {
         name: "a paused topic takes nothing, and a paused channel sends nothing",
         lines: "
@@ -62,9 +62,6 @@ static ROWS_1: [Row; 3] = [
         ",
         ..PLAIN
     },
-];
-
-static ROWS_2: [Row; 2] = [
     Row {
         name: "a message that is asked to be published waits for its delay",
         lines: "
@@ -122,10 +119,6 @@ static ROWS_2: [Row; 2] = [
     },
 ];
 
-pub fn rows_1() -> &'static [Row] {
-    &ROWS_1
-}
-
-pub fn rows_2() -> &'static [Row] {
-    &ROWS_2
+pub fn rows() -> &'static [Row] {
+    &ROWS
 }

@@ -3,7 +3,7 @@
 use crate::rows::{EMPTY, PLAIN, Row, Start};
 use nsq_fakes::{Failing, FolderCall};
 
-static ROWS_1: [Row; 3] = [
+static ROWS: [Row; 5] = [
     Row {
         name: "a topic's deletion meets a fault at each of its channels, and at last at its own queue",
         // Each queue's deletion replaces its metadata by one rename.
@@ -108,9 +108,6 @@ static ROWS_1: [Row; 3] = [
         ",
         ..PLAIN
     },
-];
-
-static ROWS_2: [Row; 2] = [
     Row {
         name: "a message that was taken goes with the one channel that it is owed to",
         start: Start { memory: 0, ..EMPTY },
@@ -155,10 +152,6 @@ static ROWS_2: [Row; 2] = [
     },
 ];
 
-pub fn rows_1() -> &'static [Row] {
-    &ROWS_1
-}
-
-pub fn rows_2() -> &'static [Row] {
-    &ROWS_2
+pub fn rows() -> &'static [Row] {
+    &ROWS
 }

@@ -3,7 +3,7 @@
 use crate::rows::{EMPTY, PLAIN, Row, Start};
 use nsq_fakes::{Failing, FolderCall};
 
-static ROWS_1: [Row; 3] = [
+static ROWS: [Row; 5] = [
     Row {
         name: "an ephemeral channel goes with its last client",
         lines: "
@@ -64,9 +64,6 @@ static ROWS_1: [Row; 3] = [
         ",
         ..PLAIN
     },
-];
-
-static ROWS_2: [Row; 2] = [
     Row {
         name: "what finds no room is dropped, and uses an id all the same",
         start: Start { memory: 1, ..EMPTY },
@@ -104,10 +101,6 @@ static ROWS_2: [Row; 2] = [
     },
 ];
 
-pub fn rows_1() -> &'static [Row] {
-    &ROWS_1
-}
-
-pub fn rows_2() -> &'static [Row] {
-    &ROWS_2
+pub fn rows() -> &'static [Row] {
+    &ROWS
 }

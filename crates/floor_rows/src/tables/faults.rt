@@ -5,7 +5,7 @@ use nsq_fakes::{Failing, FolderCall};
 
 const NO_ROOM: Start = Start { memory: 0, ..EMPTY };
 
-static ROWS_1: [Row; 2] = [
+static ROWS: [Row; 6] = [
     Row {
         name: "a publish that the disk keeps off makes no topic and uses no ids",
         start: NO_ROOM,
@@ -45,9 +45,6 @@ static ROWS_1: [Row; 2] = [
         ",
         ..PLAIN
     },
-];
-
-static ROWS_2: [Row; 2] = [
     Row {
         name: "a message that can't be given back stays in flight",
         start: NO_ROOM,
@@ -88,9 +85,6 @@ static ROWS_2: [Row; 2] = [
         ",
         ..PLAIN
     },
-];
-
-static ROWS_3: [Row; 2] = [
     Row {
         name: "a message of a channel that can't be read is sent later",
         start: NO_ROOM,
@@ -138,14 +132,6 @@ static ROWS_3: [Row; 2] = [
     },
 ];
 
-pub fn rows_1() -> &'static [Row] {
-    &ROWS_1
-}
-
-pub fn rows_2() -> &'static [Row] {
-    &ROWS_2
-}
-
-pub fn rows_3() -> &'static [Row] {
-    &ROWS_3
+pub fn rows() -> &'static [Row] {
+    &ROWS
 }

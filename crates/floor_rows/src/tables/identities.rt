@@ -2,7 +2,7 @@
 
 use crate::rows::{PLAIN, Row};
 
-static ROWS_1: [Row; 3] = [
+static ROWS: [Row; 5] = [
     Row {
         name: "a client that negotiates, and one that doesn't",
         lines: r#"
@@ -51,9 +51,6 @@ static ROWS_1: [Row; 3] = [
         "#,
         ..PLAIN
     },
-];
-
-static ROWS_2: [Row; 2] = [
     Row {
         name: "each value of a wrong kind, and what is no object",
         lines: r#"
@@ -102,10 +99,6 @@ static ROWS_2: [Row; 2] = [
     },
 ];
 
-pub fn rows_1() -> &'static [Row] {
-    &ROWS_1
-}
-
-pub fn rows_2() -> &'static [Row] {
-    &ROWS_2
+pub fn rows() -> &'static [Row] {
+    &ROWS
 }

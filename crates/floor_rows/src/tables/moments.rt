@@ -1,8 +1,9 @@
 //! What comes at a moment: heartbeats, silence, copies that time out or come due, and clocks that go back.
 
-use crate::rows::{EMPTY, PLAIN, Row, SECOND, Start};
+use crate::rows::{EMPTY, PLAIN, Row, Start};
+use crate::settings::SECOND;
 
-static ROWS_1: [Row; 3] = [
+static ROWS: [Row; 6] = [
     Row {
         name: "a heartbeat after one interval, and silence after two",
         lines: "
@@ -62,9 +63,6 @@ static ROWS_1: [Row; 3] = [
         ",
         ..PLAIN
     },
-];
-
-static ROWS_2: [Row; 2] = [
     Row {
         name: "a touch gives a message its time anew",
         start: Start {
@@ -113,15 +111,13 @@ static ROWS_2: [Row; 2] = [
         ",
         ..PLAIN
     },
-];
-
-static ROWS_3: [Row; 1] = [Row {
-    name: "a client's copies stay in flight when it goes, until they are due",
-    start: Start {
-        timeout: SECOND,
-        ..EMPTY
-    },
-    lines: "
+    Row {
+        name: "a client's copies stay in flight when it goes, until they are due",
+        start: Start {
+            timeout: SECOND,
+            ..EMPTY
+        },
+        lines: "
             1 begin => begun | began
             1 SUB t c => OK | did
             1 PUB t x => OK | did
@@ -137,17 +133,10 @@ static ROWS_3: [Row; 1] = [Row {
             at 1s
             2 next => sends i0*2 x | timed-out t c i0; sent i0*2 x
         ",
-    ..PLAIN
-}];
+        ..PLAIN
+    },
+];
 
-pub fn rows_1() -> &'static [Row] {
-    &ROWS_1
-}
-
-pub fn rows_2() -> &'static [Row] {
-    &ROWS_2
-}
-
-pub fn rows_3() -> &'static [Row] {
-    &ROWS_3
+pub fn rows() -> &'static [Row] {
+    &ROWS
 }

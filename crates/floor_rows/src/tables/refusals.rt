@@ -3,7 +3,7 @@
 use crate::rows::{EMPTY, PLAIN, Row, Start};
 use nsq_fakes::{Failing, FolderCall};
 
-static ROWS_1: [Row; 3] = [
+static ROWS: [Row; 5] = [
     Row {
         name: "a client without a channel",
         lines: "
@@ -69,9 +69,6 @@ static ROWS_1: [Row; 3] = [
         ",
         ..PLAIN
     },
-];
-
-static ROWS_2: [Row; 2] = [
     Row {
         name: "another client's message is in flight for none but that one",
         lines: "
@@ -110,10 +107,6 @@ static ROWS_2: [Row; 2] = [
     },
 ];
 
-pub fn rows_1() -> &'static [Row] {
-    &ROWS_1
-}
-
-pub fn rows_2() -> &'static [Row] {
-    &ROWS_2
+pub fn rows() -> &'static [Row] {
+    &ROWS
 }

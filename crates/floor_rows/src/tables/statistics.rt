@@ -1,8 +1,9 @@
 //! Worked examples with their statistics.
 
-use crate::rows::{EMPTY, PLAIN, Row, SECOND, Start};
+use crate::rows::{EMPTY, PLAIN, Row, Start};
+use crate::settings::SECOND;
 
-static ROWS_1: [Row; 3] = [
+static ROWS: [Row; 5] = [
     Row {
         name: "a second FIN is refused, and a NOP behind it is taken",
         lines: "
@@ -68,9 +69,6 @@ static ROWS_1: [Row; 3] = [
         ",
         ..PLAIN
     },
-];
-
-static ROWS_2: [Row; 2] = [
     Row {
         name: "messages that wait go to the first channel alone",
         lines: "
@@ -109,10 +107,6 @@ static ROWS_2: [Row; 2] = [
     },
 ];
 
-pub fn rows_1() -> &'static [Row] {
-    &ROWS_1
-}
-
-pub fn rows_2() -> &'static [Row] {
-    &ROWS_2
+pub fn rows() -> &'static [Row] {
+    &ROWS
 }

@@ -6,7 +6,7 @@ use nsq_fakes::{Failing, FolderCall};
 // All is written at once, and saved by ticks.
 const NO_ROOM: Start = Start { memory: 0, ..EMPTY };
 
-static ROWS_1: [Row; 2] = [
+static ROWS: [Row; 5] = [
     Row {
         name: "a queue that has been unsaved for the sync timeout is saved",
         start: NO_ROOM,
@@ -37,9 +37,6 @@ static ROWS_1: [Row; 2] = [
         leaves: &[("t.diskqueue.meta.dat", None)],
         ..PLAIN
     },
-];
-
-static ROWS_2: [Row; 2] = [
     Row {
         name: "a save that fails is made by the next tick",
         start: NO_ROOM,
@@ -75,12 +72,10 @@ static ROWS_2: [Row; 2] = [
         leaves: &[("t.diskqueue.meta.dat", None)],
         ..PLAIN
     },
-];
-
-static ROWS_3: [Row; 1] = [Row {
-    name: "a tick moves what is due, whoever makes it, and saves queues of topics and channels",
-    start: NO_ROOM,
-    lines: "
+    Row {
+        name: "a tick moves what is due, whoever makes it, and saves queues of topics and channels",
+        start: NO_ROOM,
+        lines: "
             0 create t => done | asked
             0 create t c => done | asked
             1 begin => begun | began
@@ -89,21 +84,14 @@ static ROWS_3: [Row; 1] = [Row {
             at 2s
             1 tick => quiet | ticked
         ",
-    leaves: &[
-        ("t.diskqueue.meta.dat", Some(b"0\n0,31\n0,31\n")),
-        ("t:c.diskqueue.meta.dat", Some(b"1\n0,0\n0,31\n")),
-    ],
-    ..PLAIN
-}];
+        leaves: &[
+            ("t.diskqueue.meta.dat", Some(b"0\n0,31\n0,31\n")),
+            ("t:c.diskqueue.meta.dat", Some(b"1\n0,0\n0,31\n")),
+        ],
+        ..PLAIN
+    },
+];
 
-pub fn rows_1() -> &'static [Row] {
-    &ROWS_1
-}
-
-pub fn rows_2() -> &'static [Row] {
-    &ROWS_2
-}
-
-pub fn rows_3() -> &'static [Row] {
-    &ROWS_3
+pub fn rows() -> &'static [Row] {
+    &ROWS
 }

@@ -2,7 +2,8 @@
 //! ids again.
 
 use crate::restarts::rows::{ROW, RUN, Row, Run};
-use crate::restarts::setting::{DEFAULTS, SECOND, Setting};
+use crate::restarts::setting::{DEFAULTS, Setting};
+use crate::settings::SECOND;
 
 static ROWS: [Row; 1] = [Row {
     name: "a copy on disk is held back while one with its id is in flight, and comes due",

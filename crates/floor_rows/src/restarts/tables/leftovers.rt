@@ -3,15 +3,16 @@
 use crate::restarts::rows::{ROW, RUN, Row, Run};
 use crate::restarts::setting::{DEFAULTS, Setting};
 
-static ROWS_1: [Row; 1] = [Row {
-    name: "messages that wait and copies that are queued, in flight and deferred, with pauses and what is ephemeral",
-    runs: &[
-        Run {
-            setting: Setting {
-                memory: 2,
-                ..DEFAULTS
-            },
-            lines: "
+static ROWS: [Row; 2] = [
+    Row {
+        name: "messages that wait and copies that are queued, in flight and deferred, with pauses and what is ephemeral",
+        runs: &[
+            Run {
+                setting: Setting {
+                    memory: 2,
+                    ..DEFAULTS
+                },
+                lines: "
                     0 create t => done
                     0 create t a => done
                     0 create t b => done
@@ -33,16 +34,16 @@ static ROWS_1: [Row; 1] = [Row {
                     0 stats => stats e#ephemeral messages 1 [ d depth 1 messages 1 ] t depth 1 messages 5 paused [ a depth 1 disk 1 deferred 1 flying 2 messages 4 b depth 3 disk 1 deferred 1 messages 4 paused c#ephemeral ]
                     0 stop => stopping
                 ",
-            leaves: &[(
-                "nsqd.dat",
-                Some(
-                    br#"{"id_epoch":1,"topics":[{"channels":[{"name":"a","paused":false},{"name":"b","paused":true}],"name":"t","paused":true}],"version":"1.0.0"}"#,
-                ),
-            )],
-            ..RUN
-        },
-        Run {
-            lines: "
+                leaves: &[(
+                    "nsqd.dat",
+                    Some(
+                        br#"{"id_epoch":1,"topics":[{"channels":[{"name":"a","paused":false},{"name":"b","paused":true}],"name":"t","paused":true}],"version":"1.0.0"}"#,
+                    ),
+                )],
+                ..RUN
+            },
+            Run {
+                lines: "
                     0 names => names t [ a b ]
                     0 stats => stats t depth 1 disk 1 paused [ a depth 4 disk 4 b depth 4 disk 4 paused ]
                     1 begin => begun
@@ -69,24 +70,23 @@ static ROWS_1: [Row; 1] = [Row {
                     1 FIN i5 => quiet
                     0 stop => stopping
                 ",
-            ..RUN
-        },
-        Run {
-            lines: "
+                ..RUN
+            },
+            Run {
+                lines: "
                     0 stats => stats t [ a depth 4 disk 4 b depth 5 disk 5 ]
                 ",
-            ..RUN
-        },
-    ],
-    ..ROW
-}];
-
-static ROWS_2: [Row; 1] = [Row {
-    name: "a message that is owed to one channel still goes back to its topic, and is taken for all of them again",
-    runs: &[
-        Run {
-            // A turn makes 64 moves: twelve messages are taken and copied four times each, and the next one is taken and copied three times.
-            lines: "
+                ..RUN
+            },
+        ],
+        ..ROW
+    },
+    Row {
+        name: "a message that is owed to one channel still goes back to its topic, and is taken for all of them again",
+        runs: &[
+            Run {
+                // A turn makes 64 moves: twelve messages are taken and copied four times each, and the next one is taken and copied three times.
+                lines: "
                     0 create t => done
                     0 create t a => done
                     0 create t b => done
@@ -96,10 +96,10 @@ static ROWS_2: [Row; 1] = [Row {
                     1 MPUB t a b c d e f g h i j k l m => OK
                     0 stats => stats t messages 13 [ a depth 13 messages 13 b depth 13 messages 13 c depth 13 messages 13 d depth 12 messages 12 ]
                 ",
-            ..RUN
-        },
-        Run {
-            lines: "
+                ..RUN
+            },
+            Run {
+                lines: "
                     1 begin => begun
                     0 stats => stats t [ a depth 14 disk 13 messages 1 b depth 14 disk 13 messages 1 c depth 14 disk 13 messages 1 d depth 13 disk 12 messages 1 ]
                     1 SUB t a => OK
@@ -120,21 +120,18 @@ static ROWS_2: [Row; 1] = [Row {
                     1 next => idle
                     0 stop => stopping
                 ",
-            held: "t a ic",
-            ..RUN
-        },
-        Run {
-            lines: "0 stats => stats t [ a depth 14 disk 14 b depth 14 disk 14 c depth 14 disk 14 d depth 13 disk 13 ]",
-            ..RUN
-        },
-    ],
-    ..ROW
-}];
+                held: "t a ic",
+                ..RUN
+            },
+            Run {
+                lines: "0 stats => stats t [ a depth 14 disk 14 b depth 14 disk 14 c depth 14 disk 14 d depth 13 disk 13 ]",
+                ..RUN
+            },
+        ],
+        ..ROW
+    },
+];
 
-pub fn rows_1() -> &'static [Row] {
-    &ROWS_1
-}
-
-pub fn rows_2() -> &'static [Row] {
-    &ROWS_2
+pub fn rows() -> &'static [Row] {
+    &ROWS
 }

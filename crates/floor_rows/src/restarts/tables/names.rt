@@ -3,7 +3,7 @@
 use crate::restarts::rows::{ROW, RUN, Row, Run};
 use path_opening::Why;
 
-static ROWS_1: [Row; 2] = [
+static ROWS: [Row; 7] = [
     Row {
         name: "names out of order",
         files: &[(
@@ -37,51 +37,46 @@ static ROWS_1: [Row; 2] = [
         }],
         ..ROW
     },
-];
-
-static ROWS_2: [Row; 1] = [Row {
-    name: "a channel twice",
-    files: &[(
-        "nsqd.dat",
-        br#"{"topics":[{"name":"t","channels":[{"name":"c"},{"name":"c"}]}]}"#,
-    )],
-    runs: &[Run {
-        refused: Some(Why::BadData),
-        ..RUN
-    }],
-    ..ROW
-}];
-
-static ROWS_3: [Row; 1] = [Row {
-    name: "ephemeral names, one of them twice, and a channel's name in two topics",
-    files: &[
-        (
+    Row {
+        name: "a channel twice",
+        files: &[(
             "nsqd.dat",
-            br#"{"topics":[{"name":"e#ephemeral"},{"name":"e#ephemeral"},{"name":"t","channels":[{"name":"c"},{"name":"d#ephemeral"}]},{"name":"u","channels":[{"name":"c"}]}]}"#,
-        ),
-        ("e#ephemeral.diskqueue.000000.dat", b"x"),
-    ],
-    runs: &[Run {
-        lines: "
+            br#"{"topics":[{"name":"t","channels":[{"name":"c"},{"name":"c"}]}]}"#,
+        )],
+        runs: &[Run {
+            refused: Some(Why::BadData),
+            ..RUN
+        }],
+        ..ROW
+    },
+    Row {
+        name: "ephemeral names, one of them twice, and a channel's name in two topics",
+        files: &[
+            (
+                "nsqd.dat",
+                br#"{"topics":[{"name":"e#ephemeral"},{"name":"e#ephemeral"},{"name":"t","channels":[{"name":"c"},{"name":"d#ephemeral"}]},{"name":"u","channels":[{"name":"c"}]}]}"#,
+            ),
+            ("e#ephemeral.diskqueue.000000.dat", b"x"),
+        ],
+        runs: &[Run {
+            lines: "
                 epoch => 1
                 0 names => names t [ c ] u [ c ]
             ",
-        leaves: &[
-            ("e#ephemeral.diskqueue.000000.dat", None),
-            ("e#ephemeral.diskqueue.000000.dat.bad", Some(b"x")),
-            (
-                "nsqd.dat",
-                Some(
-                    br#"{"id_epoch":1,"topics":[{"channels":[{"name":"c","paused":false}],"name":"t","paused":false},{"channels":[{"name":"c","paused":false}],"name":"u","paused":false}],"version":"1.0.0"}"#,
+            leaves: &[
+                ("e#ephemeral.diskqueue.000000.dat", None),
+                ("e#ephemeral.diskqueue.000000.dat.bad", Some(b"x")),
+                (
+                    "nsqd.dat",
+                    Some(
+                        br#"{"id_epoch":1,"topics":[{"channels":[{"name":"c","paused":false}],"name":"t","paused":false},{"channels":[{"name":"c","paused":false}],"name":"u","paused":false}],"version":"1.0.0"}"#,
+                    ),
                 ),
-            ),
-        ],
-        ..RUN
-    }],
-    ..ROW
-}];
-
-static ROWS_4: [Row; 2] = [
+            ],
+            ..RUN
+        }],
+        ..ROW
+    },
     Row {
         name: "a name of 64 bytes",
         files: &[(
@@ -108,46 +103,29 @@ static ROWS_4: [Row; 2] = [
         }],
         ..ROW
     },
-];
-
-static ROWS_5: [Row; 1] = [Row {
-    name: "members that nobody knows, and null ones",
-    files: &[(
-        "nsqd.dat",
-        br#"{"version":[1,{"a":null}],"id_epoch":null,"topics":[{"more":1.5,"name":"t","paused":null,"channels":null}],"x":"y"}"#,
-    )],
-    runs: &[Run {
-        lines: "
+    Row {
+        name: "members that nobody knows, and null ones",
+        files: &[(
+            "nsqd.dat",
+            br#"{"version":[1,{"a":null}],"id_epoch":null,"topics":[{"more":1.5,"name":"t","paused":null,"channels":null}],"x":"y"}"#,
+        )],
+        runs: &[Run {
+            lines: "
                 epoch => 1
                 0 names => names t [ ]
             ",
-        leaves: &[(
-            "nsqd.dat",
-            Some(
-                br#"{"id_epoch":1,"topics":[{"channels":[],"name":"t","paused":false}],"version":"1.0.0"}"#,
-            ),
-        )],
-        ..RUN
-    }],
-    ..ROW
-}];
+            leaves: &[(
+                "nsqd.dat",
+                Some(
+                    br#"{"id_epoch":1,"topics":[{"channels":[],"name":"t","paused":false}],"version":"1.0.0"}"#,
+                ),
+            )],
+            ..RUN
+        }],
+        ..ROW
+    },
+];
 
-pub fn rows_1() -> &'static [Row] {
-    &ROWS_1
-}
-
-pub fn rows_2() -> &'static [Row] {
-    &ROWS_2
-}
-
-pub fn rows_3() -> &'static [Row] {
-    &ROWS_3
-}
-
-pub fn rows_4() -> &'static [Row] {
-    &ROWS_4
-}
-
-pub fn rows_5() -> &'static [Row] {
-    &ROWS_5
+pub fn rows() -> &'static [Row] {
+    &ROWS
 }

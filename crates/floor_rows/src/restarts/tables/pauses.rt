@@ -6,18 +6,19 @@ use path_opening::Why;
 // A record: a message of the first run that was never sent.
 const RECORD: &[u8] = b"\0\0\0\x1b\0\0\0\0\0\0\0\0\0\00000010000000000x";
 
-static ROWS_1: [Row; 1] = [Row {
-    name: "a topic that is paused comes back so, and its messages wait",
-    files: &[
-        (
-            "nsqd.dat",
-            br#"{"id_epoch":1,"topics":[{"name":"t","paused":true,"channels":[{"name":"c"}]}]}"#,
-        ),
-        ("t.diskqueue.000000.dat", RECORD),
-        ("t.diskqueue.meta.dat", b"1\n0,0\n0,31\n"),
-    ],
-    runs: &[Run {
-        lines: "
+static ROWS: [Row; 5] = [
+    Row {
+        name: "a topic that is paused comes back so, and its messages wait",
+        files: &[
+            (
+                "nsqd.dat",
+                br#"{"id_epoch":1,"topics":[{"name":"t","paused":true,"channels":[{"name":"c"}]}]}"#,
+            ),
+            ("t.diskqueue.000000.dat", RECORD),
+            ("t.diskqueue.meta.dat", b"1\n0,0\n0,31\n"),
+        ],
+        runs: &[Run {
+            lines: "
                 0 stats => stats t depth 1 disk 1 paused [ c ]
                 1 begin => begun
                 1 SUB t c => OK
@@ -30,30 +31,29 @@ static ROWS_1: [Row; 1] = [Row {
                 save => done
                 changed => no
             ",
-        leaves: &[(
-            "nsqd.dat",
-            Some(
-                br#"{"id_epoch":2,"topics":[{"channels":[{"name":"c","paused":false}],"name":"t","paused":false}],"version":"1.0.0"}"#,
+            leaves: &[(
+                "nsqd.dat",
+                Some(
+                    br#"{"id_epoch":2,"topics":[{"channels":[{"name":"c","paused":false}],"name":"t","paused":false}],"version":"1.0.0"}"#,
+                ),
+            )],
+            ..RUN
+        }],
+        ..ROW
+    },
+    Row {
+        name: "a channel that is paused comes back so, and its copies stay",
+        files: &[
+            (
+                "nsqd.dat",
+                br#"{"id_epoch":1,"topics":[{"name":"t","channels":[{"paused":true,"name":"c"}]}]}"#,
             ),
-        )],
-        ..RUN
-    }],
-    ..ROW
-}];
-
-static ROWS_2: [Row; 1] = [Row {
-    name: "a channel that is paused comes back so, and its copies stay",
-    files: &[
-        (
-            "nsqd.dat",
-            br#"{"id_epoch":1,"topics":[{"name":"t","channels":[{"paused":true,"name":"c"}]}]}"#,
-        ),
-        ("t:c.diskqueue.000000.dat", RECORD),
-        ("t:c.diskqueue.meta.dat", b"1\n0,0\n0,31\n"),
-    ],
-    runs: &[
-        Run {
-            lines: "
+            ("t:c.diskqueue.000000.dat", RECORD),
+            ("t:c.diskqueue.meta.dat", b"1\n0,0\n0,31\n"),
+        ],
+        runs: &[
+            Run {
+                lines: "
                     0 stats => stats t [ c depth 1 disk 1 paused ]
                     1 begin => begun
                     1 SUB t c => OK
@@ -61,16 +61,16 @@ static ROWS_2: [Row; 1] = [Row {
                     1 next => idle
                     0 stop => stopping
                 ",
-            leaves: &[(
-                "nsqd.dat",
-                Some(
-                    br#"{"id_epoch":2,"topics":[{"channels":[{"name":"c","paused":true}],"name":"t","paused":false}],"version":"1.0.0"}"#,
-                ),
-            )],
-            ..RUN
-        },
-        Run {
-            lines: "
+                leaves: &[(
+                    "nsqd.dat",
+                    Some(
+                        br#"{"id_epoch":2,"topics":[{"channels":[{"name":"c","paused":true}],"name":"t","paused":false}],"version":"1.0.0"}"#,
+                    ),
+                )],
+                ..RUN
+            },
+            Run {
+                lines: "
                     0 stats => stats t [ c depth 1 disk 1 paused ]
                     1 begin => begun
                     1 SUB t c => OK
@@ -79,17 +79,16 @@ static ROWS_2: [Row; 1] = [Row {
                     0 unpause t c => done
                     1 next => sends i0*1 x
                 ",
-            ..RUN
-        },
-    ],
-    ..ROW
-}];
-
-static ROWS_3: [Row; 1] = [Row {
-    name: "names that were saved are found behind an end without a stop",
-    runs: &[
-        Run {
-            lines: "
+                ..RUN
+            },
+        ],
+        ..ROW
+    },
+    Row {
+        name: "names that were saved are found behind an end without a stop",
+        runs: &[
+            Run {
+                lines: "
                     changed => no
                     0 create t => done
                     0 create t c => done
@@ -99,27 +98,25 @@ static ROWS_3: [Row; 1] = [Row {
                     0 create u => done
                     changed => yes
                 ",
-            end: None,
-            leaves: &[(
-                "nsqd.dat",
-                Some(
-                    br#"{"id_epoch":1,"topics":[{"channels":[{"name":"c","paused":false}],"name":"t","paused":false}],"version":"1.0.0"}"#,
-                ),
-            )],
-            ..RUN
-        },
-        Run {
-            lines: "
+                end: None,
+                leaves: &[(
+                    "nsqd.dat",
+                    Some(
+                        br#"{"id_epoch":1,"topics":[{"channels":[{"name":"c","paused":false}],"name":"t","paused":false}],"version":"1.0.0"}"#,
+                    ),
+                )],
+                ..RUN
+            },
+            Run {
+                lines: "
                     epoch => 2
                     0 names => names t [ c ]
                 ",
-            ..RUN
-        },
-    ],
-    ..ROW
-}];
-
-static ROWS_4: [Row; 2] = [
+                ..RUN
+            },
+        ],
+        ..ROW
+    },
     Row {
         name: "a text of names of 16 MiB",
         files: &[("nsqd.dat", br#"{"id_epoch":1}"#)],
@@ -146,18 +143,6 @@ static ROWS_4: [Row; 2] = [
     },
 ];
 
-pub fn rows_1() -> &'static [Row] {
-    &ROWS_1
-}
-
-pub fn rows_2() -> &'static [Row] {
-    &ROWS_2
-}
-
-pub fn rows_3() -> &'static [Row] {
-    &ROWS_3
-}
-
-pub fn rows_4() -> &'static [Row] {
-    &ROWS_4
+pub fn rows() -> &'static [Row] {
+    &ROWS
 }

@@ -15,11 +15,12 @@ const FIRST: &[u8] =
 const SECOND: &[u8] =
     br#"{"id_epoch":2,"topics":[{"channels":[{"name":"c","paused":false}],"name":"t","paused":false}],"version":"1.0.0"}"#;
 
-static ROWS_1: [Row; 1] = [Row {
-    name: "what was queued, in flight and given back is found by the next run",
-    runs: &[
-        Run {
-            lines: "
+static ROWS: [Row; 5] = [
+    Row {
+        name: "what was queued, in flight and given back is found by the next run",
+        runs: &[
+            Run {
+                lines: "
                     epoch => 1
                     1 begin => begun
                     1 MPUB t a b c => OK
@@ -35,37 +36,36 @@ static ROWS_1: [Row; 1] = [Row {
                     2 gone => ended
                     0 stop => stopping
                 ",
-            leaves: &[
-                ("t:c.diskqueue.000000.dat", Some(RECORDS)),
-                ("t:c.diskqueue.meta.dat", Some(b"3\n0,0\n0,93\n")),
-                ("nsqd.dat", Some(FIRST)),
-                ("nsqd.dat.tmp", None),
-            ],
-            ..RUN
-        },
-        Run {
-            lines: "
+                leaves: &[
+                    ("t:c.diskqueue.000000.dat", Some(RECORDS)),
+                    ("t:c.diskqueue.meta.dat", Some(b"3\n0,0\n0,93\n")),
+                    ("nsqd.dat", Some(FIRST)),
+                    ("nsqd.dat.tmp", None),
+                ],
+                ..RUN
+            },
+            Run {
+                lines: "
                     epoch => 2
                     changed => no
                     0 stats => stats t [ c depth 3 disk 3 ]
                 ",
-            end: None,
-            leaves: &[("nsqd.dat", Some(SECOND)), ("nsqd.dat.tmp", None)],
-            ..RUN
-        },
-    ],
-    ..ROW
-}];
-
-static ROWS_2: [Row; 1] = [Row {
-    name: "the next run's ids are new",
-    files: &[
-        ("nsqd.dat", FIRST),
-        ("t:c.diskqueue.000000.dat", RECORDS),
-        ("t:c.diskqueue.meta.dat", b"3\n0,0\n0,93\n"),
-    ],
-    runs: &[Run {
-        lines: "
+                end: None,
+                leaves: &[("nsqd.dat", Some(SECOND)), ("nsqd.dat.tmp", None)],
+                ..RUN
+            },
+        ],
+        ..ROW
+    },
+    Row {
+        name: "the next run's ids are new",
+        files: &[
+            ("nsqd.dat", FIRST),
+            ("t:c.diskqueue.000000.dat", RECORDS),
+            ("t:c.diskqueue.meta.dat", b"3\n0,0\n0,93\n"),
+        ],
+        runs: &[Run {
+            lines: "
                 1 begin => begun
                 1 PUB t d => OK
                 1 SUB t c => OK
@@ -79,99 +79,81 @@ static ROWS_2: [Row; 1] = [Row {
                 1 FIN 0000020000000000 => quiet
                 0 stop => stopping
             ",
-        leaves: &[("nsqd.dat", Some(SECOND))],
-        ..RUN
-    }],
-    ..ROW
-}];
-
-static ROWS_3: [Row; 1] = [Row {
-    name: "the last epoch but one is followed by the last, and that by none",
-    files: &[("nsqd.dat", br#"{"id_epoch":16777214}"#)],
-    runs: &[
-        Run {
-            lines: "
+            leaves: &[("nsqd.dat", Some(SECOND))],
+            ..RUN
+        }],
+        ..ROW
+    },
+    Row {
+        name: "the last epoch but one is followed by the last, and that by none",
+        files: &[("nsqd.dat", br#"{"id_epoch":16777214}"#)],
+        runs: &[
+            Run {
+                lines: "
                     epoch => 16777215
                     0 create t => done
                     0 stop => stopping
                 ",
-            leaves: &[(
-                "nsqd.dat",
-                Some(
-                    br#"{"id_epoch":16777215,"topics":[{"channels":[],"name":"t","paused":false}],"version":"1.0.0"}"#,
-                ),
-            )],
-            ..RUN
-        },
-        Run {
-            refused: Some(Why::EpochSpent),
-            ..RUN
-        },
-    ],
-    ..ROW
-}];
-
-static ROWS_4: [Row; 1] = [Row {
-    name: "the last epoch is spent, and nothing changes",
-    files: &[
-        ("nsqd.dat", br#"{"id_epoch":16777215}"#),
-        ("a.diskqueue.000000.dat", b"x"),
-    ],
-    runs: &[Run {
-        refused: Some(Why::EpochSpent),
-        leaves: &[
-            ("nsqd.dat", Some(br#"{"id_epoch":16777215}"#)),
-            ("a.diskqueue.000000.dat", Some(b"x")),
+                leaves: &[(
+                    "nsqd.dat",
+                    Some(
+                        br#"{"id_epoch":16777215,"topics":[{"channels":[],"name":"t","paused":false}],"version":"1.0.0"}"#,
+                    ),
+                )],
+                ..RUN
+            },
+            Run {
+                refused: Some(Why::EpochSpent),
+                ..RUN
+            },
         ],
-        ..RUN
-    }],
-    ..ROW
-}];
-
-static ROWS_5: [Row; 1] = [Row {
-    name: "three runs of nothing",
-    runs: &[
-        Run {
-            lines: "
+        ..ROW
+    },
+    Row {
+        name: "the last epoch is spent, and nothing changes",
+        files: &[
+            ("nsqd.dat", br#"{"id_epoch":16777215}"#),
+            ("a.diskqueue.000000.dat", b"x"),
+        ],
+        runs: &[Run {
+            refused: Some(Why::EpochSpent),
+            leaves: &[
+                ("nsqd.dat", Some(br#"{"id_epoch":16777215}"#)),
+                ("a.diskqueue.000000.dat", Some(b"x")),
+            ],
+            ..RUN
+        }],
+        ..ROW
+    },
+    Row {
+        name: "three runs of nothing",
+        runs: &[
+            Run {
+                lines: "
                     epoch => 1
                     0 stop => stopping
                 ",
-            leaves: &[("nsqd.dat", Some(EMPTY))],
-            ..RUN
-        },
-        Run {
-            lines: "epoch => 2",
-            ..RUN
-        },
-        Run {
-            lines: "epoch => 3",
-            end: None,
-            leaves: &[(
-                "nsqd.dat",
-                Some(br#"{"id_epoch":3,"topics":[],"version":"1.0.0"}"#),
-            )],
-            ..RUN
-        },
-    ],
-    ..ROW
-}];
+                leaves: &[("nsqd.dat", Some(EMPTY))],
+                ..RUN
+            },
+            Run {
+                lines: "epoch => 2",
+                ..RUN
+            },
+            Run {
+                lines: "epoch => 3",
+                end: None,
+                leaves: &[(
+                    "nsqd.dat",
+                    Some(br#"{"id_epoch":3,"topics":[],"version":"1.0.0"}"#),
+                )],
+                ..RUN
+            },
+        ],
+        ..ROW
+    },
+];
 
-pub fn rows_1() -> &'static [Row] {
-    &ROWS_1
-}
-
-pub fn rows_2() -> &'static [Row] {
-    &ROWS_2
-}
-
-pub fn rows_3() -> &'static [Row] {
-    &ROWS_3
-}
-
-pub fn rows_4() -> &'static [Row] {
-    &ROWS_4
-}
-
-pub fn rows_5() -> &'static [Row] {
-    &ROWS_5
+pub fn rows() -> &'static [Row] {
+    &ROWS
 }

@@ -1,7 +1,6 @@
 //! Calls on a folder, each with what it answers.
 
 use crate::same;
-use nsq_base::Memory;
 use nsq_outside::{Did, Folder, Length, Listing, ReadAt};
 use std::alloc::Global;
 
@@ -59,54 +58,64 @@ pub const BY_BEGINNING: &[Step] = &[
 ];
 
 /// Whether a folder answers all these calls so.
-pub fn all_answer<F: Folder>(
-    alloc: Global,
-    folder: &mut F,
-    steps: &[Step],
-) -> Result<bool, Memory> {
+pub fn all_answer<F: Folder>(alloc: Global, folder: &mut F, steps: &[Step]) -> bool {
     for step in steps {
-        if !answers(alloc, folder, *step)? {
-            return Ok(false);
+        if !answers(alloc, folder, *step) {
+            return false;
         }
     }
-    Ok(true)
+    true
 }
 
 /// Whether a folder answers a call so.
-pub fn answers<F: Folder>(alloc: Global, folder: &mut F, step: Step) -> Result<bool, Memory> {
-    Ok(match step {
-        Step::List(names) => lists(alloc, folder, "", names)?,
-        Step::ListBy(beginning, names) => lists(alloc, folder, beginning, names)?,
+pub fn answers<F: Folder>(alloc: Global, folder: &mut F, step: Step) -> bool {
+    match changes(folder, step) {
+        Some((did, want)) => did == want,
+        None => tells(alloc, folder, step),
+    }
+}
+
+/// What a folder answers to a call that changes it or makes it durable, beside what it should; nothing of another call.
+fn changes<F: Folder>(folder: &mut F, step: Step) -> Option<(Did, Did)> {
+    match step {
+        Step::WriteAt(name, at, bytes, did) => Some((folder.write_at(name, at, bytes), did)),
+        Step::Cut(name, to, did) => Some((folder.cut(name, to), did)),
+        Step::Sync(name, did) => Some((folder.sync(name), did)),
+        Step::SyncNames(did) => Some((folder.sync_names(), did)),
+        Step::Rename(from, to, did) => Some((folder.rename(from, to), did)),
+        Step::Remove(name, did) => Some((folder.remove(name), did)),
+        _ => None,
+    }
+}
+
+/// Whether a folder answers another call so.
+fn tells<F: Folder>(alloc: Global, folder: &mut F, step: Step) -> bool {
+    match step {
+        Step::List(names) => lists(alloc, folder, "", names),
+        Step::ListBy(beginning, names) => lists(alloc, folder, beginning, names),
         Step::ListFails => list_fails(alloc, folder),
         Step::Len(name, length) => folder.len(name) == length,
         Step::ReadAt(name, at, got, after) => reads(folder, name, at, got, after),
         Step::ReadFails(name, at) => folder.read_at(name, at, &mut [0; 4]) == ReadAt::Failed,
-        Step::WriteAt(name, at, bytes, did) => folder.write_at(name, at, bytes) == did,
-        Step::Cut(name, to, did) => folder.cut(name, to) == did,
         Step::CutFar(name, before) => cuts_far(folder, name, before),
-        Step::Sync(name, did) => folder.sync(name) == did,
-        Step::SyncNames(did) => folder.sync_names() == did,
-        Step::Rename(from, to, did) => folder.rename(from, to) == did,
-        Step::Remove(name, did) => folder.remove(name) == did,
-    })
+        _ => false,
+    }
 }
 
 /// Whether a listing by a beginning gives these names and no others.
-fn lists<F: Folder>(
-    alloc: Global,
-    folder: &mut F,
-    beginning: &str,
-    want: &[&str],
-) -> Result<bool, Memory> {
+fn lists<F: Folder>(alloc: Global, folder: &mut F, beginning: &str, want: &[&str]) -> bool {
     let mut names = Vec::new(alloc);
-    if folder.list(alloc, beginning, &mut names) != Listing::Done {
-        return Ok(false);
-    }
+    let listing = folder.list(alloc, beginning, &mut names);
+    listing == Listing::Done && are_names(&names, want)
+}
+
+/// Whether these are the names, in any order.
+fn are_names(names: &[String], want: &[&str]) -> bool {
     let mut all = names.len() == want.len();
     for name in want {
-        all = all && is_among(&names, name);
+        all = all && is_among(names, name);
     }
-    Ok(all)
+    all
 }
 
 /// Whether a name is among these.
@@ -129,7 +138,8 @@ fn list_fails<F: Folder>(alloc: Global, folder: &mut F) -> bool {
 fn reads<F: Folder>(folder: &mut F, name: &str, at: u64, got: ReadAt, after: &[u8]) -> bool {
     let mut into = [b'-'; MOST_READ];
     let room = after.len().min(MOST_READ);
-    folder.read_at(name, at, &mut into[..room]) == got && same(&into[..room], after)
+    let part = &mut into[..room];
+    folder.read_at(name, at, part) == got && same(part, after)
 }
 
 /// Whether a file has 2^62 bytes after a cut to them that was carried out, and this length after one that failed.

@@ -10,18 +10,20 @@ mod talks;
 use nsq_outside::Kind;
 use nsq_system::TcpConn;
 use std::alloc::Global;
-use std::io;
-use std::net::{Net, TcpListener, TcpStream};
+use std::net::{SocketAddr, TcpListener, TcpStream};
+use std::process::Abort;
 
 /// A connection and its peer, over the loopback network.
-fn made_pair<R: Net<Listener = TcpListener, Stream = TcpStream>>(
-    rt: &R,
-    alloc: Global,
-    kind: Kind,
-) -> io::Result<(TcpConn, TcpStream)> {
-    let listener = TcpListener::bind(rt, "127.0.0.1:0")?;
-    let peer = TcpStream::connect(rt, listener.local_addr()?)?;
-    let (stream, _) = listener.accept()?;
-    let conn = TcpConn::new(rt, alloc, stream, kind)?;
-    Ok((conn, peer))
+fn made_pair(rt: &impl Abort, own: &HostRuntime, kind: Kind) -> (TcpConn, TcpStream) {
+    let listener = TcpListener::bind(own, "127.0.0.1:0").expect(rt, "a listener");
+    let address = listener.local_addr().expect(rt, "an address");
+    let peer = TcpStream::connect(own, address).expect(rt, "a peer");
+    let (stream, _) = listener.accept().expect(rt, "a caller");
+    let conn = TcpConn::new(own, own.alloc(), stream, kind).expect(rt, "a connection");
+    (conn, peer)
+}
+
+/// The text of an address.
+fn text_of(rt: &impl Abort, alloc: Global, address: SocketAddr) -> String {
+    format!(in alloc; "{address}").expect(rt, "memory")
 }

@@ -1,8 +1,8 @@
-use nsq_base::Memory;
+use crate::check;
 use nsq_fakes::MemClock;
 use nsq_outside::Clock;
 use std::alloc::Global;
-use std::test::Fail;
+use std::process::Abort;
 
 struct Row {
     name: &'static str,
@@ -24,27 +24,21 @@ static ROWS: [Row; 2] = [
     },
 ];
 
-/// Whether the next readings of a clock are these.
-fn gives<C: Clock>(clock: &mut C, given: &[u64]) -> bool {
+/// Whether a clock gives what its row says.
+fn holds(rt: &impl Abort, alloc: Global, row: &Row) -> bool {
+    let readings = row.readings.to_vec(alloc).expect(rt, "memory");
+    let mut clock = MemClock::new(alloc, readings).expect(rt, "memory");
     let mut all = true;
-    for reading in given {
-        if clock.now() != *reading {
-            all = false;
-        }
+    for reading in row.given {
+        all = clock.now() == *reading && all;
     }
+    drop(clock);
     all
 }
 
-fn holds(alloc: Global, row: &Row) -> Result<bool, Memory> {
-    let mut clock = MemClock::new(alloc, row.readings.to_vec(alloc)?)?;
-    Ok(gives(&mut clock, row.given))
-}
-
 #[test]
-fn rows(rt: HostRuntime) -> Result<(), Fail> {
+fn rows(rt: HostRuntime) {
     for row in &ROWS {
-        let holds = holds(rt.alloc(), row)?;
-        assert!(rt; holds, "{}", row.name);
+        check(&rt, holds(&rt, rt.alloc(), row), row.name);
     }
-    Ok(())
 }

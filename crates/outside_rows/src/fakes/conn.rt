@@ -1,11 +1,10 @@
 use super::{Pieces, are, made_conn};
-use crate::same;
-use nsq_base::Memory;
+use crate::{check, same};
 use nsq_fakes::MemConn;
-use nsq_outside::{Conn, Read, Write, get, put};
+use nsq_outside::{Read, Write, get, put};
 use std::alloc::Global;
+use std::process::Abort;
 use std::sync::Wait;
-use std::test::Fail;
 
 /// A call on a connection, with what it answers.
 #[derive(Clone, Copy)]
@@ -65,7 +64,7 @@ static ROWS: [Row; 2] = [
 ];
 
 /// Whether a connection answers a call so.
-fn answers<R: Wait, K: Conn>(rt: &R, conn: &mut K, call: Call) -> bool {
+fn answers<R: Wait>(rt: &R, conn: &mut MemConn, call: Call) -> bool {
     match call {
         Call::Read(answer) => {
             let mut buffer = [0u8; 4];
@@ -75,9 +74,12 @@ fn answers<R: Wait, K: Conn>(rt: &R, conn: &mut K, call: Call) -> bool {
     }
 }
 
-/// Whether these pieces were read, and these bytes written.
-fn keeps(conn: &MemConn, read: &[&[u8]], written: &[u8]) -> bool {
-    are(conn.pieces_read(), read) && same(conn.bytes_written(), written)
+/// Whether a connection keeps what was read and written as its row says, and counts its faults.
+fn keeps(conn: &MemConn, row: &Row) -> bool {
+    are(conn.pieces_read(), row.read)
+        && same(conn.bytes_written(), row.written)
+        && conn.read_faults() == row.faults.0
+        && conn.write_faults() == row.faults.1
 }
 
 /// Whether a connection answers all these calls so.
@@ -90,21 +92,16 @@ fn all_answer<R: Wait>(rt: &R, conn: &mut MemConn, calls: &[Call]) -> bool {
     true
 }
 
-fn holds<R: Wait>(rt: &R, alloc: Global, row: &Row) -> Result<bool, Memory> {
-    let mut conn = made_conn(alloc, row.pieces, row.read_fails, row.write_fails)?;
-    Ok(
-        all_answer(rt, &mut conn, row.calls)
-            && keeps(&conn, row.read, row.written)
-            && conn.read_faults() == row.faults.0
-            && conn.write_faults() == row.faults.1,
-    )
+fn holds<R: Abort + Wait>(rt: &R, alloc: Global, row: &Row) -> bool {
+    let mut conn = made_conn(rt, alloc, row.pieces, row.read_fails, row.write_fails);
+    let all = all_answer(rt, &mut conn, row.calls) && keeps(&conn, row);
+    drop(conn);
+    all
 }
 
 #[test]
-fn rows(rt: HostRuntime) -> Result<(), Fail> {
+fn rows(rt: HostRuntime) {
     for row in &ROWS {
-        let holds = holds(&rt, rt.alloc(), row)?;
-        assert!(rt; holds, "{}", row.name);
+        check(&rt, holds(&rt, rt.alloc(), row), row.name);
     }
-    Ok(())
 }

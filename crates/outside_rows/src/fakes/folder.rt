@@ -1,10 +1,9 @@
 use crate::folder_steps::{BY_BEGINNING, Step, all_answer};
-use crate::same;
-use nsq_base::Memory;
+use crate::{check, same};
 use nsq_fakes::{Called, Failing, FolderCall, MemFolder};
 use nsq_outside::{Did, Length, ReadAt};
 use std::alloc::Global;
-use std::test::Fail;
+use std::process::Abort;
 
 /// Files, each with its name and its bytes.
 type Files = &'static [(&'static str, &'static [u8])];
@@ -24,65 +23,104 @@ struct Row {
 
 const TWO_FILES: Files = &[("a", b"one"), ("b", b"two")];
 
-static ROWS_1: [Row; 1] = [Row {
-    name: "reads and writes",
-    files: TWO_FILES,
-    fails: &[],
-    steps: &[
-        Step::WriteAt("a", 1, b"xyz", Did::Done),
-        Step::Len("a", Length::Is(4)),
-        Step::WriteAt("c", 2, b"!", Did::Done),
-        Step::ReadAt("a", 2, ReadAt::Got(2), b"yz--"),
-        Step::Cut("a", 2, Did::Done),
-    ],
-    there: &[("a", b"ox"), ("b", b"two"), ("c", b"\0\0!")],
-    absent: &[],
-    called: &[
-        (FolderCall::WriteAt, "a", ""),
-        (FolderCall::Len, "a", ""),
-        (FolderCall::WriteAt, "c", ""),
-        (FolderCall::ReadAt, "a", ""),
-        (FolderCall::Cut, "a", ""),
-    ],
-}];
+static ROWS_1: [Row; 2] = [
+    Row {
+        name: "reads and writes",
+        files: TWO_FILES,
+        fails: &[],
+        steps: &[
+            Step::WriteAt("a", 1, b"xyz", Did::Done),
+            Step::Len("a", Length::Is(4)),
+            Step::WriteAt("c", 2, b"!", Did::Done),
+            Step::ReadAt("a", 2, ReadAt::Got(2), b"yz--"),
+            Step::Cut("a", 2, Did::Done),
+        ],
+        there: &[("a", b"ox"), ("b", b"two"), ("c", b"\0\0!")],
+        absent: &[],
+        called: &[
+            (FolderCall::WriteAt, "a", ""),
+            (FolderCall::Len, "a", ""),
+            (FolderCall::WriteAt, "c", ""),
+            (FolderCall::ReadAt, "a", ""),
+            (FolderCall::Cut, "a", ""),
+        ],
+    },
+    Row {
+        name: "a rename takes the place of a file",
+        files: TWO_FILES,
+        fails: &[],
+        steps: &[
+            Step::Rename("a", "b", Did::Done),
+            Step::List(&["b"]),
+            Step::Sync("b", Did::Done),
+        ],
+        there: &[("b", b"one")],
+        absent: &["a"],
+        called: &[
+            (FolderCall::Rename, "a", "b"),
+            (FolderCall::List, "", ""),
+            (FolderCall::Sync, "b", ""),
+        ],
+    },
+];
 
-static ROWS_2: [Row; 1] = [Row {
-    name: "a rename takes the place of a file",
-    files: TWO_FILES,
-    fails: &[],
-    steps: &[
-        Step::Rename("a", "b", Did::Done),
-        Step::List(&["b"]),
-        Step::Sync("b", Did::Done),
-    ],
-    there: &[("b", b"one")],
-    absent: &["a"],
-    called: &[
-        (FolderCall::Rename, "a", "b"),
-        (FolderCall::List, "", ""),
-        (FolderCall::Sync, "b", ""),
-    ],
-}];
+static ROWS_2: [Row; 2] = [
+    Row {
+        name: "a file that is removed is absent",
+        files: TWO_FILES,
+        fails: &[],
+        steps: &[
+            Step::Remove("b", Did::Done),
+            Step::SyncNames(Did::Done),
+            Step::Len("b", Length::Absent),
+        ],
+        there: &[("a", b"one")],
+        absent: &["b"],
+        called: &[
+            (FolderCall::Remove, "b", ""),
+            (FolderCall::SyncNames, "", ""),
+            (FolderCall::Len, "b", ""),
+        ],
+    },
+    Row {
+        name: "calls that are to fail do, by their numbers of one method and of all",
+        files: TWO_FILES,
+        fails: &[
+            Failing {
+                call: FolderCall::WriteAt,
+                from: 1,
+                to: 2,
+            },
+            Failing {
+                call: FolderCall::Any,
+                from: 4,
+                to: 5,
+            },
+        ],
+        steps: &[
+            Step::Sync("a", Did::Done),
+            Step::WriteAt("a", 0, b"1", Did::Done),
+            Step::WriteAt("a", 0, b"2", Did::Failed),
+            Step::WriteAt("a", 1, b"3", Did::Done),
+            Step::Remove("a", Did::Failed),
+            Step::ReadAt("a", 0, ReadAt::Got(3), b"13e"),
+            Step::Remove("a", Did::Done),
+        ],
+        there: &[("b", b"two")],
+        absent: &["a"],
+        called: &[
+            (FolderCall::Sync, "a", ""),
+            (FolderCall::WriteAt, "a", ""),
+            (FolderCall::WriteAt, "a", ""),
+            (FolderCall::WriteAt, "a", ""),
+            (FolderCall::Remove, "a", ""),
+            (FolderCall::ReadAt, "a", ""),
+            (FolderCall::Remove, "a", ""),
+        ],
+    },
+];
 
 static ROWS_3: [Row; 1] = [Row {
-    name: "a file that is removed is absent",
-    files: TWO_FILES,
-    fails: &[],
-    steps: &[
-        Step::Remove("b", Did::Done),
-        Step::SyncNames(Did::Done),
-        Step::Len("b", Length::Absent),
-    ],
-    there: &[("a", b"one")],
-    absent: &["b"],
-    called: &[
-        (FolderCall::Remove, "b", ""),
-        (FolderCall::SyncNames, "", ""),
-        (FolderCall::Len, "b", ""),
-    ],
-}];
-
-static ROWS_4: [Row; 1] = [Row {
     name: "listings by a beginning",
     files: &[],
     fails: &[],
@@ -115,43 +153,6 @@ static ROWS_4: [Row; 1] = [Row {
     ],
 }];
 
-static ROWS_5: [Row; 1] = [Row {
-    name: "calls that are to fail do, by their numbers of one method and of all",
-    files: TWO_FILES,
-    fails: &[
-        Failing {
-            call: FolderCall::WriteAt,
-            from: 1,
-            to: 2,
-        },
-        Failing {
-            call: FolderCall::Any,
-            from: 4,
-            to: 5,
-        },
-    ],
-    steps: &[
-        Step::Sync("a", Did::Done),
-        Step::WriteAt("a", 0, b"1", Did::Done),
-        Step::WriteAt("a", 0, b"2", Did::Failed),
-        Step::WriteAt("a", 1, b"3", Did::Done),
-        Step::Remove("a", Did::Failed),
-        Step::ReadAt("a", 0, ReadAt::Got(3), b"13e"),
-        Step::Remove("a", Did::Done),
-    ],
-    there: &[("b", b"two")],
-    absent: &["a"],
-    called: &[
-        (FolderCall::Sync, "a", ""),
-        (FolderCall::WriteAt, "a", ""),
-        (FolderCall::WriteAt, "a", ""),
-        (FolderCall::WriteAt, "a", ""),
-        (FolderCall::Remove, "a", ""),
-        (FolderCall::ReadAt, "a", ""),
-        (FolderCall::Remove, "a", ""),
-    ],
-}];
-
 fn rows_1() -> &'static [Row] {
     &ROWS_1
 }
@@ -164,36 +165,19 @@ fn rows_3() -> &'static [Row] {
     &ROWS_3
 }
 
-fn rows_4() -> &'static [Row] {
-    &ROWS_4
-}
-
-fn rows_5() -> &'static [Row] {
-    &ROWS_5
-}
-
-fn rows_in_parts() -> [&'static [Row]; 5] {
-    [rows_1(), rows_2(), rows_3(), rows_4(), rows_5()]
-}
-
 /// A folder with these files, of which these calls fail.
-fn made(alloc: Global, files: Files, fails: &[Failing]) -> Result<MemFolder, Memory> {
+fn made(rt: &impl Abort, alloc: Global, files: Files, fails: &[Failing]) -> MemFolder {
     let mut list = Vec::new(alloc);
-    push_files(alloc, files, &mut list)?;
-    MemFolder::new(alloc, list, fails.to_vec(alloc)?)
+    push_files(rt, alloc, files, &mut list);
+    MemFolder::new(alloc, list, fails.to_vec(alloc).expect(rt, "memory")).expect(rt, "memory")
 }
 
-fn push_files(
-    alloc: Global,
-    files: Files,
-    list: &mut Vec<(String, Vec<u8>)>,
-) -> Result<(), Memory> {
+fn push_files(rt: &impl Abort, alloc: Global, files: Files, list: &mut Vec<(String, Vec<u8>)>) {
     for (name, bytes) in files {
-        let name = String::from_str(alloc, name)?;
-        let bytes = bytes.to_vec(alloc)?;
-        list.push((name, bytes))?;
+        let name = String::from_str(alloc, name).expect(rt, "memory");
+        let bytes = bytes.to_vec(alloc).expect(rt, "memory");
+        list.push((name, bytes)).expect(rt, "memory");
     }
-    Ok(())
 }
 
 /// Whether a file has these bytes.
@@ -221,12 +205,11 @@ fn is_called(called: &[Called], want: &[(FolderCall, &str, &str)]) -> bool {
     if called.len() != want.len() {
         return false;
     }
-    for (i, call) in want.iter().enumerate() {
-        if i >= called.len() || !is_made(&called[i], *call) {
-            return false;
-        }
+    let mut all = true;
+    for i in 0..want.len() {
+        all = all && is_made(&called[i], want[i]);
     }
-    true
+    all
 }
 
 /// Whether this call was made.
@@ -237,19 +220,19 @@ fn is_made(made: &Called, want: (FolderCall, &str, &str)) -> bool {
         && same(made.to.as_bytes(), to.as_bytes())
 }
 
-fn holds(alloc: Global, row: &Row) -> Result<bool, Memory> {
-    let mut folder = made(alloc, row.files, row.fails)?;
-    let all = all_answer(alloc, &mut folder, row.steps)?;
-    Ok(all && has(&folder, row.there, row.absent) && is_called(folder.called(), row.called))
+fn holds(rt: &impl Abort, alloc: Global, row: &Row) -> bool {
+    let mut folder = made(rt, alloc, row.files, row.fails);
+    let all = all_answer(alloc, &mut folder, row.steps);
+    let keeps = has(&folder, row.there, row.absent) && is_called(folder.called(), row.called);
+    drop(folder);
+    all && keeps
 }
 
 #[test]
-fn rows(rt: HostRuntime) -> Result<(), Fail> {
-    for part in &rows_in_parts() {
+fn rows(rt: HostRuntime) {
+    for part in &[rows_1(), rows_2(), rows_3()] {
         for row in *part {
-            let holds = holds(rt.alloc(), row)?;
-            assert!(rt; holds, "{}", row.name);
+            check(&rt, holds(&rt, rt.alloc(), row), row.name);
         }
     }
-    Ok(())
 }

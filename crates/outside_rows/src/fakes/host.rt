@@ -1,17 +1,16 @@
-ghost use Rattle.std.specs.Prelude.{◌≡◌, ◌≤◌, [], false, IfOk, IsTrue, IsSome, length};
+ghost use Rattle.std.specs.Prelude.{◌≡◌, ◌≤◌, [], false, IsTrue, IsSome, length};
 ghost use Rattle.nsq_fakes.specs.MemHosts.{content_of, state_of};
 
 use super::journal::{Seen, keeps};
 use super::{Pieces, are, made_conn};
-use crate::same;
-use nsq_base::Memory;
+use crate::{check, same};
 use nsq_fakes::{MemClock, MemConn, MemFolder, MemHost, MemJournal, Start};
 use nsq_outside::{
-    Accept, Clock, Dialled, Did, End, Host, Journal, Kind, Kit, Read, dial, get, put,
+    Accept, Clock, Conn, Dialled, Did, End, Host, Journal, Kind, Kit, Read, dial, get, put,
 };
 use std::alloc::Global;
+use std::process::Abort;
 use std::sync::Wait;
-use std::test::Fail;
 
 /// What a host answers when it was started and is asked for one caller, what dials of addresses answer then, and what it
 /// keeps of all that. Whoever comes is sent back the first piece that it sends, up to 8 bytes.
@@ -75,7 +74,7 @@ static ROWS: [Row; 3] = [
 ];
 
 /// Sends back the first piece of a connection.
-fn echo<R: Wait, H: Host<Seen>>(rt: &R, conn: &mut H::Conn) {
+fn echo<R: Wait, K: Conn>(rt: &R, conn: &mut K) {
     let mut buffer = [0u8; 8];
     if let Read::Got(count) = get(rt, conn, &mut buffer) {
         let _ = put(rt, conn, &buffer[..count]);
@@ -93,7 +92,22 @@ fn note_time<C: Clock, J: Journal<Seen>>(clock: &mut C, journal: &mut J)
     }
 }
 
-/// Serves one caller, and gives its kind.
+/// Serves a caller, and gives its kind.
+fn serve_caller<R: Wait, H: Host<Seen>>(rt: &R, host: &mut H) -> Option<Kind>
+    requires room { IsTrue H.tells → length (H.content host.old).back ≤ length (H.content host.old).given }
+    ensures kit { (H.state host.new).kit ≡ (H.state host.old).kit }
+{
+    match host.accept(rt) {
+        Accept::Caller(kind, mut conn) => {
+            echo(rt, &mut conn);
+            host.done(1, conn);
+            Some(kind)
+        }
+        Accept::Nothing | Accept::Halt | Accept::Failed => None,
+    }
+}
+
+/// Serves one caller while the kit is out, and gives its kind.
 fn serve_one<R: Wait, H: Host<Seen>>(rt: &R, host: &mut H) -> Option<Kind>
     requires home { IsSome (H.state host.old).kit }
     requires room { IsTrue H.tells → length (H.content host.old).back ≤ length (H.content host.old).given }
@@ -103,14 +117,7 @@ fn serve_one<R: Wait, H: Host<Seen>>(rt: &R, host: &mut H) -> Option<Kind>
     }
     let mut kit = host.lend();
     note_time(&mut kit.clock, &mut kit.journal);
-    let kind = match host.accept(rt) {
-        Accept::Caller(kind, mut conn) => {
-            echo::<R, H>(rt, &mut conn);
-            host.done(1, conn);
-            Some(kind)
-        }
-        Accept::Nothing | Accept::Halt | Accept::Failed => None,
-    };
+    let kind = serve_caller(rt, host);
     host.restore(kit);
     kind
 }
@@ -119,7 +126,7 @@ fn serve_one<R: Wait, H: Host<Seen>>(rt: &R, host: &mut H) -> Option<Kind>
 fn serve_link<R: Wait, H: Host<Seen>>(rt: &R, host: &mut H, address: &str) -> bool {
     match dial(rt, host, address) {
         Dialled::Linked(mut conn) => {
-            echo::<R, H>(rt, &mut conn);
+            echo(rt, &mut conn);
             host.done(2, conn);
             true
         }
@@ -128,45 +135,52 @@ fn serve_link<R: Wait, H: Host<Seen>>(rt: &R, host: &mut H, address: &str) -> bo
 }
 
 /// A kit with the clock at 7.
-pub fn home_kit(alloc: Global) -> Result<Kit<MemFolder, MemClock, MemJournal<Seen>>, Memory> {
-    let folder = MemFolder::new(alloc, Vec::new(alloc), Vec::new(alloc))?;
-    let clock = MemClock::new(alloc, [7].to_vec(alloc)?)?;
+fn home_kit(rt: &impl Abort, alloc: Global) -> Kit<MemFolder, MemClock, MemJournal<Seen>> {
+    let folder = MemFolder::new(alloc, Vec::new(alloc), Vec::new(alloc)).expect(rt, "memory");
+    let clock = MemClock::new(alloc, [7].to_vec(alloc).expect(rt, "memory")).expect(rt, "memory");
     let journal = MemJournal::new(alloc);
-    Ok(Kit {
+    Kit {
         folder,
         clock,
         journal,
-    })
+    }
 }
 
-/// A host with the callers and the connections of a row. Its kit is at home, and no connection came back yet.
-fn made(alloc: Global, row: &Row) -> Result<MemHost<Seen>, Memory>
-    ensures home { IfOk result (λ host. IsSome (state_of host).kit) }
-    ensures back { IfOk result (λ host. (content_of host).back ≡ []) }
+/// A host with these callers, and these connections for dials. Its kit is at home, and no connection came back yet.
+pub fn made(
+    rt: &impl Abort,
+    alloc: Global,
+    callers: &[(Kind, Pieces)],
+    dialled: &[Pieces],
+    beside: bool,
+) -> MemHost<Seen>
+    ensures home { IsSome (state_of result).kit }
+    ensures back { (content_of result).back ≡ [] }
 {
-    let mut callers = Vec::new(alloc);
-    push_callers(alloc, row.callers, &mut callers)?;
-    let mut dialled = Vec::new(alloc);
-    push_dialled(alloc, row.dialled, &mut dialled)?;
-    MemHost::new(alloc, callers, dialled, home_kit(alloc)?, row.beside)
+    let mut calling = Vec::new(alloc);
+    push_callers(rt, alloc, callers, &mut calling);
+    let mut waiting = Vec::new(alloc);
+    push_dialled(rt, alloc, dialled, &mut waiting);
+    MemHost::new(alloc, calling, waiting, home_kit(rt, alloc), beside).expect(rt, "memory")
 }
 
 fn push_callers(
+    rt: &impl Abort,
     alloc: Global,
     callers: &[(Kind, Pieces)],
     list: &mut Vec<(Kind, MemConn)>,
-) -> Result<(), Memory> {
+) {
     for (kind, pieces) in callers {
-        list.push((*kind, made_conn(alloc, pieces, &[], &[])?))?;
+        list.push((*kind, made_conn(rt, alloc, pieces, &[], &[])))
+            .expect(rt, "memory");
     }
-    Ok(())
 }
 
-fn push_dialled(alloc: Global, dialled: &[Pieces], list: &mut Vec<MemConn>) -> Result<(), Memory> {
+fn push_dialled(rt: &impl Abort, alloc: Global, dialled: &[Pieces], list: &mut Vec<MemConn>) {
     for pieces in dialled {
-        list.push(made_conn(alloc, pieces, &[], &[])?)?;
+        list.push(made_conn(rt, alloc, pieces, &[], &[]))
+            .expect(rt, "memory");
     }
-    Ok(())
 }
 
 /// Whether nobody will call any more.
@@ -182,12 +196,11 @@ fn is_back(back: &[(u64, MemConn)], want: &[(u64, &[u8])]) -> bool {
     if back.len() != want.len() {
         return false;
     }
-    for (i, (number, written)) in want.iter().enumerate() {
-        if i >= back.len() || back[i].0 != *number || !same(back[i].1.bytes_written(), written) {
-            return false;
-        }
+    let mut all = true;
+    for i in 0..want.len() {
+        all = all && back[i].0 == want[i].0 && same(back[i].1.bytes_written(), want[i].1);
     }
-    true
+    all
 }
 
 /// Whether the addresses that were asked for are those of a row, in order.
@@ -195,12 +208,11 @@ fn is_asked(asked: &[String], want: &[(&str, bool)]) -> bool {
     if asked.len() != want.len() {
         return false;
     }
-    for (i, (address, _)) in want.iter().enumerate() {
-        if i >= asked.len() || !same(asked[i].as_bytes(), address.as_bytes()) {
-            return false;
-        }
+    let mut all = true;
+    for i in 0..want.len() {
+        all = all && same(asked[i].as_bytes(), want[i].0.as_bytes());
     }
-    true
+    all
 }
 
 /// Whether a host was started once, with the address of HTTP.
@@ -227,11 +239,11 @@ fn keeps_all(host: &MemHost<Seen>, row: &Row) -> bool {
         && is_asked(host.asked(), row.dials)
 }
 
-fn holds<R: Wait>(rt: &R, alloc: Global, row: &Row) -> Result<bool, Memory> {
-    let mut host = made(alloc, row)?;
-    let mut all = serve_one(rt, &mut host) == row.served;
+/// Whether a host dials and prints as a row says, and nobody calls any more.
+fn goes<R: Wait>(rt: &R, host: &mut MemHost<Seen>, row: &Row) -> bool {
+    let mut all = true;
     for (address, linked) in row.dials {
-        all = serve_link(rt, &mut host, address) == *linked && all;
+        all = serve_link(rt, host, address) == *linked && all;
     }
     for text in row.prints {
         all = host.print(rt, text) == Did::Done && all;
@@ -239,14 +251,23 @@ fn holds<R: Wait>(rt: &R, alloc: Global, row: &Row) -> Result<bool, Memory> {
     for line in row.tells {
         host.tell(rt, line);
     }
-    Ok(all && is_halt(host.accept(rt)) && keeps_all(&host, row))
+    all && is_halt(host.accept(rt))
+}
+
+/// Drops a host.
+pub fn let_go(_host: MemHost<Seen>) {}
+
+fn holds<R: Abort + Wait>(rt: &R, alloc: Global, row: &Row) -> bool {
+    let mut host = made(rt, alloc, row.callers, row.dialled, row.beside);
+    let served = serve_one(rt, &mut host) == row.served;
+    let all = served && goes(rt, &mut host, row) && keeps_all(&host, row);
+    let_go(host);
+    all
 }
 
 #[test]
-fn rows(rt: HostRuntime) -> Result<(), Fail> {
+fn rows(rt: HostRuntime) {
     for row in &ROWS {
-        let holds = holds(&rt, rt.alloc(), row)?;
-        assert!(rt; holds, "{}", row.name);
+        check(&rt, holds(&rt, rt.alloc(), row), row.name);
     }
-    Ok(())
 }

@@ -1,15 +1,14 @@
 //! Rows of a host in memory whose calls fail by their numbers.
 
-use super::host::home_kit;
+use super::host::{let_go, made};
 use super::journal::Seen;
-use super::{are, made_conn};
-use crate::same;
-use nsq_base::Memory;
+use super::{Pieces, are};
+use crate::{check, same};
 use nsq_fakes::{MemConn, MemHost};
 use nsq_outside::{Accept, Did, Host, Kind};
 use std::alloc::Global;
+use std::process::Abort;
 use std::sync::Wait;
-use std::test::Fail;
 
 /// What an accept answers, without the connection.
 #[derive(Clone, Copy, PartialEq, Eq)]
@@ -31,8 +30,8 @@ enum Call {
 
 struct Row {
     name: &'static str,
-    /// The kinds of the callers to come.
-    callers: &'static [Kind],
+    /// The callers to come.
+    callers: &'static [(Kind, Pieces)],
     /// The numbers of the accepts and starts, of the prints and of the tells that fail.
     accept_fails: &'static [u64],
     print_fails: &'static [u64],
@@ -47,7 +46,7 @@ struct Row {
 static ROWS: [Row; 5] = [
     Row {
         name: "the caller of an accept that fails comes with the next",
-        callers: &[Kind::Tcp],
+        callers: &[(Kind::Tcp, &[])],
         accept_fails: &[0],
         print_fails: &[],
         tell_fails: &[],
@@ -62,7 +61,7 @@ static ROWS: [Row; 5] = [
     },
     Row {
         name: "starts and accepts are counted together",
-        callers: &[Kind::Tcp, Kind::Http],
+        callers: &[(Kind::Tcp, &[]), (Kind::Http, &[])],
         accept_fails: &[0, 3],
         print_fails: &[],
         tell_fails: &[],
@@ -113,31 +112,13 @@ static ROWS: [Row; 5] = [
 ];
 
 /// A host with the callers of a row, whose calls fail as it says.
-fn made(alloc: Global, row: &Row) -> Result<MemHost<Seen>, Memory> {
-    let mut callers = Vec::new(alloc);
-    push_callers(alloc, row.callers, &mut callers)?;
-    let mut host = MemHost::new(alloc, callers, Vec::new(alloc), home_kit(alloc)?, false)?;
-    set_fails(alloc, &mut host, row)?;
-    Ok(host)
-}
-
-fn push_callers(
-    alloc: Global,
-    kinds: &[Kind],
-    callers: &mut Vec<(Kind, MemConn)>,
-) -> Result<(), Memory> {
-    for kind in kinds {
-        callers.push((*kind, made_conn(alloc, &[], &[], &[])?))?;
-    }
-    Ok(())
-}
-
-fn set_fails(alloc: Global, host: &mut MemHost<Seen>, row: &Row) -> Result<(), Memory> {
-    let accepts = row.accept_fails.to_vec(alloc)?;
-    let prints = row.print_fails.to_vec(alloc)?;
-    let tells = row.tell_fails.to_vec(alloc)?;
+fn failing(rt: &impl Abort, alloc: Global, row: &Row) -> MemHost<Seen> {
+    let accepts = row.accept_fails.to_vec(alloc).expect(rt, "memory");
+    let prints = row.print_fails.to_vec(alloc).expect(rt, "memory");
+    let tells = row.tell_fails.to_vec(alloc).expect(rt, "memory");
+    let mut host = made(rt, alloc, row.callers, &[], false);
     host.fail_at(accepts, prints, tells);
-    Ok(())
+    host
 }
 
 /// What an accept answered.
@@ -182,16 +163,16 @@ fn keeps(host: &MemHost<Seen>, row: &Row) -> bool {
         && host.tell_faults() == row.faults.2
 }
 
-fn holds<R: Wait>(rt: &R, alloc: Global, row: &Row) -> Result<bool, Memory> {
-    let mut host = made(alloc, row)?;
-    Ok(all_answer(rt, &mut host, row.calls) && keeps(&host, row))
+fn holds<R: Abort + Wait>(rt: &R, alloc: Global, row: &Row) -> bool {
+    let mut host = failing(rt, alloc, row);
+    let all = all_answer(rt, &mut host, row.calls) && keeps(&host, row);
+    let_go(host);
+    all
 }
 
 #[test]
-fn rows(rt: HostRuntime) -> Result<(), Fail> {
+fn rows(rt: HostRuntime) {
     for row in &ROWS {
-        let holds = holds(&rt, rt.alloc(), row)?;
-        assert!(rt; holds, "{}", row.name);
+        check(&rt, holds(&rt, rt.alloc(), row), row.name);
     }
-    Ok(())
 }

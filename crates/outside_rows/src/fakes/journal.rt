@@ -1,11 +1,12 @@
 ghost use Rattle.std.specs.Prelude.{◌≡◌, false};
 
+use crate::check;
 use nsq_base::Memory;
 use nsq_fakes::MemJournal;
 use nsq_outside::{End, Journal, Twin};
 use nsq_system::Forgetful;
 use std::alloc::Global;
-use std::test::Fail;
+use std::process::Abort;
 
 /// An entry.
 #[derive(Drop)]
@@ -32,13 +33,12 @@ static ROWS: [Row; 1] = [Row {
 }];
 
 /// Announces an entry, and notes it with this end.
-fn add<J: Journal<Seen>>(journal: &mut J, entry: &Seen, end: End) -> Result<(), Memory>
+fn add<J: Journal<Seen>>(rt: &impl Abort, journal: &mut J, entry: &Seen, end: End)
     requires { J.is_aside journal.old ≡ false }
     ensures { J.is_aside journal.new ≡ false }
 {
-    journal.ready(entry)?;
+    journal.ready(entry).expect(rt, "memory");
     journal.note(end);
-    Ok(())
 }
 
 /// Whether these entries stand in a journal, in this order.
@@ -47,30 +47,30 @@ pub fn keeps(journal: &MemJournal<Seen>, kept: &[(u64, End)]) -> bool {
     if entries.len() != kept.len() {
         return false;
     }
-    for (i, want) in kept.iter().enumerate() {
-        if i >= entries.len() || entries[i].0.0 != want.0 || entries[i].1 != want.1 {
-            return false;
-        }
+    let mut all = true;
+    for i in 0..kept.len() {
+        all = all && entries[i].0.0 == kept[i].0 && entries[i].1 == kept[i].1;
     }
-    true
+    all
 }
 
 /// The entries go into a journal that keeps them, and into one that forgets them.
-fn holds(alloc: Global, row: &Row) -> Result<bool, Memory> {
+fn holds(rt: &impl Abort, alloc: Global, row: &Row) -> bool {
     let mut journal = MemJournal::new(alloc);
     let mut forgetful = Forgetful::new(alloc);
     for (number, end) in row.noted {
-        add(&mut journal, &Seen(*number), *end)?;
-        add(&mut forgetful, &Seen(*number), *end)?;
+        add(rt, &mut journal, &Seen(*number), *end);
+        add(rt, &mut forgetful, &Seen(*number), *end);
     }
-    Ok(keeps(&journal, row.kept))
+    drop(forgetful);
+    let all = keeps(&journal, row.kept);
+    drop(journal);
+    all
 }
 
 #[test]
-fn rows(rt: HostRuntime) -> Result<(), Fail> {
+fn rows(rt: HostRuntime) {
     for row in &ROWS {
-        let holds = holds(rt.alloc(), row)?;
-        assert!(rt; holds, "{}", row.name);
+        check(&rt, holds(&rt, rt.alloc(), row), row.name);
     }
-    Ok(())
 }

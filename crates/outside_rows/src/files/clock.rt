@@ -1,11 +1,11 @@
+use crate::check;
 use nsq_outside::Clock;
 use nsq_system::SysClock;
-use std::alloc::AllocError;
 use std::cell::Cell;
 use std::io;
 use std::io::ErrorKind;
+use std::process::Abort;
 use std::rt::Clock as SystemClock;
-use std::test::Fail;
 use std::time::Duration;
 
 /// The start of 2020, in nanoseconds.
@@ -83,16 +83,16 @@ fn holds(row: &Row) -> bool {
 }
 
 /// Whether the system's own clock gives times of today.
-fn is_today(rt: &HostRuntime) -> Result<bool, AllocError> {
-    let mut clock = SysClock::new(rt.clone()?);
-    Ok(clock.now() > START_OF_2020 && clock.now() > START_OF_2020)
+fn is_today(own: HostRuntime) -> bool {
+    let mut clock = SysClock::new(own);
+    clock.now() > START_OF_2020 && clock.now() > START_OF_2020
 }
 
 #[test]
-fn rows(rt: HostRuntime) -> Result<(), Fail> {
+fn rows(rt: HostRuntime) {
     for row in &ROWS {
-        assert!(rt; holds(row), "{}", row.name);
+        check(&rt, holds(row), row.name);
     }
-    assert!(rt; is_today(&rt)?, "the system's own clock");
-    Ok(())
+    let own = rt.clone().expect(&rt, "memory");
+    check(&rt, is_today(own), "the system's own clock");
 }

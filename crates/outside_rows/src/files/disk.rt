@@ -1,3 +1,4 @@
+use crate::check;
 use crate::folder_steps::{Step, all_answer};
 use nsq_outside::{Did, Length, ReadAt};
 use nsq_system::DirFolder;
@@ -6,8 +7,8 @@ use std::cell::Cell;
 use std::fs::{File, Metadata, OpenFile, OpenOptions};
 use std::io::{ErrorKind, Read, Seek, SeekFrom, Write};
 use std::os::unix::fs::FileExt;
+use std::process::Abort;
 use std::rt::Files;
-use std::test::Fail;
 use std::{fs, io};
 
 /// What a disk is asked to do.
@@ -249,7 +250,7 @@ static ROWS_1: [Row; 4] = [
     },
 ];
 
-static ROWS_2: [Row; 4] = [
+static ROWS_2: [Row; 7] = [
     Row {
         name: "the folder can't be listed",
         fails_from: u64::MAX,
@@ -295,9 +296,6 @@ static ROWS_2: [Row; 4] = [
             Step::Len("b", Length::Absent),
         ],
     },
-];
-
-static ROWS_3: [Row; 3] = [
     Row {
         name: "nothing can be made durable",
         fails_from: u64::MAX,
@@ -341,40 +339,30 @@ fn rows_2() -> &'static [Row] {
     &ROWS_2
 }
 
-fn rows_3() -> &'static [Row] {
-    &ROWS_3
-}
-
-fn rows_in_parts() -> [&'static [Row]; 3] {
-    [rows_1(), rows_2(), rows_3()]
-}
-
 /// Whether a folder of such a disk answers all calls of a row.
-fn all_go(rt: &HostRuntime, row: &Row) -> Result<bool, Fail> {
+fn all_go(rt: &impl Abort, own: &HostRuntime, row: &Row) -> bool {
     let slow = Slow {
-        rt: rt.clone()?,
+        rt: own.clone().expect(rt, "memory"),
         fails_from: row.fails_from,
         broken: row.broken,
     };
-    let mut folder = DirFolder::new(slow, rt.alloc(), FOLDER)?;
-    Ok(all_answer(rt.alloc(), &mut folder, row.steps)?)
+    let mut folder = DirFolder::new(slow, own.alloc(), FOLDER).expect(rt, "memory");
+    all_answer(own.alloc(), &mut folder, row.steps)
 }
 
-fn holds(rt: &HostRuntime, row: &Row) -> Result<bool, Fail> {
-    let _ = fs::remove_dir_all(rt, FOLDER);
-    fs::create_dir(rt, FOLDER)?;
-    let all = all_go(rt, row)?;
-    fs::remove_dir_all(rt, FOLDER)?;
-    Ok(all)
+/// Whether an empty folder goes so.
+fn holds(rt: &impl Abort, own: &HostRuntime, row: &Row) -> bool {
+    let _ = fs::remove_dir_all(own, FOLDER);
+    let is_made = fs::create_dir(own, FOLDER).is_ok();
+    let all = is_made && all_go(rt, own, row);
+    fs::remove_dir_all(own, FOLDER).is_ok() && all
 }
 
 #[test]
-fn rows(rt: HostRuntime) -> Result<(), Fail> {
-    for part in &rows_in_parts() {
+fn rows(rt: HostRuntime) {
+    for part in &[rows_1(), rows_2()] {
         for row in *part {
-            let holds = holds(&rt, row)?;
-            assert!(rt; holds, "{}", row.name);
+            check(&rt, holds(&rt, &rt, row), row.name);
         }
     }
-    Ok(())
 }

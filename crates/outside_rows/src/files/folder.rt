@@ -1,11 +1,9 @@
 use crate::folder_steps::{BY_BEGINNING, Step, all_answer, answers};
-use crate::same;
+use crate::{check, same};
 use nsq_outside::{Did, Length, ReadAt};
 use nsq_system::DirFolder;
-use std::alloc::Global;
-use std::rt::Files;
-use std::test::Fail;
-use std::{fs, io};
+use std::fs;
+use std::process::Abort;
 
 /// A step of a row.
 #[derive(Clone, Copy)]
@@ -22,12 +20,8 @@ enum Do {
     Replace(&'static str, &'static [u8]),
     /// Another process finds these bytes in a file.
     Finds(&'static str, &'static [u8]),
-    /// The object goes to a path that leads through a file of the folder.
-    GoThrough(&'static str),
-    /// The object goes to the other folder.
-    GoToOther,
-    /// The object goes back to the folder.
-    GoBack,
+    /// The object goes to another path: the other folder, back to the folder, or through a file of it.
+    GoTo(&'static str),
 }
 
 struct Row {
@@ -45,28 +39,27 @@ const OTHER: &str = "outside_rows_other";
 /// Where another process writes a file first.
 const NEW: &str = "outside_rows_other/new";
 
-static ROWS_1: [Row; 1] = [Row {
-    name: "files of a folder",
-    steps: &[
-        Do::Call(Step::Len("a", Length::Absent)),
-        Do::Call(Step::WriteAt("a", 2, b"one", Did::Done)),
-        Do::Call(Step::Len("a", Length::Is(5))),
-        Do::Call(Step::ReadAt("a", 1, ReadAt::Got(4), b"\0one--")),
-        Do::Call(Step::WriteAt("a", 7, b"", Did::Done)),
-        Do::Call(Step::Len("a", Length::Is(7))),
-        Do::Call(Step::WriteAt("a", 6, b"", Did::Done)),
-        Do::Call(Step::Len("a", Length::Is(7))),
-        Do::Call(Step::WriteAt("empty", 0, b"", Did::Done)),
-        Do::Call(Step::Len("empty", Length::Is(0))),
-        Do::Call(Step::Cut("a", 3, Did::Done)),
-        Do::Call(Step::Sync("a", Did::Done)),
-        Do::Call(Step::Rename("a", "b", Did::Done)),
-        Do::Call(Step::ReadAt("a", 0, ReadAt::Got(0), b"------")),
-        Do::Call(Step::Len("b", Length::Is(3))),
-    ],
-}];
-
-static ROWS_2: [Row; 2] = [
+static ROWS_1: [Row; 3] = [
+    Row {
+        name: "files of a folder",
+        steps: &[
+            Do::Call(Step::Len("a", Length::Absent)),
+            Do::Call(Step::WriteAt("a", 2, b"one", Did::Done)),
+            Do::Call(Step::Len("a", Length::Is(5))),
+            Do::Call(Step::ReadAt("a", 1, ReadAt::Got(4), b"\0one--")),
+            Do::Call(Step::WriteAt("a", 7, b"", Did::Done)),
+            Do::Call(Step::Len("a", Length::Is(7))),
+            Do::Call(Step::WriteAt("a", 6, b"", Did::Done)),
+            Do::Call(Step::Len("a", Length::Is(7))),
+            Do::Call(Step::WriteAt("empty", 0, b"", Did::Done)),
+            Do::Call(Step::Len("empty", Length::Is(0))),
+            Do::Call(Step::Cut("a", 3, Did::Done)),
+            Do::Call(Step::Sync("a", Did::Done)),
+            Do::Call(Step::Rename("a", "b", Did::Done)),
+            Do::Call(Step::ReadAt("a", 0, ReadAt::Got(0), b"------")),
+            Do::Call(Step::Len("b", Length::Is(3))),
+        ],
+    },
     Row {
         name: "names of a folder",
         steps: &[
@@ -94,12 +87,12 @@ static ROWS_2: [Row; 2] = [
     },
 ];
 
-static ROWS_3: [Row; 1] = [Row {
+static ROWS_2: [Row; 1] = [Row {
     name: "listings by a beginning",
     steps: &[Do::Calls(BY_BEGINNING)],
 }];
 
-static ROWS_4: [Row; 3] = [
+static ROWS_3: [Row; 4] = [
     Row {
         name: "errors of a folder",
         steps: &[
@@ -134,9 +127,23 @@ static ROWS_4: [Row; 3] = [
             Do::Finds("outside_rows_folder/b", b"one!"),
         ],
     },
+    Row {
+        name: "another folder",
+        steps: &[
+            Do::Call(Step::WriteAt("a", 0, b"left", Did::Done)),
+            Do::Call(Step::ListBy("a", &["a"])),
+            Do::GoTo(OTHER),
+            Do::Call(Step::Len("a", Length::Absent)),
+            Do::Call(Step::ListBy("a", &[])),
+            Do::Call(Step::WriteAt("a", 0, b"here", Did::Done)),
+            Do::Call(Step::ReadAt("a", 0, ReadAt::Got(4), b"here")),
+            Do::GoTo(FOLDER),
+            Do::Call(Step::ReadAt("a", 0, ReadAt::Got(4), b"left")),
+        ],
+    },
 ];
 
-static ROWS_5: [Row; 3] = [
+static ROWS_4: [Row; 3] = [
     Row {
         name: "a file that was removed is made anew",
         steps: &[
@@ -160,7 +167,7 @@ static ROWS_5: [Row; 3] = [
         name: "a path through a file",
         steps: &[
             Do::Call(Step::WriteAt("a", 0, b"one", Did::Done)),
-            Do::GoThrough("outside_rows_folder/a"),
+            Do::GoTo("outside_rows_folder/a"),
             Do::Call(Step::Len("x", Length::Failed)),
             Do::Call(Step::ReadFails("x", 0)),
             Do::Call(Step::WriteAt("x", 0, b"y", Did::Failed)),
@@ -173,21 +180,6 @@ static ROWS_5: [Row; 3] = [
         ],
     },
 ];
-
-static ROWS_6: [Row; 1] = [Row {
-    name: "another folder",
-    steps: &[
-        Do::Call(Step::WriteAt("a", 0, b"left", Did::Done)),
-        Do::Call(Step::ListBy("a", &["a"])),
-        Do::GoToOther,
-        Do::Call(Step::Len("a", Length::Absent)),
-        Do::Call(Step::ListBy("a", &[])),
-        Do::Call(Step::WriteAt("a", 0, b"here", Did::Done)),
-        Do::Call(Step::ReadAt("a", 0, ReadAt::Got(4), b"here")),
-        Do::GoBack,
-        Do::Call(Step::ReadAt("a", 0, ReadAt::Got(4), b"left")),
-    ],
-}];
 
 fn rows_1() -> &'static [Row] {
     &ROWS_1
@@ -205,89 +197,77 @@ fn rows_4() -> &'static [Row] {
     &ROWS_4
 }
 
-fn rows_5() -> &'static [Row] {
-    &ROWS_5
-}
-
-fn rows_6() -> &'static [Row] {
-    &ROWS_6
-}
-
-fn rows_in_parts() -> [&'static [Row]; 6] {
-    [rows_1(), rows_2(), rows_3(), rows_4(), rows_5(), rows_6()]
-}
-
 /// Makes the folders anew, which are empty then.
-fn make_folders<R: Files + AllocGlobal>(rt: &R) -> io::Result<()> {
-    remove_folders(rt);
-    fs::create_dir(rt, FOLDER)?;
-    fs::create_dir(rt, OTHER)
+fn make_folders(rt: &impl Abort, own: &HostRuntime) {
+    remove_folders(own);
+    fs::create_dir(own, FOLDER).expect(rt, "a folder");
+    fs::create_dir(own, OTHER).expect(rt, "a folder");
 }
 
 /// Removes the folders, where they are there.
-fn remove_folders<R: Files + AllocGlobal>(rt: &R) {
-    let _ = fs::remove_dir_all(rt, FOLDER);
-    let _ = fs::remove_dir_all(rt, OTHER);
+fn remove_folders(own: &HostRuntime) {
+    let _ = fs::remove_dir_all(own, FOLDER);
+    let _ = fs::remove_dir_all(own, OTHER);
+}
+
+/// Whether a file of the folder can be given these bytes, as a new file in the place of the old one.
+fn replaces(own: &HostRuntime, path: &str, bytes: &[u8]) -> bool {
+    fs::write(own, NEW, bytes).is_ok() && fs::rename(own, NEW, path).is_ok()
+}
+
+/// Whether a file has these bytes.
+fn finds(own: &HostRuntime, path: &str, bytes: &[u8]) -> bool {
+    match fs::read(own, path) {
+        Ok(found) => same(&found, bytes),
+        Err(_) => false,
+    }
 }
 
 /// Whether a step goes so.
-fn goes(
-    rt: &HostRuntime,
-    alloc: Global,
-    folder: &mut DirFolder<HostRuntime>,
-    step: Do,
-) -> Result<bool, Fail> {
+fn goes(own: &HostRuntime, folder: &mut DirFolder<HostRuntime>, step: Do) -> bool {
     match step {
-        Do::Call(call) => Ok(answers(alloc, folder, call)?),
-        Do::Calls(calls) => Ok(all_answer(alloc, folder, calls)?),
-        Do::MakeSub => {
-            fs::create_dir(rt, SUB)?;
-            Ok(true)
-        }
-        Do::RemoveAll => {
-            fs::remove_dir_all(rt, FOLDER)?;
-            Ok(true)
-        }
-        Do::Replace(path, bytes) => {
-            fs::write(rt, NEW, bytes)?;
-            fs::rename(rt, NEW, path)?;
-            Ok(true)
-        }
-        Do::Finds(path, bytes) => Ok(same(&fs::read(rt, path)?, bytes)),
-        Do::GoThrough(path) => Ok(folder.move_to(path).is_ok()),
-        Do::GoToOther => Ok(folder.move_to(OTHER).is_ok()),
-        Do::GoBack => Ok(folder.move_to(FOLDER).is_ok()),
+        Do::Call(call) => answers(own.alloc(), folder, call),
+        Do::Calls(calls) => all_answer(own.alloc(), folder, calls),
+        Do::GoTo(path) => folder.move_to(path).is_ok(),
+        _ => happens(own, step),
     }
 }
 
-/// Whether all these steps go so.
-fn all_go(
-    rt: &HostRuntime,
-    folder: &mut DirFolder<HostRuntime>,
-    steps: &[Do],
-) -> Result<bool, Fail> {
+/// Whether others can do or find this.
+fn happens(own: &HostRuntime, step: Do) -> bool {
+    match step {
+        Do::MakeSub => fs::create_dir(own, SUB).is_ok(),
+        Do::RemoveAll => fs::remove_dir_all(own, FOLDER).is_ok(),
+        Do::Replace(path, bytes) => replaces(own, path, bytes),
+        Do::Finds(path, bytes) => finds(own, path, bytes),
+        _ => false,
+    }
+}
+
+/// Whether the folder answers all steps so.
+fn all_go(own: &HostRuntime, folder: &mut DirFolder<HostRuntime>, steps: &[Do]) -> bool {
     for step in steps {
-        if !goes(rt, rt.alloc(), folder, *step)? {
-            return Ok(false);
+        if !goes(own, folder, *step) {
+            return false;
         }
     }
-    remove_folders(rt);
-    Ok(true)
+    true
 }
 
-fn holds(rt: &HostRuntime, row: &Row) -> Result<bool, Fail> {
-    make_folders(rt)?;
-    let mut folder = DirFolder::new(rt.clone()?, rt.alloc(), FOLDER)?;
-    all_go(rt, &mut folder, row.steps)
+fn holds(rt: &impl Abort, own: &HostRuntime, row: &Row) -> bool {
+    make_folders(rt, own);
+    let system = own.clone().expect(rt, "memory");
+    let mut folder = DirFolder::new(system, own.alloc(), FOLDER).expect(rt, "memory");
+    let all = all_go(own, &mut folder, row.steps);
+    remove_folders(own);
+    all
 }
 
 #[test]
-fn rows(rt: HostRuntime) -> Result<(), Fail> {
-    for part in &rows_in_parts() {
+fn rows(rt: HostRuntime) {
+    for part in &[rows_1(), rows_2(), rows_3(), rows_4()] {
         for row in *part {
-            let holds = holds(&rt, row)?;
-            assert!(rt; holds, "{}", row.name);
+            check(&rt, holds(&rt, &rt, row), row.name);
         }
     }
-    Ok(())
 }

@@ -1,6 +1,6 @@
+use crate::check;
 use nsq_system::{NoCaller, no_caller};
 use std::io::Error;
-use std::test::Fail;
 
 struct Row {
     name: &'static str,
@@ -113,10 +113,9 @@ static ROWS: [Row; 20] = [
 ];
 
 #[test]
-fn rows(rt: HostRuntime) -> Result<(), Fail> {
+fn rows(rt: HostRuntime) {
     for row in &ROWS {
         let means = no_caller(&Error::from_raw_os_error(row.code));
-        assert!(rt; means == row.means, "{}", row.name);
+        check(&rt, means == row.means, row.name);
     }
-    Ok(())
 }

@@ -1,12 +1,10 @@
+use super::text_of;
+use crate::check;
 use nsq_outside::{Accept, Dialer, Dialled, Kind, Read, Sink, Source, Write};
 use nsq_system::{Listeners, TcpConn, TcpDialer};
 use std::alloc::Global;
-use std::io;
-use std::io::ErrorKind;
-use std::net::{Net, TcpStream};
+use std::process::Abort;
 use std::sync::Wait;
-use std::test::Fail;
-use std::time::Clock;
 
 struct Row {
     name: &'static str,
@@ -32,20 +30,23 @@ static ROWS: [Row; 2] = [
 /// An address that asks for any port.
 const HERE: &str = "127.0.0.1:0";
 
-/// The caller, if there is one.
-fn caller(accept: Accept<TcpConn>) -> Option<(Kind, TcpConn)> {
+/// The kind of the caller, if there is one.
+fn kind_of(accept: Accept<TcpConn>) -> Option<Kind> {
     match accept {
-        Accept::Caller(kind, conn) => Some((kind, conn)),
+        Accept::Caller(kind, _conn) => Some(kind),
         Accept::Nothing | Accept::Halt | Accept::Failed => None,
     }
 }
 
-/// The connection, if there is one.
-fn linked(dialled: Dialled<TcpConn>) -> Option<TcpConn> {
-    match dialled {
-        Dialled::Linked(conn) => Some(conn),
-        Dialled::Failed => None,
-    }
+/// Listeners of both kinds.
+fn opened(rt: &impl Abort, own: &HostRuntime) -> Listeners<HostRuntime> {
+    let system = own.clone().expect(rt, "memory");
+    Listeners::open(system, own.alloc(), HERE, Some(HERE)).expect(rt, "listeners")
+}
+
+/// What dials them.
+fn dialer(rt: &impl Abort, own: &HostRuntime) -> TcpDialer<HostRuntime> {
+    TcpDialer::new(own.clone().expect(rt, "memory"), own.alloc())
 }
 
 /// Compiles only for a type whose values may move between threads.
@@ -64,88 +65,90 @@ fn speaks<R: Wait>(rt: &R, near: &mut TcpConn, far: &mut TcpConn, bytes: &[u8]) 
 }
 
 /// The address of the listener of a kind.
-fn address_of<R: Net + Clock>(
+fn address_of(
+    rt: &impl Abort,
     alloc: Global,
-    listeners: &Listeners<R>,
+    listeners: &Listeners<HostRuntime>,
     kind: Kind,
-) -> io::Result<String> {
+) -> String {
     let address = match kind {
-        Kind::Tcp => Some(listeners.tcp_address()?),
-        Kind::Http => listeners.http_address()?,
+        Kind::Tcp => listeners.tcp_address().expect(rt, "an address"),
+        Kind::Http => {
+            let address = listeners.http_address().expect(rt, "an address");
+            address.expect(rt, "a listener of HTTP")
+        }
     };
-    match address {
-        Some(address) => Ok(format!(in alloc; "{address}")?),
-        None => Err(ErrorKind::NotFound.into()),
+    text_of(rt, alloc, address)
+}
+
+/// A connection to the listener of a kind.
+fn linked<R: Abort + Wait>(
+    rt: &R,
+    alloc: Global,
+    listeners: &Listeners<HostRuntime>,
+    dialer: &mut TcpDialer<HostRuntime>,
+    kind: Kind,
+) -> TcpConn {
+    let address = address_of(rt, alloc, listeners, kind);
+    match dialer.dial(rt, address.as_str()) {
+        Dialled::Linked(conn) => conn,
+        Dialled::Failed => panic!(rt; "a connection"),
     }
 }
 
 /// Whether callers of both kinds that wait are given in turn: two of the TCP protocol who called first, and one of HTTP
 /// between them.
-fn take_turns<R: Wait + Clock + Clone + Drop + Send + Net<Stream = TcpStream>>(
-    rt: &R,
-    alloc: Global,
-) -> io::Result<bool> {
-    let mut listeners = Listeners::open(rt.clone()?, alloc, HERE, Some(HERE))?;
-    let tcp = address_of(alloc, &listeners, Kind::Tcp)?;
-    let http = address_of(alloc, &listeners, Kind::Http)?;
-    let mut dialer = TcpDialer::new(rt.clone()?, alloc);
-    let _first = linked(dialer.dial(rt, tcp.as_str()));
-    let _second = linked(dialer.dial(rt, tcp.as_str()));
-    let _third = linked(dialer.dial(rt, http.as_str()));
-    Ok(gives(&mut listeners, &[Kind::Tcp, Kind::Http, Kind::Tcp]))
+fn take_turns<R: Abort + Wait>(rt: &R, own: &HostRuntime) -> bool {
+    let alloc = own.alloc();
+    let mut listeners = opened(rt, own);
+    let mut dialer = dialer(rt, own);
+    let _first = linked(rt, alloc, &listeners, &mut dialer, Kind::Tcp);
+    let _second = linked(rt, alloc, &listeners, &mut dialer, Kind::Tcp);
+    let _third = linked(rt, alloc, &listeners, &mut dialer, Kind::Http);
+    gives(&mut listeners, &[Kind::Tcp, Kind::Http, Kind::Tcp])
 }
 
 /// Whether callers of these kinds are given, one after another.
-fn gives<R: Net + Clock>(listeners: &mut Listeners<R>, kinds: &[Kind]) -> bool {
+fn gives(listeners: &mut Listeners<HostRuntime>, kinds: &[Kind]) -> bool {
+    let mut all = true;
     for kind in kinds {
-        match caller(listeners.accept()) {
-            Some((given, _conn)) if given == *kind => {}
-            _ => return false,
-        }
+        all = kind_of(listeners.accept()) == Some(*kind) && all;
     }
-    true
+    all
 }
 
 /// Whether a caller of this kind is given, whose bytes come.
-fn hears<R: Wait + Net<Stream = TcpStream> + Clock>(
+fn hears<R: Wait>(
     rt: &R,
-    listeners: &mut Listeners<R>,
+    listeners: &mut Listeners<HostRuntime>,
     near: &mut TcpConn,
     row: &Row,
 ) -> bool {
-    match caller(listeners.accept()) {
-        Some((kind, mut far)) => kind == row.kind && speaks(rt, near, &mut far, row.sends),
-        None => false,
+    match listeners.accept() {
+        Accept::Caller(kind, mut far) => kind == row.kind && speaks(rt, near, &mut far, row.sends),
+        Accept::Nothing | Accept::Halt | Accept::Failed => false,
     }
 }
 
 /// Whether nobody calls, and then one of this kind, whose bytes come.
-fn holds<R: Wait + Clock + Clone + Drop + Send + Net<Stream = TcpStream>>(
-    rt: &R,
-    alloc: Global,
-    row: &Row,
-) -> io::Result<bool> {
-    let mut listeners = Listeners::open(rt.clone()?, alloc, HERE, Some(HERE))?;
-    if caller(listeners.accept()).is_some() || listeners.faults() != 0 {
-        return Ok(false);
-    }
-    let address = address_of(alloc, &listeners, row.kind)?;
-    let mut dialer = TcpDialer::new(rt.clone()?, alloc);
+fn holds<R: Abort + Wait>(rt: &R, own: &HostRuntime, row: &Row) -> bool {
+    let mut listeners = opened(rt, own);
+    let mut dialer = dialer(rt, own);
     may_move(&listeners);
     may_move(&dialer);
-    let Some(mut near) = linked(dialer.dial(rt, address.as_str())) else {
-        return Ok(false);
-    };
-    Ok(hears(rt, &mut listeners, &mut near, row))
+    let nobody = kind_of(listeners.accept()).is_none() && listeners.faults() == 0;
+    let mut near = linked(rt, own.alloc(), &listeners, &mut dialer, row.kind);
+    nobody && hears(rt, &mut listeners, &mut near, row)
 }
 
 #[test]
-fn rows(rt: HostRuntime) -> Result<(), Fail> {
+fn rows(rt: HostRuntime) {
     for row in &ROWS {
-        let holds = holds(&rt, rt.alloc(), row)?;
-        assert!(rt; holds, "{}", row.name);
+        check(&rt, holds(&rt, &rt, row), row.name);
     }
-    let turns = take_turns(&rt, rt.alloc())?;
-    assert!(rt; turns, "callers of both kinds take turns");
-    Ok(())
+    check(
+        &rt,
+        take_turns(&rt, &rt),
+        "callers of both kinds take turns",
+    );
 }

@@ -2,15 +2,14 @@ ghost use Rattle.std.specs.Prelude.{◌<◌};
 ghost use Rattle.nsq_outside.specs.Streams.{IsAmountRead};
 
 use super::made_pair;
-use crate::same;
+use crate::{check, same};
 use nsq_outside::{Kind, Read, Sink, Source, Write};
 use nsq_system::{Talker, TcpConn, hear_out};
 use std::alloc::Global;
-use std::io;
 use std::io::{Read as _, Write as _};
-use std::net::{Net, Shutdown, TcpListener, TcpStream};
+use std::net::{Shutdown, TcpStream};
+use std::process::Abort;
 use std::sync::Wait;
-use std::test::Fail;
 use std::thread::{Threads, join};
 use std::time::Duration;
 
@@ -174,34 +173,32 @@ fn answers_and_closes<R: Wait>(rt: &R, mut conn: TcpConn) -> bool {
 }
 
 /// Whether the peer gets the answer and the end behind it, and no reset.
-fn gets_all(peer: &mut TcpStream) -> io::Result<bool> {
+fn gets_all(rt: &impl Abort, peer: &mut TcpStream) -> bool {
     let mut came = [0u8; 9];
-    peer.read_exact(&mut came)?;
-    let answered = same(&came, ANSWER) && peer.read(&mut came)? == 0;
-    Ok(answered && peer.take_error()?.is_none())
+    peer.read_exact(&mut came).expect(rt, "the answer");
+    let answered = same(&came, ANSWER) && peer.read(&mut came).expect(rt, "the end") == 0;
+    answered && peer.take_error().expect(rt, "what went wrong").is_none()
 }
 
 /// The peer sends what it has to, and its reads wait at most a second. How much the system took.
-fn sends(alloc: Global, peer: &mut TcpStream, row: &Closing) -> io::Result<usize> {
-    peer.set_nonblocking(true)?;
-    let sent = peer.write(&vec![in alloc; 7; row.sends]?)?;
-    peer.set_nonblocking(false)?;
-    peer.set_read_timeout(Some(Duration::from_secs(1)))?;
+fn sends(rt: &impl Abort, alloc: Global, peer: &mut TcpStream, row: &Closing) -> usize {
+    peer.set_nonblocking(true).expect(rt, "a socket");
+    let bytes = vec![in alloc; 7; row.sends].expect(rt, "memory");
+    let sent = peer.write(&bytes).expect(rt, "a socket");
+    peer.set_nonblocking(false).expect(rt, "a socket");
+    peer.set_read_timeout(Some(Duration::from_secs(1)))
+        .expect(rt, "a socket");
     if row.stops {
-        peer.shutdown(Shutdown::Write)?;
+        peer.shutdown(Shutdown::Write).expect(rt, "a socket");
     }
-    Ok(sent)
+    sent
 }
 
-fn closing_holds<R: Wait + Net<Listener = TcpListener, Stream = TcpStream>>(
-    rt: &R,
-    alloc: Global,
-    row: &Closing,
-) -> io::Result<bool> {
-    let (conn, mut peer) = made_pair(rt, alloc, row.kind)?;
-    let sent = sends(alloc, &mut peer, row)?;
+fn closing_holds<R: Abort + Wait>(rt: &R, own: &HostRuntime, row: &Closing) -> bool {
+    let (conn, mut peer) = made_pair(rt, own, row.kind);
+    let sent = sends(rt, own.alloc(), &mut peer, row);
     let all = answers_and_closes(rt, conn);
-    Ok(10 < sent && all && gets_all(&mut peer)?)
+    10 < sent && all && gets_all(rt, &mut peer)
 }
 
 /// A connection of `Kind::Http` that is dropped before the rest of its peer's request is there.
@@ -223,43 +220,40 @@ static LATES: [Late; 2] = [
 ];
 
 /// The peer's side: ten bytes, and once the answer is there the body and the end. Whether it gets the answer and no reset.
-fn sends_late(mut peer: TcpStream, body: &[u8]) -> io::Result<bool> {
-    peer.set_read_timeout(Some(Duration::from_secs(5)))?;
-    peer.write_all(b"ten bytes.")?;
-    let seen = peer.peek(&mut [0u8; 1])?;
-    peer.write_all(body)?;
-    peer.shutdown(Shutdown::Write)?;
-    Ok(seen == 1 && gets_all(&mut peer)?)
+fn sends_late(rt: &impl Abort, mut peer: TcpStream, body: &[u8]) -> bool {
+    peer.set_read_timeout(Some(Duration::from_secs(5)))
+        .expect(rt, "a socket");
+    peer.write_all(b"ten bytes.").expect(rt, "a socket");
+    let seen = peer.peek(&mut [0u8; 1]).expect(rt, "the answer");
+    peer.write_all(body).expect(rt, "a socket");
+    peer.shutdown(Shutdown::Write).expect(rt, "a socket");
+    seen == 1 && gets_all(rt, &mut peer)
 }
 
-fn late_holds<R: Wait + Threads + Sync>(rt: &R, own: &HostRuntime, row: &Late) -> io::Result<bool> {
-    let alloc = own.alloc();
-    let body = vec![in alloc; 7; row.sends]?;
-    let (conn, peer) = made_pair(own, alloc, Kind::Http)?;
+fn late_holds<R: Abort + Wait + Threads + Sync>(rt: &R, own: &HostRuntime, row: &Late) -> bool {
+    let body = vec![in own.alloc(); 7; row.sends].expect(rt, "memory");
+    let (conn, peer) = made_pair(rt, own, Kind::Http);
     let (heard, answered) = join(
         rt,
-        || sends_late(peer, &body),
+        || sends_late(rt, peer, &body),
         || answers_and_closes(rt, conn),
     );
-    Ok(heard? && answered)
+    heard && answered
 }
 
 #[test]
-fn hearings(rt: HostRuntime) -> Result<(), Fail> {
+fn hearings(rt: HostRuntime) {
     for row in &HEARINGS {
-        assert!(rt; hearing_holds(row), "{}", row.name);
+        check(&rt, hearing_holds(row), row.name);
     }
-    Ok(())
 }
 
 #[test]
-fn closings(rt: HostRuntime) -> Result<(), Fail> {
+fn closings(rt: HostRuntime) {
     for row in &CLOSINGS {
-        let holds = closing_holds(&rt, rt.alloc(), row)?;
-        assert!(rt; holds, "{}", row.name);
+        check(&rt, closing_holds(&rt, &rt, row), row.name);
     }
     for row in &LATES {
-        assert!(rt; late_holds(&rt, &rt, row)?, "{}", row.name);
+        check(&rt, late_holds(&rt, &rt, row), row.name);
     }
-    Ok(())
 }

@@ -1,18 +1,22 @@
+use super::text_of;
+use crate::check;
 use nsq_outside::{Dialer, Dialled};
 use nsq_system::{TcpConn, TcpDialer};
-use std::alloc::Global;
 use std::io;
+use std::io::ErrorKind;
 use std::net::{Net, SocketAddr, TcpListener, TcpStream};
+use std::process::Abort;
 use std::sync::Wait;
-use std::test::Fail;
+use std::time::Duration;
 
-/// The system's network, where no name server answers.
+/// The system's network, where a name server may be silent.
 #[derive(Drop)]
-struct Nameless<R> {
-    rt: R,
+struct Network {
+    rt: HostRuntime,
+    has_names: bool,
 }
 
-impl<R: Net<Listener = TcpListener, Stream = TcpStream>> Net for Nameless<R> {
+impl Net for Network {
     type Stream = TcpStream;
 
     type Listener = TcpListener;
@@ -23,6 +27,17 @@ impl<R: Net<Listener = TcpListener, Stream = TcpStream>> Net for Nameless<R> {
 
     fn connect(&self, address: SocketAddr) -> io::Result<TcpStream> {
         self.rt.connect(address)
+    }
+
+    fn connect_timeout(&self, address: SocketAddr, most: Duration) -> io::Result<TcpStream> {
+        self.rt.connect_timeout(address, most)
+    }
+
+    fn lookup_host(&self, host: &str, port: u16, found: &mut [SocketAddr]) -> io::Result<usize> {
+        if self.has_names {
+            return self.rt.lookup_host(host, port, found);
+        }
+        Err(ErrorKind::Unsupported.into())
     }
 }
 
@@ -69,57 +84,43 @@ fn is_failed(dialled: Dialled<TcpConn>) -> bool {
 }
 
 /// The address of a port where nobody listens any more.
-fn nobody<R: Net<Listener = TcpListener, Stream = TcpStream>>(
-    rt: &R,
-    alloc: Global,
-) -> io::Result<String> {
-    let listener = TcpListener::bind(rt, "127.0.0.1:0")?;
-    let address = listener.local_addr()?;
-    Ok(format!(in alloc; "{address}")?)
+fn nobody(rt: &impl Abort, own: &HostRuntime) -> String {
+    let listener = TcpListener::bind(own, "127.0.0.1:0").expect(rt, "a listener");
+    let address = listener.local_addr().expect(rt, "an address");
+    text_of(rt, own.alloc(), address)
 }
 
 /// Whether a dial fails.
-fn fails<
-    R: Wait + Net<Listener = TcpListener, Stream = TcpStream>,
-    N: Net<Stream = TcpStream> + Drop,
->(rt: &R, alloc: Global, dialer: &mut TcpDialer<N>, asked: Asked) -> io::Result<bool> {
+fn fails<R: Abort + Wait>(
+    rt: &R,
+    own: &HostRuntime,
+    dialer: &mut TcpDialer<Network>,
+    asked: Asked,
+) -> bool {
     let address = match asked {
-        Asked::Nobody => nobody(rt, alloc)?,
-        Asked::Address(text) => String::from_str(alloc, text)?,
+        Asked::Nobody => nobody(rt, own),
+        Asked::Address(text) => String::from_str(own.alloc(), text).expect(rt, "memory"),
     };
-    Ok(is_failed(dialer.dial(rt, address.as_str())))
+    is_failed(dialer.dial(rt, address.as_str()))
 }
 
 /// Whether each dial of a row fails and is counted.
-fn all_fail<
-    R: Wait + Net<Listener = TcpListener, Stream = TcpStream>,
-    N: Net<Stream = TcpStream> + Drop,
->(rt: &R, alloc: Global, mut dialer: TcpDialer<N>, row: &Row) -> io::Result<bool> {
+fn holds<R: Abort + Wait>(rt: &R, own: &HostRuntime, row: &Row) -> bool {
+    let network = Network {
+        rt: own.clone().expect(rt, "memory"),
+        has_names: row.has_names,
+    };
+    let mut dialer = TcpDialer::new(network, own.alloc());
+    let mut all = true;
     for asked in row.asked {
-        if !fails(rt, alloc, &mut dialer, *asked)? {
-            return Ok(false);
-        }
+        all = fails(rt, own, &mut dialer, *asked) && all;
     }
-    Ok(dialer.faults() == row.faults)
-}
-
-fn holds<R: Wait + Clone + Drop + Net<Listener = TcpListener, Stream = TcpStream>>(
-    rt: &R,
-    alloc: Global,
-    row: &Row,
-) -> io::Result<bool> {
-    if row.has_names {
-        return all_fail(rt, alloc, TcpDialer::new(rt.clone()?, alloc), row);
-    }
-    let nameless = Nameless { rt: rt.clone()? };
-    all_fail(rt, alloc, TcpDialer::new(nameless, alloc), row)
+    all && dialer.faults() == row.faults
 }
 
 #[test]
-fn rows(rt: HostRuntime) -> Result<(), Fail> {
+fn rows(rt: HostRuntime) {
     for row in &ROWS {
-        let holds = holds(&rt, rt.alloc(), row)?;
-        assert!(rt; holds, "{}", row.name);
+        check(&rt, holds(&rt, &rt, row), row.name);
     }
-    Ok(())
 }

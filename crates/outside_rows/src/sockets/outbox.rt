@@ -1,12 +1,12 @@
 ghost use Rattle.std.specs.Prelude.{◌≡◌};
 
-use crate::same;
+use crate::{check, same};
 use nsq_outside::{Did, Write};
 use nsq_system::Outbox;
 use std::alloc::Global;
 use std::io;
 use std::io::ErrorKind;
-use std::test::Fail;
+use std::process::Abort;
 
 /// What a writer answers.
 #[derive(Clone, Copy)]
@@ -186,7 +186,7 @@ static ROWS_1: [Row; 7] = [
     },
 ];
 
-static ROWS_2: [Row; 6] = [
+static ROWS_2: [Row; 7] = [
     Row {
         name: "a writer that takes no byte has failed",
         answers: &[Answer::Takes(0)],
@@ -239,19 +239,18 @@ static ROWS_2: [Row; 6] = [
             Call::Gather(b"more", Write::Failed),
         ],
     },
+    Row {
+        name: "what was stopped sends nothing any more",
+        answers: &[],
+        calls: &[
+            Call::Gather(b"lost", Write::Took(4)),
+            Call::Stop,
+            Call::Gather(b"more", Write::Failed),
+            Call::Flush(Did::Failed),
+            Call::Holds(b""),
+        ],
+    },
 ];
-
-static ROWS_3: [Row; 1] = [Row {
-    name: "what was stopped sends nothing any more",
-    answers: &[],
-    calls: &[
-        Call::Gather(b"lost", Write::Took(4)),
-        Call::Stop,
-        Call::Gather(b"more", Write::Failed),
-        Call::Flush(Did::Failed),
-        Call::Holds(b""),
-    ],
-}];
 
 fn rows_1() -> &'static [Row] {
     &ROWS_1
@@ -259,14 +258,6 @@ fn rows_1() -> &'static [Row] {
 
 fn rows_2() -> &'static [Row] {
     &ROWS_2
-}
-
-fn rows_3() -> &'static [Row] {
-    &ROWS_3
-}
-
-fn rows_in_parts() -> [&'static [Row]; 3] {
-    [rows_1(), rows_2(), rows_3()]
 }
 
 /// Whether a writer holds so many bytes of one value.
@@ -287,21 +278,24 @@ fn gathers(outbox: &mut Outbox<Scripted>, bytes: &[u8], answer: Write) -> bool {
 
 /// Whether so many bytes of one value are gathered so.
 fn gathers_many(
+    rt: &impl Abort,
     alloc: Global,
     outbox: &mut Outbox<Scripted>,
     byte: u8,
     count: usize,
     answer: Write,
-) -> Result<bool, Fail> {
-    let bytes = vec![in alloc; byte; count]?;
-    Ok(gathers(outbox, &bytes, answer))
+) -> bool {
+    let bytes = vec![in alloc; byte; count].expect(rt, "memory");
+    gathers(outbox, &bytes, answer)
 }
 
 /// Whether a call goes so.
-fn goes(alloc: Global, outbox: &mut Outbox<Scripted>, call: Call) -> Result<bool, Fail> {
-    Ok(match call {
+fn goes(rt: &impl Abort, alloc: Global, outbox: &mut Outbox<Scripted>, call: Call) -> bool {
+    match call {
         Call::Gather(bytes, answer) => gathers(outbox, bytes, answer),
-        Call::GatherMany(byte, count, answer) => gathers_many(alloc, outbox, byte, count, answer)?,
+        Call::GatherMany(byte, count, answer) => {
+            gathers_many(rt, alloc, outbox, byte, count, answer)
+        }
         Call::Through(bytes, answer) => !bytes.is_empty() && outbox.send_through(bytes) == answer,
         Call::Flush(did) => outbox.flush() == did,
         Call::Stop => {
@@ -311,36 +305,30 @@ fn goes(alloc: Global, outbox: &mut Outbox<Scripted>, call: Call) -> Result<bool
         Call::Holds(bytes) => same(&outbox.writer().held, bytes),
         Call::HoldsMany(byte, count) => holds_many(&outbox.writer().held, byte, count),
         Call::Faults(count) => outbox.faults() == count,
-    })
-}
-
-/// Whether all these calls go so.
-fn all_go(alloc: Global, outbox: &mut Outbox<Scripted>, calls: &[Call]) -> Result<bool, Fail> {
-    for call in calls {
-        if !goes(alloc, outbox, *call)? {
-            return Ok(false);
-        }
     }
-    Ok(true)
 }
 
-fn holds(alloc: Global, row: &Row) -> Result<bool, Fail> {
+/// Whether all calls of a row go so.
+fn holds(rt: &impl Abort, alloc: Global, row: &Row) -> bool {
     let writer = Scripted {
         held: Vec::new(alloc),
         answers: row.answers,
         at: 0,
     };
-    let mut outbox = Outbox::new(alloc, writer)?;
-    all_go(alloc, &mut outbox, row.calls)
+    let mut outbox = Outbox::new(alloc, writer).expect(rt, "memory");
+    for call in row.calls {
+        if !goes(rt, alloc, &mut outbox, *call) {
+            return false;
+        }
+    }
+    true
 }
 
 #[test]
-fn rows(rt: HostRuntime) -> Result<(), Fail> {
-    for part in &rows_in_parts() {
+fn rows(rt: HostRuntime) {
+    for part in &[rows_1(), rows_2()] {
         for row in *part {
-            let holds = holds(rt.alloc(), row)?;
-            assert!(rt; holds, "{}", row.name);
+            check(&rt, holds(&rt, rt.alloc(), row), row.name);
         }
     }
-    Ok(())
 }

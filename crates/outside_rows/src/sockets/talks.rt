@@ -1,14 +1,13 @@
 use super::made_pair;
-use crate::same;
+use crate::{check, same};
 use nsq_outside::{Did, Kind, Read, Sink, Source, Write};
 use nsq_system::TcpConn;
 use std::alloc::Global;
-use std::io;
 use std::io::{Read as _, Write as _};
-use std::net::{Net, Shutdown, TcpListener, TcpStream};
+use std::net::{Shutdown, TcpStream};
+use std::process::Abort;
 use std::sync::Wait;
-use std::test::Fail;
-use std::time::{Clock, Duration, Instant};
+use std::time::{Duration, Instant};
 
 /// A call on the connection, with what it answers.
 #[derive(Clone, Copy)]
@@ -167,7 +166,7 @@ static ROWS_1: [Row; 5] = [
     },
 ];
 
-static ROWS_2: [Row; 4] = [
+static ROWS_2: [Row; 7] = [
     Row {
         name: "more than is gathered goes out in order",
         kind: Kind::Tcp,
@@ -235,9 +234,6 @@ static ROWS_2: [Row; 4] = [
         least: 0,
         most: LONG,
     },
-];
-
-static ROWS_3: [Row; 3] = [
     Row {
         name: "a peer that closes with bytes that it didn't read resets the connection",
         kind: Kind::Tcp,
@@ -292,14 +288,6 @@ fn rows_2() -> &'static [Row] {
     &ROWS_2
 }
 
-fn rows_3() -> &'static [Row] {
-    &ROWS_3
-}
-
-fn rows_in_parts() -> [&'static [Row]; 3] {
-    [rows_1(), rows_2(), rows_3()]
-}
-
 /// A connection and its peer.
 #[derive(Drop)]
 struct Pair {
@@ -308,17 +296,14 @@ struct Pair {
 }
 
 /// A connection and its peer, whose reads wait at most a second.
-fn made<R: Net<Listener = TcpListener, Stream = TcpStream>>(
-    rt: &R,
-    alloc: Global,
-    kind: Kind,
-) -> io::Result<Pair> {
-    let (conn, peer) = made_pair(rt, alloc, kind)?;
-    peer.set_read_timeout(Some(Duration::from_secs(1)))?;
-    Ok(Pair {
+fn made(rt: &impl Abort, own: &HostRuntime, kind: Kind) -> Pair {
+    let (conn, peer) = made_pair(rt, own, kind);
+    peer.set_read_timeout(Some(Duration::from_secs(1)))
+        .expect(rt, "a socket");
+    Pair {
         conn: Some(conn),
         peer: Some(peer),
-    })
+    }
 }
 
 /// Whether a write of these bytes, of which there are some, answers so.
@@ -336,26 +321,26 @@ fn tries<R: Wait>(rt: &R, conn: &mut TcpConn, bytes: &[u8]) -> bool {
 }
 
 /// Whether a write of so many bytes of one value takes them all.
-fn fills<R: Wait>(
+fn fills<R: Abort + Wait>(
     rt: &R,
     alloc: Global,
     conn: &mut TcpConn,
     byte: u8,
     count: usize,
-) -> io::Result<bool> {
-    let bytes = vec![in alloc; byte; count]?;
-    Ok(writes(rt, conn, &bytes, Write::Took(count)))
+) -> bool {
+    let bytes = vec![in alloc; byte; count].expect(rt, "memory");
+    writes(rt, conn, &bytes, Write::Took(count))
 }
 
 /// Whether one of many writes of 32 KiB fails.
-fn overfills<R: Wait>(rt: &R, alloc: Global, conn: &mut TcpConn) -> io::Result<bool> {
-    let bytes = vec![in alloc; 7; 32_768]?;
+fn overfills<R: Abort + Wait>(rt: &R, alloc: Global, conn: &mut TcpConn) -> bool {
+    let bytes = vec![in alloc; 7; 32_768].expect(rt, "memory");
     for _ in 0..2_000 {
         if writes(rt, conn, &bytes, Write::Failed) {
-            return Ok(true);
+            return true;
         }
     }
-    Ok(false)
+    false
 }
 
 /// Whether 64 writes of 8 bytes take them all.
@@ -374,124 +359,112 @@ fn reads<R: Wait>(rt: &R, conn: &mut TcpConn, answer: Read, bytes: &[u8]) -> boo
 }
 
 /// Whether the connection answers a call so.
-fn answers<R: Wait>(rt: &R, alloc: Global, conn: &mut TcpConn, call: Call) -> io::Result<bool> {
-    Ok(match call {
+fn answers<R: Abort + Wait>(rt: &R, alloc: Global, conn: &mut TcpConn, call: Call) -> bool {
+    match call {
         Call::Write(bytes, answer) => writes(rt, conn, bytes, answer),
         Call::TryWrite(bytes) => tries(rt, conn, bytes),
-        Call::Fill(byte, count) => fills(rt, alloc, conn, byte, count)?,
-        Call::Overfill => overfills(rt, alloc, conn)?,
+        Call::Fill(byte, count) => fills(rt, alloc, conn, byte, count),
+        Call::Overfill => overfills(rt, alloc, conn),
         Call::Busy => is_busy(rt, conn),
         Call::Read(answer, bytes) => reads(rt, conn, answer, bytes),
         Call::Flush(did) => conn.flush() == did,
         Call::Faults(read, write) => conn.read_faults() == read && conn.write_faults() == write,
         Call::LostWrites => conn.read_faults() == 0 && conn.write_faults() > 0,
-    })
+    }
 }
 
 /// Whether these bytes come next.
-fn gets(alloc: Global, peer: &mut TcpStream, want: &[u8]) -> io::Result<bool> {
-    let mut came = vec![in alloc; 0; want.len()]?;
-    peer.read_exact(&mut came)?;
-    Ok(same(&came, want))
+fn gets(rt: &impl Abort, alloc: Global, peer: &mut TcpStream, want: &[u8]) -> bool {
+    let mut came = vec![in alloc; 0; want.len()].expect(rt, "memory");
+    peer.read_exact(&mut came).expect(rt, "bytes");
+    same(&came, want)
+}
+
+/// Whether so many bytes of one value come next.
+fn gets_fill(rt: &impl Abort, alloc: Global, peer: &mut TcpStream, byte: u8, count: usize) -> bool {
+    let want = vec![in alloc; byte; count].expect(rt, "memory");
+    gets(rt, alloc, peer, &want)
 }
 
 /// Whether nothing has come so far.
-fn gets_nothing(peer: &mut TcpStream) -> io::Result<bool> {
-    peer.set_nonblocking(true)?;
+fn gets_nothing(rt: &impl Abort, peer: &mut TcpStream) -> bool {
+    peer.set_nonblocking(true).expect(rt, "a socket");
     let nothing = peer.read(&mut [0u8; 8]).is_err();
-    peer.set_nonblocking(false)?;
-    Ok(nothing)
+    peer.set_nonblocking(false).expect(rt, "a socket");
+    nothing
 }
 
 /// Whether the peer can do or finds this.
-fn finds(alloc: Global, peer: &mut TcpStream, act: Act) -> io::Result<bool> {
+fn finds(rt: &impl Abort, alloc: Global, peer: &mut TcpStream, act: Act) -> bool {
     match act {
-        Act::Sends(bytes) => {
-            peer.write_all(bytes)?;
-            Ok(true)
-        }
-        Act::Gets(bytes) => gets(alloc, peer, bytes),
-        Act::GetsFill(byte, count) => {
-            let want = vec![in alloc; byte; count]?;
-            gets(alloc, peer, &want)
-        }
-        Act::GetsNothing => gets_nothing(peer),
-        Act::GetsEnd => Ok(peer.read(&mut [0u8; 8])? == 0),
-        Act::Stops => {
-            peer.shutdown(Shutdown::Write)?;
-            Ok(true)
-        }
+        Act::Sends(bytes) => peer.write_all(bytes).is_ok(),
+        Act::Gets(bytes) => gets(rt, alloc, peer, bytes),
+        Act::GetsFill(byte, count) => gets_fill(rt, alloc, peer, byte, count),
+        Act::GetsNothing => gets_nothing(rt, peer),
+        Act::GetsEnd => peer.read(&mut [0u8; 8]).expect(rt, "the end") == 0,
+        Act::Stops => peer.shutdown(Shutdown::Write).is_ok(),
     }
 }
 
 /// Whether a step goes so. Who is gone takes no step.
-fn goes<R: Wait>(rt: &R, alloc: Global, pair: &mut Pair, step: Step) -> io::Result<bool> {
+fn goes<R: Abort + Wait>(rt: &R, alloc: Global, pair: &mut Pair, step: Step) -> bool {
     match step {
         Step::Conn(call) => match &mut pair.conn {
             Some(conn) => answers(rt, alloc, conn, call),
-            None => Ok(false),
+            None => false,
         },
         Step::Peer(act) => match &mut pair.peer {
-            Some(peer) => finds(alloc, peer, act),
-            None => Ok(false),
+            Some(peer) => finds(rt, alloc, peer, act),
+            None => false,
         },
         Step::Drop => {
             pair.conn = None;
-            Ok(true)
+            true
         }
         Step::Leave => {
             pair.peer = None;
-            Ok(true)
+            true
         }
     }
 }
 
 /// Whether all these steps go so.
-fn all_go<R: Wait>(rt: &R, alloc: Global, pair: &mut Pair, steps: &[Step]) -> io::Result<bool> {
+fn all_go<R: Abort + Wait>(rt: &R, alloc: Global, pair: &mut Pair, steps: &[Step]) -> bool {
     for step in steps {
-        if !goes(rt, alloc, pair, *step)? {
-            return Ok(false);
+        if !goes(rt, alloc, pair, *step) {
+            return false;
         }
     }
-    Ok(true)
+    true
 }
 
 /// Whether the steps of a row go so, with their rounds.
-fn talk_goes<R: Wait>(rt: &R, alloc: Global, pair: &mut Pair, row: &Row) -> io::Result<bool> {
-    let mut all = all_go(rt, alloc, pair, row.steps)?;
+fn talk_goes<R: Abort + Wait>(rt: &R, alloc: Global, pair: &mut Pair, row: &Row) -> bool {
+    let mut all = all_go(rt, alloc, pair, row.steps);
     for _ in 0..row.rounds {
-        all = all_go(rt, alloc, pair, row.round)? && all;
+        all = all_go(rt, alloc, pair, row.round) && all;
     }
-    Ok(all_go(rt, alloc, pair, row.last)? && all)
+    all_go(rt, alloc, pair, row.last) && all
 }
 
-fn talk_holds<R: Wait + Net<Listener = TcpListener, Stream = TcpStream>>(
-    rt: &R,
-    alloc: Global,
-    row: &Row,
-) -> io::Result<bool> {
-    let mut pair = made(rt, alloc, row.kind)?;
-    talk_goes(rt, alloc, &mut pair, row)
+fn talk_holds<R: Abort + Wait>(rt: &R, own: &HostRuntime, row: &Row) -> bool {
+    let mut pair = made(rt, own, row.kind);
+    talk_goes(rt, own.alloc(), &mut pair, row)
 }
 
-fn holds<R: Wait + Clock + Net<Listener = TcpListener, Stream = TcpStream>>(
-    rt: &R,
-    alloc: Global,
-    row: &Row,
-) -> io::Result<bool> {
-    let start = Instant::now(rt)?;
-    let all = talk_holds(rt, alloc, row)?;
-    let waited = start.elapsed(rt)?.as_millis();
-    Ok(all && row.least <= waited && waited < row.most)
+/// Whether a talk goes so, and takes as long as its row says.
+fn holds<R: Abort + Wait>(rt: &R, own: &HostRuntime, row: &Row) -> bool {
+    let start = Instant::now(own).expect(rt, "a clock");
+    let all = talk_holds(rt, own, row);
+    let waited = start.elapsed(own).expect(rt, "a clock").as_millis();
+    all && row.least <= waited && waited < row.most
 }
 
 #[test]
-fn rows(rt: HostRuntime) -> Result<(), Fail> {
-    for part in &rows_in_parts() {
+fn rows(rt: HostRuntime) {
+    for part in &[rows_1(), rows_2()] {
         for row in *part {
-            let holds = holds(&rt, rt.alloc(), row)?;
-            assert!(rt; holds, "{}", row.name);
+            check(&rt, holds(&rt, &rt, row), row.name);
         }
     }
-    Ok(())
 }

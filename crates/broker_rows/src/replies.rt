@@ -1,55 +1,15 @@
 //! The order of refusals: each refusal with all earlier ones absent, and with the next one present too.
+//!
+//! A row is a text: its name, the phase of a client, whether the message that it names is in flight with it, how many ids were used, what it
+//! sends, and behind `=>` what it is answered.
 
+use crate::commands::{command_of, kind_of};
+use crate::made::{copy, cut, halves, part, same, used_of};
 use broker_plain::{Phase, reply};
-use nsq_base::{Bodies, Body, Chan, Memory, MsgId, Options, Topic};
+use nsq_base::Options;
 use std::alloc::Global;
-use v2_frame::{Command, Frame, FrameKind};
-
-/// What a client sends.
-#[derive(Clone, Copy)]
-enum Sends {
-    Identify(&'static [u8]),
-    Sub,
-    Pub,
-    Mpub(usize),
-    Dpub(i64),
-    Rdy(i64),
-    Fin,
-    Req(i64),
-    Touch,
-    Cls,
-    Nop,
-}
-
-/// What it is answered.
-#[derive(Clone, Copy)]
-enum Gets {
-    Nothing,
-    Response(&'static [u8]),
-    Error(&'static [u8]),
-}
-
-#[derive(Clone, Copy)]
-struct Row {
-    name: &'static str,
-    phase: Phase,
-    used: u64,
-    flies: bool,
-    sends: Sends,
-    gets: Gets,
-}
-
-const WRONG: Gets = Gets::Error(b"E_INVALID not in this state");
-
-const OK: Gets = Gets::Response(b"OK");
-
-const BAD_JSON: Gets = Gets::Error(b"E_BAD_BODY bad JSON");
-
-const BAD_DELAY: Gets = Gets::Error(b"E_INVALID bad delay");
-
-const BAD_COUNT: Gets = Gets::Error(b"E_INVALID bad count");
-
-const ALL_IDS: u64 = 1 << 40;
+use std::process::Abort;
+use v2_frame::{Command, Frame};
 
 // Bodies that IDENTIFY refuses.
 static BAD_BODIES: [&'static str; 28] = [
@@ -102,581 +62,194 @@ static GOOD_BODIES: [&'static str; 15] = [
     r#"{"sample_rate":100,"sample_rate":5}"#,
 ];
 
-static PUBLISHES: [Row; 21] = [
-    Row {
-        name: "IDENTIFY of a subscribed client",
-        phase: Phase::Subscribed,
-        used: 0,
-        flies: false,
-        sends: Sends::Identify(br#"{}"#),
-        gets: WRONG,
-    },
-    Row {
-        name: "IDENTIFY of a closing client",
-        phase: Phase::Closing,
-        used: 0,
-        flies: false,
-        sends: Sends::Identify(br#"{}"#),
-        gets: WRONG,
-    },
-    Row {
-        name: "IDENTIFY of a subscribed client, in bad JSON",
-        phase: Phase::Subscribed,
-        used: 0,
-        flies: false,
-        sends: Sends::Identify(br#"[]"#),
-        gets: WRONG,
-    },
-    Row {
-        name: "IDENTIFY that isn't UTF-8",
-        phase: Phase::Fresh,
-        used: 0,
-        flies: false,
-        sends: Sends::Identify(b"{\"client_id\":\"\xff\"}"),
-        gets: BAD_JSON,
-    },
-    Row {
-        name: "IDENTIFY with 'output_buffer_size':-1,'output_buffer_timeout':18446744073709551615,'deflate_level':6",
-        phase: Phase::Fresh,
-        used: 0,
-        flies: false,
-        sends: Sends::Identify(
-            br#"{"output_buffer_size":-1,"output_buffer_timeout":18446744073709551615,"deflate_level":6}"#,
-        ),
-        gets: OK,
-    },
-    Row {
-        name: "IDENTIFY that negotiates",
-        phase: Phase::Fresh,
-        used: 0,
-        flies: false,
-        sends: Sends::Identify(br#"{"feature_negotiation":true}"#),
-        gets: Gets::Response(
-            br#"{"auth_required":false,"deflate":false,"deflate_level":0,"max_deflate_level":0,"max_msg_timeout":900000,"max_rdy_count":2500,"msg_timeout":60000,"sample_rate":0,"snappy":false,"tls_v1":false,"version":"1.0.0"}"#,
-        ),
-    },
-    Row {
-        name: "IDENTIFY that negotiates, with a time for messages",
-        phase: Phase::Fresh,
-        used: 0,
-        flies: false,
-        sends: Sends::Identify(br#"{"feature_negotiation":true,"msg_timeout":1500}"#),
-        gets: Gets::Response(
-            br#"{"auth_required":false,"deflate":false,"deflate_level":0,"max_deflate_level":0,"max_msg_timeout":900000,"max_rdy_count":2500,"msg_timeout":1500,"sample_rate":0,"snappy":false,"tls_v1":false,"version":"1.0.0"}"#,
-        ),
-    },
-    Row {
-        name: "SUB of a fresh client",
-        phase: Phase::Fresh,
-        used: 0,
-        flies: false,
-        sends: Sends::Sub,
-        gets: OK,
-    },
-    Row {
-        name: "SUB of a subscribed client",
-        phase: Phase::Subscribed,
-        used: 0,
-        flies: false,
-        sends: Sends::Sub,
-        gets: WRONG,
-    },
-    Row {
-        name: "SUB of a closing client",
-        phase: Phase::Closing,
-        used: 0,
-        flies: false,
-        sends: Sends::Sub,
-        gets: WRONG,
-    },
-    Row {
-        name: "PUB of a fresh client",
-        phase: Phase::Fresh,
-        used: ALL_IDS - 1,
-        flies: false,
-        sends: Sends::Pub,
-        gets: OK,
-    },
-    Row {
-        name: "PUB of a subscribed client",
-        phase: Phase::Subscribed,
-        used: ALL_IDS - 1,
-        flies: false,
-        sends: Sends::Pub,
-        gets: OK,
-    },
-    Row {
-        name: "PUB of a closing client",
-        phase: Phase::Closing,
-        used: ALL_IDS - 1,
-        flies: false,
-        sends: Sends::Pub,
-        gets: OK,
-    },
-    Row {
-        name: "PUB without an id",
-        phase: Phase::Fresh,
-        used: ALL_IDS,
-        flies: false,
-        sends: Sends::Pub,
-        gets: Gets::Error(b"E_PUB_FAILED ids spent"),
-    },
-    Row {
-        name: "MPUB with ids for all",
-        phase: Phase::Fresh,
-        used: ALL_IDS - 3,
-        flies: false,
-        sends: Sends::Mpub(3),
-        gets: OK,
-    },
-    Row {
-        name: "MPUB with ids for all but one",
-        phase: Phase::Fresh,
-        used: ALL_IDS - 2,
-        flies: false,
-        sends: Sends::Mpub(3),
-        gets: Gets::Error(b"E_MPUB_FAILED ids spent"),
-    },
-    Row {
-        name: "DPUB below 0",
-        phase: Phase::Fresh,
-        used: 0,
-        flies: false,
-        sends: Sends::Dpub(-1),
-        gets: BAD_DELAY,
-    },
-    Row {
-        name: "DPUB above the longest delay",
-        phase: Phase::Fresh,
-        used: 0,
-        flies: false,
-        sends: Sends::Dpub(3_600_001),
-        gets: BAD_DELAY,
-    },
-    Row {
-        name: "DPUB above the longest delay, without an id",
-        phase: Phase::Fresh,
-        used: ALL_IDS,
-        flies: false,
-        sends: Sends::Dpub(3_600_001),
-        gets: BAD_DELAY,
-    },
-    Row {
-        name: "DPUB without an id",
-        phase: Phase::Fresh,
-        used: ALL_IDS,
-        flies: false,
-        sends: Sends::Dpub(0),
-        gets: Gets::Error(b"E_DPUB_FAILED ids spent"),
-    },
-    Row {
-        name: "DPUB with the longest delay",
-        phase: Phase::Fresh,
-        used: ALL_IDS - 1,
-        flies: false,
-        sends: Sends::Dpub(3_600_000),
-        gets: OK,
-    },
+static ROWS: [&'static str; 53] = [
+    "IDENTIFY of a subscribed client
+        Subscribed, no ids: identify {} => E_INVALID not in this state",
+    "IDENTIFY of a closing client
+        Closing, no ids: identify {} => E_INVALID not in this state",
+    "IDENTIFY of a subscribed client, in bad JSON
+        Subscribed, no ids: identify [] => E_INVALID not in this state",
+    "IDENTIFY that isn't UTF-8
+        Fresh, no ids: identify NOT_UTF8 => E_BAD_BODY bad JSON",
+    r#"IDENTIFY with 'output_buffer_size':-1,'output_buffer_timeout':18446744073709551615,'deflate_level':6
+        Fresh, no ids: identify {"output_buffer_size":-1,"output_buffer_timeout":18446744073709551615,"deflate_level":6} => OK"#,
+    r#"IDENTIFY that negotiates
+        Fresh, no ids: identify {"feature_negotiation":true} => {"auth_required":false,"deflate":false,"deflate_level":0,"max_deflate_level":0,"max_msg_timeout":900000,"max_rdy_count":2500,"msg_timeout":60000,"sample_rate":0,"snappy":false,"tls_v1":false,"version":"1.0.0"}"#,
+    r#"IDENTIFY that negotiates, with a time for messages
+        Fresh, no ids: identify {"feature_negotiation":true,"msg_timeout":1500} => {"auth_required":false,"deflate":false,"deflate_level":0,"max_deflate_level":0,"max_msg_timeout":900000,"max_rdy_count":2500,"msg_timeout":1500,"sample_rate":0,"snappy":false,"tls_v1":false,"version":"1.0.0"}"#,
+    "SUB of a fresh client
+        Fresh, no ids: sub t c => OK",
+    "SUB of a subscribed client
+        Subscribed, no ids: sub t c => E_INVALID not in this state",
+    "SUB of a closing client
+        Closing, no ids: sub t c => E_INVALID not in this state",
+    "PUB of a fresh client
+        Fresh, all ids but 1: pub t x => OK",
+    "PUB of a subscribed client
+        Subscribed, all ids but 1: pub t x => OK",
+    "PUB of a closing client
+        Closing, all ids but 1: pub t x => OK",
+    "PUB without an id
+        Fresh, all ids but 0: pub t x => E_PUB_FAILED ids spent",
+    "MPUB with ids for all
+        Fresh, all ids but 3: mpub t x 3 => OK",
+    "MPUB with ids for all but one
+        Fresh, all ids but 2: mpub t x 3 => E_MPUB_FAILED ids spent",
+    "DPUB below 0
+        Fresh, no ids: dpub t -1 x => E_INVALID bad delay",
+    "DPUB above the longest delay
+        Fresh, no ids: dpub t 3600001 x => E_INVALID bad delay",
+    "DPUB above the longest delay, without an id
+        Fresh, all ids but 0: dpub t 3600001 x => E_INVALID bad delay",
+    "DPUB without an id
+        Fresh, all ids but 0: dpub t 0 x => E_DPUB_FAILED ids spent",
+    "DPUB with the longest delay
+        Fresh, all ids but 1: dpub t 3600000 x => OK",
+    "RDY of a fresh client
+        Fresh, no ids: rdy 1 => E_INVALID not in this state",
+    "RDY of a fresh client, out of range
+        Fresh, no ids: rdy 2501 => E_INVALID not in this state",
+    "RDY below 0
+        Subscribed, no ids: rdy -1 => E_INVALID bad count",
+    "RDY above the greatest count
+        Subscribed, no ids: rdy 2501 => E_INVALID bad count",
+    "RDY with the greatest count
+        Subscribed, no ids: rdy 2500",
+    "RDY 0
+        Subscribed, no ids: rdy 0",
+    "RDY of a closing client, out of range
+        Closing, no ids: rdy 2501",
+    "CLS of a fresh client
+        Fresh, no ids: cls => E_INVALID not in this state",
+    "CLS of a closing client
+        Closing, no ids: cls => E_INVALID not in this state",
+    "CLS
+        Subscribed, no ids: cls => CLOSE_WAIT",
+    "NOP of a fresh client
+        Fresh, no ids: nop",
+    "NOP of a subscribed client
+        Subscribed, no ids: nop",
+    "NOP of a closing client
+        Closing, no ids: nop",
+    "FIN of a fresh client, in flight
+        Fresh with it in flight, no ids: fin 0 => E_INVALID not in this state",
+    "FIN of a fresh client, not in flight
+        Fresh, no ids: fin 0 => E_INVALID not in this state",
+    "FIN not in flight
+        Subscribed, no ids: fin 0 => E_FIN_FAILED message not in flight",
+    "FIN of a closing client, not in flight
+        Closing, no ids: fin 0 => E_FIN_FAILED message not in flight",
+    "FIN in flight
+        Subscribed with it in flight, no ids: fin 0",
+    "FIN of a closing client, in flight
+        Closing with it in flight, no ids: fin 0",
+    "REQ of a fresh client, in flight
+        Fresh with it in flight, no ids: req 0 0 => E_INVALID not in this state",
+    "REQ of a fresh client, not in flight
+        Fresh, no ids: req 0 0 => E_INVALID not in this state",
+    "REQ not in flight
+        Subscribed, no ids: req 0 0 => E_REQ_FAILED message not in flight",
+    "REQ of a closing client, not in flight
+        Closing, no ids: req 0 0 => E_REQ_FAILED message not in flight",
+    "REQ in flight
+        Subscribed with it in flight, no ids: req 0 0",
+    "REQ of a closing client, in flight
+        Closing with it in flight, no ids: req 0 0",
+    "TOUCH of a fresh client, in flight
+        Fresh with it in flight, no ids: touch 0 => E_INVALID not in this state",
+    "TOUCH of a fresh client, not in flight
+        Fresh, no ids: touch 0 => E_INVALID not in this state",
+    "TOUCH not in flight
+        Subscribed, no ids: touch 0 => E_TOUCH_FAILED message not in flight",
+    "TOUCH of a closing client, not in flight
+        Closing, no ids: touch 0 => E_TOUCH_FAILED message not in flight",
+    "TOUCH in flight
+        Subscribed with it in flight, no ids: touch 0",
+    "TOUCH of a closing client, in flight
+        Closing with it in flight, no ids: touch 0",
+    "REQ out of range, in flight
+        Subscribed with it in flight, no ids: req 0 99999999",
 ];
 
-static READIES: [Row; 13] = [
-    Row {
-        name: "RDY of a fresh client",
-        phase: Phase::Fresh,
-        used: 0,
-        flies: false,
-        sends: Sends::Rdy(1),
-        gets: WRONG,
-    },
-    Row {
-        name: "RDY of a fresh client, out of range",
-        phase: Phase::Fresh,
-        used: 0,
-        flies: false,
-        sends: Sends::Rdy(2_501),
-        gets: WRONG,
-    },
-    Row {
-        name: "RDY below 0",
-        phase: Phase::Subscribed,
-        used: 0,
-        flies: false,
-        sends: Sends::Rdy(-1),
-        gets: BAD_COUNT,
-    },
-    Row {
-        name: "RDY above the greatest count",
-        phase: Phase::Subscribed,
-        used: 0,
-        flies: false,
-        sends: Sends::Rdy(2_501),
-        gets: BAD_COUNT,
-    },
-    Row {
-        name: "RDY with the greatest count",
-        phase: Phase::Subscribed,
-        used: 0,
-        flies: false,
-        sends: Sends::Rdy(2_500),
-        gets: Gets::Nothing,
-    },
-    Row {
-        name: "RDY 0",
-        phase: Phase::Subscribed,
-        used: 0,
-        flies: false,
-        sends: Sends::Rdy(0),
-        gets: Gets::Nothing,
-    },
-    Row {
-        name: "RDY of a closing client, out of range",
-        phase: Phase::Closing,
-        used: 0,
-        flies: false,
-        sends: Sends::Rdy(2_501),
-        gets: Gets::Nothing,
-    },
-    Row {
-        name: "CLS of a fresh client",
-        phase: Phase::Fresh,
-        used: 0,
-        flies: false,
-        sends: Sends::Cls,
-        gets: WRONG,
-    },
-    Row {
-        name: "CLS of a closing client",
-        phase: Phase::Closing,
-        used: 0,
-        flies: false,
-        sends: Sends::Cls,
-        gets: WRONG,
-    },
-    Row {
-        name: "CLS",
-        phase: Phase::Subscribed,
-        used: 0,
-        flies: false,
-        sends: Sends::Cls,
-        gets: Gets::Response(b"CLOSE_WAIT"),
-    },
-    Row {
-        name: "NOP of a fresh client",
-        phase: Phase::Fresh,
-        used: 0,
-        flies: false,
-        sends: Sends::Nop,
-        gets: Gets::Nothing,
-    },
-    Row {
-        name: "NOP of a subscribed client",
-        phase: Phase::Subscribed,
-        used: 0,
-        flies: false,
-        sends: Sends::Nop,
-        gets: Gets::Nothing,
-    },
-    Row {
-        name: "NOP of a closing client",
-        phase: Phase::Closing,
-        used: 0,
-        flies: false,
-        sends: Sends::Nop,
-        gets: Gets::Nothing,
-    },
-];
-
-static FLIGHTS: [Row; 19] = [
-    Row {
-        name: "FIN of a fresh client, in flight",
-        phase: Phase::Fresh,
-        used: 0,
-        flies: true,
-        sends: Sends::Fin,
-        gets: WRONG,
-    },
-    Row {
-        name: "FIN of a fresh client, not in flight",
-        phase: Phase::Fresh,
-        used: 0,
-        flies: false,
-        sends: Sends::Fin,
-        gets: WRONG,
-    },
-    Row {
-        name: "FIN not in flight",
-        phase: Phase::Subscribed,
-        used: 0,
-        flies: false,
-        sends: Sends::Fin,
-        gets: Gets::Error(b"E_FIN_FAILED message not in flight"),
-    },
-    Row {
-        name: "FIN of a closing client, not in flight",
-        phase: Phase::Closing,
-        used: 0,
-        flies: false,
-        sends: Sends::Fin,
-        gets: Gets::Error(b"E_FIN_FAILED message not in flight"),
-    },
-    Row {
-        name: "FIN in flight",
-        phase: Phase::Subscribed,
-        used: 0,
-        flies: true,
-        sends: Sends::Fin,
-        gets: Gets::Nothing,
-    },
-    Row {
-        name: "FIN of a closing client, in flight",
-        phase: Phase::Closing,
-        used: 0,
-        flies: true,
-        sends: Sends::Fin,
-        gets: Gets::Nothing,
-    },
-    Row {
-        name: "REQ of a fresh client, in flight",
-        phase: Phase::Fresh,
-        used: 0,
-        flies: true,
-        sends: Sends::Req(0),
-        gets: WRONG,
-    },
-    Row {
-        name: "REQ of a fresh client, not in flight",
-        phase: Phase::Fresh,
-        used: 0,
-        flies: false,
-        sends: Sends::Req(0),
-        gets: WRONG,
-    },
-    Row {
-        name: "REQ not in flight",
-        phase: Phase::Subscribed,
-        used: 0,
-        flies: false,
-        sends: Sends::Req(0),
-        gets: Gets::Error(b"E_REQ_FAILED message not in flight"),
-    },
-    Row {
-        name: "REQ of a closing client, not in flight",
-        phase: Phase::Closing,
-        used: 0,
-        flies: false,
-        sends: Sends::Req(0),
-        gets: Gets::Error(b"E_REQ_FAILED message not in flight"),
-    },
-    Row {
-        name: "REQ in flight",
-        phase: Phase::Subscribed,
-        used: 0,
-        flies: true,
-        sends: Sends::Req(0),
-        gets: Gets::Nothing,
-    },
-    Row {
-        name: "REQ of a closing client, in flight",
-        phase: Phase::Closing,
-        used: 0,
-        flies: true,
-        sends: Sends::Req(0),
-        gets: Gets::Nothing,
-    },
-    Row {
-        name: "TOUCH of a fresh client, in flight",
-        phase: Phase::Fresh,
-        used: 0,
-        flies: true,
-        sends: Sends::Touch,
-        gets: WRONG,
-    },
-    Row {
-        name: "TOUCH of a fresh client, not in flight",
-        phase: Phase::Fresh,
-        used: 0,
-        flies: false,
-        sends: Sends::Touch,
-        gets: WRONG,
-    },
-    Row {
-        name: "TOUCH not in flight",
-        phase: Phase::Subscribed,
-        used: 0,
-        flies: false,
-        sends: Sends::Touch,
-        gets: Gets::Error(b"E_TOUCH_FAILED message not in flight"),
-    },
-    Row {
-        name: "TOUCH of a closing client, not in flight",
-        phase: Phase::Closing,
-        used: 0,
-        flies: false,
-        sends: Sends::Touch,
-        gets: Gets::Error(b"E_TOUCH_FAILED message not in flight"),
-    },
-    Row {
-        name: "TOUCH in flight",
-        phase: Phase::Subscribed,
-        used: 0,
-        flies: true,
-        sends: Sends::Touch,
-        gets: Gets::Nothing,
-    },
-    Row {
-        name: "TOUCH of a closing client, in flight",
-        phase: Phase::Closing,
-        used: 0,
-        flies: true,
-        sends: Sends::Touch,
-        gets: Gets::Nothing,
-    },
-    Row {
-        name: "REQ out of range, in flight",
-        phase: Phase::Subscribed,
-        used: 0,
-        flies: true,
-        sends: Sends::Req(99_999_999),
-        gets: Gets::Nothing,
-    },
-];
-
-// The command.
-fn command_of(alloc: Global, sends: Sends) -> Result<Command, Memory> {
-    let (Some(topic), Some(channel), Some(id)) = (
-        Topic::read(b"t"),
-        Chan::read(b"c"),
-        MsgId::read(b"0000010000000000"),
-    ) else {
-        return Err(Memory);
-    };
-    Ok(match sends {
-        Sends::Identify(body) => Command::Identify(Body::copy(alloc, body)?),
-        Sends::Sub => Command::Sub(topic, channel),
-        Sends::Pub => Command::Pub(topic, Body::copy(alloc, b"x")?),
-        Sends::Mpub(count) => Command::Mpub(topic, bodies(alloc, count)?),
-        Sends::Dpub(delay) => Command::Dpub(topic, delay, Body::copy(alloc, b"x")?),
-        Sends::Rdy(count) => Command::Rdy(count),
-        Sends::Fin => Command::Fin(id),
-        Sends::Req(delay) => Command::Req(id, delay),
-        Sends::Touch => Command::Touch(id),
-        Sends::Cls => Command::Cls,
-        Sends::Nop => Command::Nop,
-    })
+fn all_rows() -> &'static [&'static str] {
+    &ROWS
 }
 
-// So many bodies.
-fn bodies(alloc: Global, count: usize) -> Result<Bodies, Memory> {
-    let mut bodies = Bodies::new(alloc);
-    for _ in 0..count {
-        bodies.push(Body::copy(alloc, b"x")?)?;
-    }
-    Ok(bodies)
-}
-
-// Whether this was answered.
-fn is_got(reply: &Option<Frame>, gets: Gets) -> bool {
-    match reply {
-        None => is_nothing(gets),
-        Some(frame) => is_frame(frame.kind, frame.body.bytes(), gets),
+// Whether this was answered: nothing where the text is empty, and an error where it begins so.
+fn is_got(answer: &Option<Frame>, gets: &str) -> bool {
+    match answer {
+        None => gets.is_empty(),
+        Some(frame) => {
+            !gets.is_empty()
+                && frame.kind == kind_of(gets)
+                && same(frame.body.bytes(), gets.as_bytes())
+        }
     }
 }
 
-fn is_nothing(gets: Gets) -> bool {
-    match gets {
-        Gets::Nothing => true,
-        Gets::Response(_) => false,
-        Gets::Error(_) => false,
+fn phase_of(rt: &impl Abort, word: &str) -> Phase {
+    match word {
+        "Fresh" => Phase::Fresh,
+        "Subscribed" => Phase::Subscribed,
+        "Closing" => Phase::Closing,
+        _ => panic!(rt; "{} is no phase", word),
     }
 }
 
-fn is_frame(kind: FrameKind, text: &[u8], gets: Gets) -> bool {
-    let (expected_kind, expected) = match gets {
-        Gets::Nothing => return false,
-        Gets::Response(expected) => (FrameKind::Response, expected),
-        Gets::Error(expected) => (FrameKind::Error, expected),
-    };
-    kind == expected_kind && text == expected
+fn holds(rt: &impl Abort, alloc: Global, row: &str) -> bool {
+    let (_, rest) = part(rt, row, "\n");
+    let (client, rest) = part(rt, rest.trim(), ", ");
+    let (used, rest) = part(rt, rest, ": ");
+    let (sends, gets) = halves(rest, " => ");
+    let (word, sent) = cut(sends);
+    let (phase, flies) = cut(client);
+    let options = Options::defaults(alloc).expect(rt, "memory");
+    let command = command_of(rt, alloc, word, sent);
+    let answer = reply(
+        alloc,
+        &options,
+        used_of(rt, used),
+        phase_of(rt, phase),
+        !flies.is_empty(),
+        &command,
+    )
+    .expect(rt, "memory");
+    is_got(&answer, gets)
 }
 
-fn holds(alloc: Global, row: &Row) -> Result<bool, Memory> {
-    let options = Options::defaults(alloc)?;
-    let command = command_of(alloc, row.sends)?;
-    let answer = reply(alloc, &options, row.used, row.phase, row.flies, &command)?;
-    Ok(is_got(&answer, row.gets))
-}
-
-// Whether a fresh client's IDENTIFY with this body is answered so.
-fn identifies(alloc: Global, body: &'static str, gets: Gets) -> Result<bool, Memory> {
-    let row = Row {
-        name: body,
-        phase: Phase::Fresh,
-        used: 0,
-        flies: false,
-        sends: Sends::Identify(body.as_bytes()),
-        gets,
-    };
-    holds(alloc, &row)
-}
-
-// The first of these bodies with which a fresh client's IDENTIFY isn't answered so, if there is one.
-fn wrong_body(
-    alloc: Global,
-    bodies: &'static [&'static str],
-    gets: Gets,
-) -> Result<Option<&'static str>, Memory> {
+// Stops at the first of these bodies with which a fresh client's IDENTIFY isn't answered so.
+fn all_get(rt: &impl Abort, alloc: Global, bodies: &[&'static str], gets: &str) {
     for body in bodies {
-        if !identifies(alloc, body, gets)? {
-            return Ok(Some(*body));
-        }
+        let holds = is_answered_so(rt, alloc, body, gets);
+        assert!(rt; holds, "{}", body);
     }
-    Ok(None)
 }
 
-// The first body of all that isn't answered as it must be, if there is one.
-fn wrong_of_all(alloc: Global) -> Result<Option<&'static str>, Memory> {
-    let wrong = wrong_body(alloc, &BAD_BODIES, BAD_JSON)?;
-    if wrong.is_some() {
-        return Ok(wrong);
-    }
-    wrong_body(alloc, &GOOD_BODIES, OK)
+fn is_answered_so(rt: &impl Abort, alloc: Global, body: &str, gets: &str) -> bool {
+    let options = Options::defaults(alloc).expect(rt, "memory");
+    let command = Command::Identify(copy(rt, alloc, body.as_bytes()));
+    let answer = reply(alloc, &options, 0, Phase::Fresh, false, &command).expect(rt, "memory");
+    is_got(&answer, gets)
 }
 
-// The name of the first row of these tables that doesn't hold, if there is one.
-fn wrong(alloc: Global, tables: &[&'static [Row]]) -> Result<Option<&'static str>, Memory> {
-    for rows in tables {
-        for row in *rows {
-            if !holds(alloc, row)? {
-                return Ok(Some(row.name));
-            }
-        }
-    }
-    Ok(None)
+fn bad_bodies() -> &'static [&'static str] {
+    &BAD_BODIES
 }
 
-fn publishes() -> &'static [Row] {
-    &PUBLISHES
-}
-
-fn readies() -> &'static [Row] {
-    &READIES
-}
-
-fn flights() -> &'static [Row] {
-    &FLIGHTS
+fn good_bodies() -> &'static [&'static str] {
+    &GOOD_BODIES
 }
 
 #[test]
-fn bodies_of_identify(rt: HostRuntime) -> Result<(), Memory> {
-    let wrong = wrong_of_all(rt.alloc())?;
-    assert!(rt; wrong.is_none(), "{}", wrong.unwrap_or(""));
-    Ok(())
+fn bodies_of_identify(rt: HostRuntime) {
+    all_get(&rt, rt.alloc(), bad_bodies(), "E_BAD_BODY bad JSON");
+    all_get(&rt, rt.alloc(), good_bodies(), "OK");
 }
 
 #[test]
-fn rows(rt: HostRuntime) -> Result<(), Memory> {
-    let tables = [publishes(), readies(), flights()];
-    let wrong = wrong(rt.alloc(), &tables)?;
-    assert!(rt; wrong.is_none(), "{}", wrong.unwrap_or(""));
-    Ok(())
+fn rows(rt: HostRuntime) {
+    for row in all_rows() {
+        let holds = holds(&rt, rt.alloc(), row);
+        assert!(rt; holds, "{}", row);
+    }
 }

@@ -2,9 +2,10 @@
 
 ghost use Rattle.std.specs.Prelude.{◌≤◌, ◌<◌};
 
-use nsq_base::{Body, Memory};
+use nsq_base::Body;
 use nsq_fakes::{Failing, FolderCall, Piece};
 use std::alloc::Global;
+use std::process::Abort;
 
 /// Random numbers.
 #[derive(Clone, Copy)]
@@ -124,59 +125,52 @@ impl Dice {
     }
 
     /// What a client sends in the run of this epoch, as bytes.
-    pub fn stream(&mut self, alloc: Global, epoch: u64) -> Result<Vec<u8>, Memory> {
-        let mut bytes = Vec::from_slice(alloc, b"  V2")?;
-        self.add_stream(&mut bytes, epoch)?;
-        Ok(bytes)
-    }
-
-    // What stands behind the first four bytes.
-    fn add_stream(&mut self, bytes: &mut Vec<u8>, epoch: u64) -> Result<(), Memory> {
+    pub fn stream(&mut self, rt: &impl Abort, alloc: Global, epoch: u64) -> Vec<u8> {
+        let mut bytes = Vec::from_slice(alloc, b"  V2").expect(rt, "memory");
         if self.below(16) == 0 {
-            bytes.push(b'x')?;
+            bytes.push(b'x').expect(rt, "memory");
         }
         if self.below(3) != 0 {
-            bytes.extend_from_slice(self.text(&BEGINNINGS))?;
+            add(rt, &mut bytes, self.text(&BEGINNINGS));
         }
         for _ in 0..3 + self.below(10) {
-            self.add_command(bytes, epoch)?;
+            self.add_command(rt, &mut bytes, epoch);
         }
-        Ok(())
+        bytes
     }
 
     /// What a caller of HTTP sends, as bytes.
-    pub fn request(&mut self, alloc: Global) -> Result<Vec<u8>, Memory> {
-        Ok(Vec::from_slice(alloc, self.text(&REQUESTS))?)
+    pub fn request(&mut self, rt: &impl Abort, alloc: Global) -> Vec<u8> {
+        Vec::from_slice(alloc, self.text(&REQUESTS)).expect(rt, "memory")
     }
 
-    fn add_command(&mut self, bytes: &mut Vec<u8>, epoch: u64) -> Result<(), Memory> {
+    fn add_command(&mut self, rt: &impl Abort, bytes: &mut Vec<u8>, epoch: u64) {
         if self.below(3) == 0 {
-            return self.add_handling(bytes, epoch);
+            return self.add_handling(rt, bytes, epoch);
         }
         // The first ones come more often, so that some clients go on for a while.
         let most = 1 + self.below(COMMANDS.len() as u64) as usize;
-        bytes.extend_from_slice(self.text(&COMMANDS[..most]))?;
-        Ok(())
+        add(rt, bytes, self.text(&COMMANDS[..most]));
     }
 
     // What is done with one of the first messages of a run.
-    fn add_handling(&mut self, bytes: &mut Vec<u8>, epoch: u64) -> Result<(), Memory> {
+    fn add_handling(&mut self, rt: &impl Abort, bytes: &mut Vec<u8>, epoch: u64) {
         let at = self.below(HANDLINGS.len() as u64) as usize;
         let digit = self.below(8) as usize;
         let (before, behind) = HANDLINGS[at];
-        bytes.extend_from_slice(before)?;
-        bytes.extend_from_slice(if epoch == 1 {
+        let run: &[u8] = if epoch == 1 {
             b"000001000000000"
         } else {
             b"000002000000000"
-        })?;
-        bytes.push(DIGITS[digit])?;
-        bytes.extend_from_slice(behind)?;
-        Ok(())
+        };
+        add(rt, bytes, before);
+        add(rt, bytes, run);
+        add(rt, bytes, &DIGITS[digit..digit + 1]);
+        add(rt, bytes, behind);
     }
 
     /// These bytes, cut anywhere, with nothing between some pieces.
-    pub fn pieces(&mut self, alloc: Global, bytes: &[u8]) -> Result<Vec<Piece>, Memory> {
+    pub fn pieces(&mut self, rt: &impl Abort, alloc: Global, bytes: &[u8]) -> Vec<Piece> {
         let mut pieces = Vec::new(alloc);
         let mut rest = bytes;
         for _ in 0..bytes.len() {
@@ -184,27 +178,28 @@ impl Dice {
                 break;
             }
             if self.below(3) == 0 {
-                pieces.push(Piece::Nothing)?;
+                pieces.push(Piece::Nothing).expect(rt, "memory");
             }
             let length = 1 + self.below(60) as usize;
             let (piece, after) = rest.split_at(length.min(rest.len()));
-            pieces.push(Piece::Bytes(Body::copy(alloc, piece)?))?;
+            let piece = Body::copy(alloc, piece).expect(rt, "memory");
+            pieces.push(Piece::Bytes(piece)).expect(rt, "memory");
             rest = after;
         }
-        Ok(pieces)
+        pieces
     }
 
     /// The numbers of reads or writes that fail: mostly none.
-    pub fn failing(&mut self, alloc: Global) -> Result<Vec<u64>, Memory> {
+    pub fn failing(&mut self, rt: &impl Abort, alloc: Global) -> Vec<u64> {
         let mut numbers = Vec::new(alloc);
         if self.below(4) == 0 {
-            numbers.push(self.below(12))?;
+            numbers.push(self.below(12)).expect(rt, "memory");
         }
-        Ok(numbers)
+        numbers
     }
 
     /// Some calls of a folder that fail, of any method.
-    pub fn faults(&mut self, alloc: Global) -> Result<Vec<Failing>, Memory> {
+    pub fn faults(&mut self, rt: &impl Abort, alloc: Global) -> Vec<Failing> {
         let mut fails = Vec::new(alloc);
         for _ in 0..self.below(5) {
             let call = match self.below(4) {
@@ -214,13 +209,13 @@ impl Dice {
             };
             let from = self.below(120);
             let to = from.wrapping_add(self.below(3)).wrapping_add(1);
-            fails.push(Failing { call, from, to })?;
+            fails.push(Failing { call, from, to }).expect(rt, "memory");
         }
-        Ok(fails)
+        fails
     }
 
     /// The readings of a clock that mostly stands, and then goes on.
-    pub fn readings(&mut self, alloc: Global) -> Result<Vec<u64>, Memory> {
+    pub fn readings(&mut self, rt: &impl Abort, alloc: Global) -> Vec<u64> {
         let mut readings = Vec::new(alloc);
         let mut moment: u64 = 0;
         for _ in 0..300 {
@@ -230,8 +225,13 @@ impl Dice {
                 2 => 1_000_000_000,
                 _ => 0,
             });
-            readings.push(moment)?;
+            readings.push(moment).expect(rt, "memory");
         }
-        Ok(readings)
+        readings
     }
+}
+
+// Adds bytes.
+fn add(rt: &impl Abort, bytes: &mut Vec<u8>, further: &[u8]) {
+    bytes.extend_from_slice(further).expect(rt, "memory");
 }

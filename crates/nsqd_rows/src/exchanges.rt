@@ -1,6 +1,5 @@
 //! The plain judgement of an exchange over HTTP: whether what its caller sent, the entries of its connection and what it got fit each other.
 
-ghost use Rattle.std.specs.Prelude.{IfOk};
 ghost use Rattle.nsq_base.specs.Options.{IsInRange};
 ghost use Rattle.http_wire.specs.Answer.{IsStatus};
 ghost use Rattle.http_calls.specs.Calls.{HasStatus};
@@ -11,62 +10,60 @@ use broker_history::{Act, Ask, Entry, Said};
 use http_calls::{HttpAnswer, HttpCall, Refusal, answer_to, call_of, publishes, stop_answer};
 use http_plain::{Plain, request_of};
 use http_wire::write_answer;
-use nsq_base::{Chan, Memory, Options, Topic};
+use nsq_base::{Chan, Options, Topic};
 use nsq_fakes::MemConn;
 use nsq_outside::End;
 use std::alloc::Global;
+use std::process::Abort;
 
 /// Whether a connection of this number, at a daemon with these options that was opened at this moment, was an exchange.
 ///
 /// Bytes that are no whole request have no entry and no answer, unless they are refused. Of an answer a part from its front may have gone out.
 pub fn is_exchange(
+    rt: &impl Abort,
     alloc: Global,
     options: &Options,
     began: u64,
     outcome: &Outcome,
     number: u64,
     conn: &MemConn,
-) -> Result<bool, Memory>
+) -> bool
     requires { IsInRange options.now }
 {
-    let own = own_of(alloc, outcome.entries(), number)?;
-    let read = read_by(alloc, options, conn)?;
-    is_handled(alloc, options, began, read, &own, conn.bytes_written())
+    let own = own_of(rt, alloc, outcome.entries(), number);
+    let read = read_by(rt, alloc, options.max_body_size, conn);
+    is_handled(rt, alloc, options, began, read, &own, conn.bytes_written())
 }
 
-// What a connection read.
-fn read_by(alloc: Global, options: &Options, conn: &MemConn) -> Result<Plain, Memory> {
+// What a connection read, where a body may be so long.
+fn read_by(rt: &impl Abort, alloc: Global, limit: u32, conn: &MemConn) -> Plain {
     let mut bytes = Vec::new(alloc);
-    join(&mut bytes, conn.pieces_read())?;
-    request_of(alloc, options.max_body_size, &bytes)
-}
-
-fn join(bytes: &mut Vec<u8>, pieces: &[Vec<u8>]) -> Result<(), Memory> {
-    for piece in pieces {
-        bytes.extend_from_slice(piece)?;
+    for piece in conn.pieces_read() {
+        bytes.extend_from_slice(piece).expect(rt, "memory");
     }
-    Ok(())
+    request_of(alloc, limit, &bytes).expect(rt, "memory")
 }
 
 // Whether what was read has these entries, and is answered so.
 fn is_handled(
+    rt: &impl Abort,
     alloc: Global,
     options: &Options,
     began: u64,
     read: Plain,
     own: &Own<'_>,
     out: &[u8],
-) -> Result<bool, Memory>
+) -> bool
     requires { IsInRange options.now }
 {
     match read {
-        Plain::Unfinished => Ok(own.is_none() && out.is_empty()),
-        Plain::BadHead => is_refused(alloc, Refusal::BadRequest, own, out),
-        Plain::NoLength => is_refused(alloc, Refusal::LengthRequired, own, out),
-        Plain::TooBig => is_refused(alloc, Refusal::BodyTooBig, own, out),
+        Plain::Unfinished => own.is_none() && out.is_empty(),
+        Plain::BadHead => is_refused(rt, alloc, Refusal::BadRequest, own, out),
+        Plain::NoLength => is_refused(rt, alloc, Refusal::LengthRequired, own, out),
+        Plain::TooBig => is_refused(rt, alloc, Refusal::BodyTooBig, own, out),
         Plain::Whole(request) => {
-            let call = call_of(alloc, options, began, request)?;
-            is_call(alloc, began, call, own, out)
+            let call = call_of(alloc, options, began, request).expect(rt, "memory");
+            is_call(rt, alloc, began, call, own, out)
         }
     }
 }
@@ -90,28 +87,20 @@ impl Own<'_> {
     }
 }
 
-fn own_of<'a>(alloc: Global, entries: &'a [(Entry, End)], number: u64) -> Result<Own<'a>, Memory> {
+fn own_of<'a>(rt: &impl Abort, alloc: Global, entries: &'a [(Entry, End)], number: u64) -> Own<'a> {
     let mut letters = Vec::new(alloc);
-    let last = put_letters(&mut letters, entries, number)?;
-    Ok(Own { letters, last })
-}
-
-// Adds the letters of a connection's entries. The last of these.
-fn put_letters<'a>(
-    letters: &mut Vec<u8>,
-    entries: &'a [(Entry, End)],
-    number: u64,
-) -> Result<Option<&'a (Entry, End)>, Memory> {
     let mut last = None;
     let mut stopped = false;
     for entry in entries {
         stopped = stopped || is_stop(&entry.0.act);
         if entry.0.conn == number {
-            letters.push(letter_of(&entry.0.act, stopped))?;
+            letters
+                .push(letter_of(&entry.0.act, stopped))
+                .expect(rt, "memory");
             last = Some(entry);
         }
     }
-    Ok(last)
+    Own { letters, last }
 }
 
 fn is_stop(act: &Act) -> bool {
@@ -128,82 +117,87 @@ fn letter_of(act: &Act, stopped: bool) -> u8 {
 }
 
 // Whether there is no entry, and the answer is that of a refusal.
-fn is_refused(alloc: Global, refusal: Refusal, own: &Own<'_>, out: &[u8]) -> Result<bool, Memory> {
-    let answer = refusal.answer(alloc)?;
-    Ok(own.is_none() && is_answer(alloc, &answer, out)?)
+fn is_refused(rt: &impl Abort, alloc: Global, refusal: Refusal, own: &Own<'_>, out: &[u8]) -> bool {
+    let answer = refusal.answer(alloc).expect(rt, "memory");
+    own.is_none() && is_answer(rt, alloc, &answer, out)
 }
 
 // Whether a call has these entries, and is answered so.
 fn is_call(
+    rt: &impl Abort,
     alloc: Global,
     began: u64,
     call: HttpCall,
     own: &Own<'_>,
     out: &[u8],
-) -> Result<bool, Memory>
+) -> bool
     requires { HasStatus call }
 {
     match call {
-        HttpCall::Refused(refusal) => is_refused(alloc, refusal, own, out),
-        HttpCall::Answered(answer) => Ok(own.is_none() && is_answer(alloc, &answer, out)?),
-        HttpCall::Asks(ask) => is_asking(alloc, began, &ask, own, out),
-        HttpCall::Stops => {
-            let answer = stop_answer(alloc)?;
-            Ok((own.are(b"sl") || own.are(b"l")) && is_answer(alloc, &answer, out)?)
-        }
+        HttpCall::Refused(refusal) => is_refused(rt, alloc, refusal, own, out),
+        HttpCall::Answered(answer) => own.is_none() && is_answer(rt, alloc, &answer, out),
+        HttpCall::Asks(ask) => is_asking(rt, alloc, began, &ask, own, out),
+        HttpCall::Stops => is_stopped(rt, alloc, own, out),
     }
+}
+
+// Whether the daemon stopped, and said so.
+fn is_stopped(rt: &impl Abort, alloc: Global, own: &Own<'_>, out: &[u8]) -> bool {
+    let answer = stop_answer(alloc).expect(rt, "memory");
+    (own.are(b"sl") || own.are(b"l")) && is_answer(rt, alloc, &answer, out)
 }
 
 // Whether this was asked and is answered by what was said, or the daemon stops.
 fn is_asking(
+    rt: &impl Abort,
     alloc: Global,
     began: u64,
     ask: &Ask,
     own: &Own<'_>,
     out: &[u8],
-) -> Result<bool, Memory> {
+) -> bool {
     if own.are(b"l") {
-        let answer = Refusal::Stopping.answer(alloc)?;
-        return is_answer(alloc, &answer, out);
-    }
-    if !own.are(b"a") {
-        return Ok(false);
+        let answer = Refusal::Stopping.answer(alloc).expect(rt, "memory");
+        return is_answer(rt, alloc, &answer, out);
     }
     match own.last {
-        Some(entry) => is_told(alloc, began, ask, entry, out),
-        None => Ok(false),
+        Some(entry) if own.are(b"a") => is_told(rt, alloc, began, ask, entry, out),
+        _ => false,
     }
 }
 
 // Whether an entry asks this, and the answer is what it says.
 fn is_told(
+    rt: &impl Abort,
     alloc: Global,
     began: u64,
     ask: &Ask,
     entry: &(Entry, End),
     out: &[u8],
-) -> Result<bool, Memory> {
+) -> bool {
     let Act::Asked(asked, said) = &entry.0.act else {
-        return Ok(false);
+        return false;
     };
-    let answer = answered(alloc, began, ask, said, entry.1)?;
-    Ok(is_same(asked, ask) && is_answer(alloc, &answer, out)?)
+    let answer = answered(rt, alloc, began, ask, said, entry.1);
+    is_same(asked, ask) && is_answer(rt, alloc, &answer, out)
 }
 
 // The answer to what is asked where this is said, and its entry ended so.
 fn answered(
+    rt: &impl Abort,
     alloc: Global,
     began: u64,
     ask: &Ask,
     said: &Said,
     end: End,
-) -> Result<HttpAnswer, Memory>
-    ensures { IfOk result (λ answer. IsStatus answer.status) }
+) -> HttpAnswer
+    ensures { IsStatus result.status }
 {
     match end {
         End::Done => answer_to(alloc, publishes(ask), began, said),
         End::Faulted(_) | End::Skip => answer_to(alloc, publishes(ask), began, &Said::Disk),
     }
+    .expect(rt, "memory")
 }
 
 fn is_same(a: &Ask, b: &Ask) -> bool {
@@ -225,7 +219,7 @@ fn is_place(a: &Topic, c: &Option<Chan>, b: &Topic, d: &Option<Chan>) -> bool {
 }
 
 // Whether these bytes are an answer's, or a part of them from the front.
-fn is_answer(alloc: Global, answer: &HttpAnswer, out: &[u8]) -> Result<bool, Memory>
+fn is_answer(rt: &impl Abort, alloc: Global, answer: &HttpAnswer, out: &[u8]) -> bool
     requires { IsStatus answer.now.status }
 {
     let mut bytes = Vec::new(alloc);
@@ -235,6 +229,7 @@ fn is_answer(alloc: Global, answer: &HttpAnswer, out: &[u8]) -> Result<bool, Mem
         answer.json,
         answer.body.bytes(),
         &mut bytes,
-    )?;
-    Ok(bytes.starts_with(out))
+    )
+    .expect(rt, "memory");
+    bytes.starts_with(out)
 }

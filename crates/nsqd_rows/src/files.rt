@@ -1,78 +1,83 @@
 //! A folder's files as a list, and folders in memory that have them.
 
 use crate::texts::same;
-use nsq_base::{Body, Memory};
+use nsq_base::Body;
 use nsq_fakes::{Failing, MemFolder};
 use nsq_outside::{Folder, Listing};
 use queue_plain::NamedFile;
 use std::alloc::Global;
+use std::process::Abort;
 
 /// A file's name and its bytes.
 pub type File = (&'static str, &'static [u8]);
 
 /// A folder with these files, of which these calls fail.
 pub fn folder_of(
+    rt: &impl Abort,
     alloc: Global,
     files: &[NamedFile],
     fails: Vec<Failing>,
-) -> Result<MemFolder, Memory> {
-    let mut given = Vec::new(alloc);
-    give(alloc, &mut given, files)?;
-    MemFolder::new(alloc, given, fails)
+) -> MemFolder {
+    MemFolder::new(alloc, given_as(rt, alloc, files), fails).expect(rt, "memory")
 }
 
-fn give(
-    alloc: Global,
-    given: &mut Vec<(String, Vec<u8>)>,
-    files: &[NamedFile],
-) -> Result<(), Memory> {
+// Files as a folder in memory is given them.
+fn given_as(rt: &impl Abort, alloc: Global, files: &[NamedFile]) -> Vec<(String, Vec<u8>)> {
+    let mut given = Vec::new(alloc);
     for file in files {
-        let name = String::from_utf8_lossy(alloc, file.name.bytes())?;
-        given.push((name, Vec::from_slice(alloc, file.bytes.bytes())?))?;
+        let name = String::from_utf8_lossy(alloc, file.name.bytes()).expect(rt, "memory");
+        let bytes = Vec::from_slice(alloc, file.bytes.bytes()).expect(rt, "memory");
+        given.push((name, bytes)).expect(rt, "memory");
     }
-    Ok(())
+    given
 }
 
 /// Adds files to a list.
-pub fn add_files(
+pub fn add_files(rt: &impl Abort, alloc: Global, files: &mut Vec<NamedFile>, further: &[File]) {
+    for (name, bytes) in further {
+        add_file(rt, alloc, files, name, bytes);
+    }
+}
+
+/// Adds a file to a list.
+pub fn add_file(
+    rt: &impl Abort,
     alloc: Global,
     files: &mut Vec<NamedFile>,
-    further: &[File],
-) -> Result<(), Memory> {
-    for (name, bytes) in further {
-        files.push(named(alloc, name, bytes)?)?;
-    }
-    Ok(())
+    name: &str,
+    bytes: &[u8],
+) {
+    let name = Body::copy(alloc, name.as_bytes()).expect(rt, "memory");
+    let bytes = Body::copy(alloc, bytes).expect(rt, "memory");
+    files.push(NamedFile { name, bytes }).expect(rt, "memory");
 }
 
-fn named(alloc: Global, name: &str, bytes: &[u8]) -> Result<NamedFile, Memory> {
-    let name = Body::copy(alloc, name.as_bytes())?;
-    let bytes = Body::copy(alloc, bytes)?;
-    Ok(NamedFile { name, bytes })
-}
-
-/// The files of a folder. A listing that fails is tried again.
-pub fn files_in(alloc: Global, folder: &mut MemFolder) -> Result<Vec<NamedFile>, Memory> {
-    let names = names_in(alloc, folder)?;
-    let mut files = Vec::new(alloc);
+/// Puts a folder's files in the place of these. A listing that fails is tried again.
+pub fn list_files(
+    rt: &impl Abort,
+    alloc: Global,
+    folder: &mut MemFolder,
+    files: &mut Vec<NamedFile>,
+) {
+    let names = names_in(rt, alloc, folder);
+    files.clear();
     for name in &names {
         if let Some(bytes) = folder.file(name.as_str()) {
-            files.push(named(alloc, name.as_str(), bytes)?)?;
+            add_file(rt, alloc, files, name.as_str(), bytes);
         }
     }
-    Ok(files)
 }
 
-fn names_in(alloc: Global, folder: &mut MemFolder) -> Result<Vec<String>, Memory> {
+fn names_in(rt: &impl Abort, alloc: Global, folder: &mut MemFolder) -> Vec<String> {
     let mut names = Vec::new(alloc);
     for _ in 0..2_000 {
         match folder.list(alloc, "", &mut names) {
-            Listing::Done => return Ok(names),
+            Listing::Done => break,
             Listing::Failed => {}
-            Listing::Memory => return Err(Memory),
+            Listing::Memory => panic!(rt; "memory"),
         }
     }
-    Ok(names)
+    names
 }
 
 /// The bytes of a file, where there is one.

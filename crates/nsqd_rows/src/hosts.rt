@@ -1,16 +1,16 @@
 //! A run over a host in memory, and what is seen of the host behind it.
 
-ghost use Rattle.std.specs.Prelude.{IfOk, IsSome};
+ghost use Rattle.std.specs.Prelude.{IsSome};
 ghost use Rattle.nsq_fakes.specs.MemHosts.{state_of};
 
-use crate::files::files_in;
+use crate::files::list_files;
 use broker_history::Entry;
 use daemon_main::nsqd_run;
-use nsq_base::Memory;
 use nsq_fakes::{MemClock, MemConn, MemFolder, MemHost, MemJournal};
 use nsq_outside::{End, Host, Kind, Kit};
 use queue_plain::NamedFile;
 use std::alloc::Global;
+use std::process::Abort;
 use std::sync::Wait;
 
 // What a host in memory stands on.
@@ -52,7 +52,7 @@ pub struct Outcome {
 }
 
 /// Makes a run.
-pub fn run_with<R: Wait>(rt: &R, alloc: Global, given: Given) -> Result<Outcome, Memory> {
+pub fn run_with<R: Abort + Wait>(rt: &R, alloc: Global, given: Given) -> Outcome {
     let Given {
         words,
         callers,
@@ -60,45 +60,45 @@ pub fn run_with<R: Wait>(rt: &R, alloc: Global, given: Given) -> Result<Outcome,
         readings,
         fails,
     } = given;
-    let kit = kit_of(alloc, folder, readings)?;
-    let mut host = host_of(alloc, callers, kit, fails)?;
+    let kit = kit_of(rt, alloc, folder, readings);
+    let mut host = host_of(rt, alloc, callers, kit, fails);
     let status = nsqd_run(rt, alloc, &words, &mut host);
-    Ok(Outcome { status, host })
+    Outcome { status, host }
 }
 
-fn kit_of(alloc: Global, folder: MemFolder, readings: Vec<u64>) -> Result<MemKit, Memory> {
-    let clock = MemClock::new(alloc, readings)?;
-    Ok(Kit {
+fn kit_of(rt: &impl Abort, alloc: Global, folder: MemFolder, readings: Vec<u64>) -> MemKit {
+    let clock = MemClock::new(alloc, readings).expect(rt, "memory");
+    Kit {
         folder,
         clock,
         journal: MemJournal::new(alloc),
-    })
+    }
 }
 
 // A host over this kit, of which these calls fail.
 fn host_of(
+    rt: &impl Abort,
     alloc: Global,
     callers: Vec<(Kind, MemConn)>,
     kit: MemKit,
     fails: HostFails,
-) -> Result<MemHost<Entry>, Memory>
-    ensures { IfOk result (λ host. IsSome (state_of host).kit) }
+) -> MemHost<Entry>
+    ensures { IsSome (state_of result).kit }
 {
-    let mut host = MemHost::new(alloc, callers, Vec::new(alloc), kit, false)?;
-    fail(alloc, &mut host, fails)?;
-    Ok(host)
+    let mut host = MemHost::new(alloc, callers, Vec::new(alloc), kit, false).expect(rt, "memory");
+    fail(rt, alloc, &mut host, fails);
+    host
 }
 
 // Has these calls of a host fail.
-fn fail(alloc: Global, host: &mut MemHost<Entry>, fails: HostFails) -> Result<(), Memory>
+fn fail(rt: &impl Abort, alloc: Global, host: &mut MemHost<Entry>, fails: HostFails)
     requires { IsSome (state_of host.old).kit }
     ensures { IsSome (state_of host.new).kit }
 {
-    let accepts = Vec::from_slice(alloc, fails.accepts)?;
-    let prints = Vec::from_slice(alloc, fails.prints)?;
-    let tells = Vec::from_slice(alloc, fails.tells)?;
+    let accepts = Vec::from_slice(alloc, fails.accepts).expect(rt, "memory");
+    let prints = Vec::from_slice(alloc, fails.prints).expect(rt, "memory");
+    let tells = Vec::from_slice(alloc, fails.tells).expect(rt, "memory");
     host.fail_at(accepts, prints, tells);
-    Ok(())
 }
 
 impl Outcome {
@@ -133,6 +133,11 @@ impl Outcome {
         self.host.printed()
     }
 
+    /// Whether the host was never started, and gave no caller.
+    pub fn is_unused(&self) -> bool {
+        self.host.starts().is_empty() && self.host.given().is_empty()
+    }
+
     /// How many callers were handed back.
     pub fn count(&self) -> usize {
         self.host.back().len()
@@ -145,28 +150,27 @@ impl Outcome {
         Some((*number, *kind, conn))
     }
 
-    /// The files that are left.
-    pub fn leave(self, alloc: Global) -> Result<Vec<NamedFile>, Memory> {
-        let mut folder = folder_in(self.kit());
-        files_in(alloc, &mut folder)
-    }
-
-    // The kit, with another journal.
-    fn kit(self) -> MemKit {
+    /// Puts the files that are left in the place of these.
+    pub fn leave(self, rt: &impl Abort, alloc: Global, files: &mut Vec<NamedFile>) {
         let Outcome {
             status: _,
             mut host,
         } = self;
-        host.lend()
+        leave_files(rt, alloc, &mut host, files);
+        drop(host);
     }
 }
 
-// The folder of a kit.
-fn folder_in(kit: MemKit) -> MemFolder {
-    let Kit {
-        folder,
-        clock: _clock,
-        journal: _journal,
-    } = kit;
-    folder
+// Puts the files of a host's folder in the place of these.
+fn leave_files(
+    rt: &impl Abort,
+    alloc: Global,
+    host: &mut MemHost<Entry>,
+    files: &mut Vec<NamedFile>,
+)
+    requires { IsSome (state_of host.old).kit }
+{
+    let mut home = host.lend();
+    list_files(rt, alloc, &mut home.folder, files);
+    host.restore(home);
 }

@@ -11,11 +11,12 @@ use broker_history::{Ended, Entry};
 use broker_state::State;
 use broker_steps::led_to;
 use broker_talks::is_talk_in;
-use nsq_base::{Body, Memory, Options};
+use nsq_base::{Body, Options};
 use nsq_fakes::MemConn;
 use nsq_outside::{End, Kind};
 use queue_plain::NamedFile;
 use std::alloc::Global;
+use std::process::Abort;
 use v2_frame::Limits;
 
 /// The limits of each connection, those of the default options.
@@ -30,63 +31,45 @@ const DISK_FAULT: &[u8] = b"nsqd: data path: disk fault";
 // The last epoch.
 const LAST_EPOCH: u32 = 16_777_215;
 
-/// What a run noted, as it is judged.
-#[derive(Drop)]
-pub struct Judged {
-    /// What is wrong with it, if something is.
-    pub wrong: Option<&'static str>,
-    /// Whether it opened the files and ended with status 0.
-    clean: bool,
-    /// The states to which it may have led.
-    states: Vec<State>,
-}
-
-/// Judges what a run over these files noted, with these options and the clock's first reading.
-pub fn judge(
+/// What is wrong with what a run over these files noted, with these options and the clock's first reading, or with the files that it left: where it opened the
+/// files and ended with status 0 they keep all that they must. Then these files are those that it left.
+pub fn noted_wrong(
+    rt: &impl Abort,
     alloc: Global,
     options: &Options,
     began: u64,
-    files: &[NamedFile],
-    outcome: &Outcome,
-) -> Result<Judged, Memory> {
-    let rightly_shut = is_rightly_shut(alloc, files, outcome)?;
-    let states = states_of(alloc, options, files, began, outcome.entries())?;
+    files: &mut Vec<NamedFile>,
+    outcome: Outcome,
+) -> Option<&'static str> {
+    let rightly_shut = is_rightly_shut(rt, alloc, files, &outcome);
+    let states = states_of(rt, alloc, options, files, began, outcome.entries());
+    let has_opened = outcome.has_opened();
+    let clean = has_opened && outcome.status == 0;
+    outcome.leave(rt, alloc, files);
     let wrong = if !rightly_shut {
         Some("the refusal")
-    } else if outcome.has_opened() && states.is_empty() {
+    } else if has_opened && states.is_empty() {
         Some("the history isn't legal")
+    } else if clean && !is_kept(rt, alloc, &states, files) {
+        Some("something else is kept")
     } else {
         None
     };
-    Ok(Judged {
-        wrong,
-        clean: outcome.has_opened() && outcome.status == 0,
-        states,
-    })
-}
-
-impl Judged {
-    /// Whether these files, which it left, keep all that they must.
-    pub fn is_kept(&self, alloc: Global, files: &[NamedFile]) -> Result<bool, Memory> {
-        Ok(!self.clean || is_kept(alloc, &self.states, files)?)
-    }
+    drop(states);
+    wrong
 }
 
 // Whether a run over these files that didn't open them noted nothing, and was refused with a line that fits what is found there, if it was.
-fn is_rightly_shut(alloc: Global, files: &[NamedFile], outcome: &Outcome) -> Result<bool, Memory> {
-    if outcome.has_opened() {
-        return Ok(true);
-    }
-    Ok(
-        outcome.entries().is_empty()
-            && (outcome.status != 2 || may_refuse(alloc, files, outcome.line())?),
-    )
+fn is_rightly_shut(rt: &impl Abort, alloc: Global, files: &[NamedFile], outcome: &Outcome) -> bool {
+    outcome.has_opened()
+        || outcome.entries().is_empty()
+            && (outcome.status != 2 || may_refuse(rt, alloc, files, outcome.line()))
 }
 
 // Whether an opening of these files may be refused with this line.
-fn may_refuse(alloc: Global, files: &[NamedFile], line: &[u8]) -> Result<bool, Memory> {
-    let finding = found(alloc, files)?;
-    Ok(same(line, DISK_FAULT) || same(line, refusal(&finding)))
+fn may_refuse(rt: &impl Abort, alloc: Global, files: &[NamedFile], line: &[u8]) -> bool {
+    let finding = found(alloc, files).expect(rt, "memory");
+    same(line, DISK_FAULT) || same(line, refusal(&finding))
 }
 
 // The line with which what was found is refused: that of a folder that failed, where nothing else is wrong with it.
@@ -98,41 +81,47 @@ fn refusal(finding: &Finding) -> &'static [u8] {
     }
 }
 
-// The states to which entries lead from the start that an opening of these files gives at a moment; none where they aren't legal.
-fn states_of(
+/// The states to which entries lead from the start that an opening of these files gives at a moment; none where they aren't legal.
+pub fn states_of(
+    rt: &impl Abort,
     alloc: Global,
     options: &Options,
     files: &[NamedFile],
     began: u64,
     entries: &[(Entry, End)],
-) -> Result<Vec<State>, Memory> {
-    match begun(alloc, options, files, began)? {
-        Some(state) => led_to(alloc, &state, entries),
-        None => Ok(Vec::new(alloc)),
+) -> Vec<State> {
+    match begun(rt, alloc, options, files, began) {
+        Some(state) => {
+            let states = led_to(alloc, &state, entries).expect(rt, "memory");
+            drop(state);
+            states
+        }
+        None => Vec::new(alloc),
     }
 }
 
 fn begun(
+    rt: &impl Abort,
     alloc: Global,
     options: &Options,
     files: &[NamedFile],
     began: u64,
-) -> Result<Option<State>, Memory> {
-    let Finding::Names(names) = found(alloc, files)? else {
-        return Ok(None);
+) -> Option<State> {
+    let Finding::Names(names) = found(alloc, files).expect(rt, "memory") else {
+        return None;
     };
     if names.epoch >= LAST_EPOCH {
-        return Ok(None);
+        return None;
     }
-    Ok(Some(start(alloc, &names, options, began)?))
+    Some(start(alloc, &names, options, began).expect(rt, "memory"))
 }
 
-// Whether an opening of these files finds all that one of the states leaves, and nothing else. Behind the last epoch it finds that none is left.
-fn is_kept(alloc: Global, states: &[State], files: &[NamedFile]) -> Result<bool, Memory> {
-    match found(alloc, files)? {
-        Finding::Names(names) => one_leaves(alloc, states, &names),
-        Finding::EpochSpent => Ok(are_last(states)),
-        Finding::BadData => Ok(false),
+/// Whether an opening of these files finds all that one of the states leaves, and nothing else. Behind the last epoch it finds that none is left.
+pub fn is_kept(rt: &impl Abort, alloc: Global, states: &[State], files: &[NamedFile]) -> bool {
+    match found(alloc, files).expect(rt, "memory") {
+        Finding::Names(names) => one_leaves(rt, alloc, states, &names),
+        Finding::EpochSpent => are_last(states),
+        Finding::BadData => false,
     }
 }
 
@@ -146,74 +135,84 @@ fn are_last(states: &[State]) -> bool {
     true
 }
 
-fn one_leaves(alloc: Global, states: &[State], names: &FoundNames) -> Result<bool, Memory> {
+fn one_leaves(rt: &impl Abort, alloc: Global, states: &[State], names: &FoundNames) -> bool {
     for state in states {
-        if is_all_left(alloc, state, names)? {
-            return Ok(true);
+        if is_all_left(alloc, state, names).expect(rt, "memory") {
+            return true;
         }
     }
-    Ok(false)
+    false
 }
 
 /// Whether the caller at this place was handed back under its number: one of TCP had a conversation that ended in one of these ways, one of HTTP an
 /// exchange.
 pub fn is_served(
+    rt: &impl Abort,
     alloc: Global,
     options: &Options,
     began: u64,
     outcome: &Outcome,
     place: usize,
     endings: &[Ended],
-) -> Result<bool, Memory>
+) -> bool
     requires { IsInRange options.now }
 {
     let Some((number, kind, conn)) = outcome.caller(place) else {
-        return Ok(false);
+        return false;
     };
     if number.checked_sub(1) != Some(place as u64) {
-        return Ok(false);
+        return false;
     }
     match kind {
-        Kind::Tcp => is_talk(alloc, outcome, number, conn, endings),
-        Kind::Http => is_exchange(alloc, options, began, outcome, number, conn),
+        Kind::Tcp => is_talk(rt, alloc, outcome.entries(), number, conn, endings),
+        Kind::Http => is_exchange(rt, alloc, options, began, outcome, number, conn),
     }
 }
 
-// Whether what a connection sent, its entries and what it got are a conversation that ended in one of these ways.
-fn is_talk(
+/// Whether what a connection sent, its entries and what it got are a conversation that ended in one of these ways.
+pub fn is_talk(
+    rt: &impl Abort,
     alloc: Global,
-    outcome: &Outcome,
+    entries: &[(Entry, End)],
     number: u64,
     conn: &MemConn,
     endings: &[Ended],
-) -> Result<bool, Memory> {
-    let pieces = pieces_of(alloc, conn)?;
-    has_ended(alloc, outcome, number, conn, &pieces, endings)
+) -> bool {
+    let pieces = pieces_of(rt, alloc, conn);
+    has_ended(
+        rt,
+        alloc,
+        entries,
+        number,
+        &pieces,
+        conn.bytes_written(),
+        endings,
+    )
 }
 
-// The same, where these pieces were read.
+// The same, where these pieces were read and this was written.
 fn has_ended(
+    rt: &impl Abort,
     alloc: Global,
-    outcome: &Outcome,
+    entries: &[(Entry, End)],
     number: u64,
-    conn: &MemConn,
     pieces: &[Body],
+    out: &[u8],
     endings: &[Ended],
-) -> Result<bool, Memory> {
-    let entries = outcome.entries();
-    let out = conn.bytes_written();
+) -> bool {
     for ended in endings {
-        if is_talk_in(alloc, LIMITS, number, entries, 0, pieces, out, *ended)? {
-            return Ok(true);
+        if is_talk_in(alloc, LIMITS, number, entries, 0, pieces, out, *ended).expect(rt, "memory") {
+            return true;
         }
     }
-    Ok(false)
+    false
 }
 
-fn pieces_of(alloc: Global, conn: &MemConn) -> Result<Vec<Body>, Memory> {
+fn pieces_of(rt: &impl Abort, alloc: Global, conn: &MemConn) -> Vec<Body> {
     let mut pieces = Vec::new(alloc);
     for piece in conn.pieces_read() {
-        pieces.push(Body::copy(alloc, piece)?)?;
+        let piece = Body::copy(alloc, piece).expect(rt, "memory");
+        pieces.push(piece).expect(rt, "memory");
     }
-    Ok(pieces)
+    pieces
 }

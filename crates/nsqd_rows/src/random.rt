@@ -7,16 +7,16 @@ ghost use Rattle.nsq_base.specs.Options.{IsInRange};
 use crate::dice::Dice;
 use crate::files::folder_of;
 use crate::hosts::{Given, NONE_FAILS, Outcome, run_with};
-use crate::judged::{Judged, is_served, judge};
+use crate::judged::{is_served, noted_wrong};
 use crate::setting::{DEFAULTS, SECOND, Setting, options_of, words_of};
 use broker_history::{Act, Ended, Entry};
-use nsq_base::{Memory, Options};
-use nsq_fakes::{MemConn, MemFolder, Piece};
+use nsq_base::Options;
+use nsq_fakes::{MemConn, MemFolder};
 use nsq_outside::{End, Kind};
 use queue_plain::NamedFile;
 use std::alloc::Global;
+use std::process::Abort;
 use std::sync::Wait;
-use std::test::Fail;
 
 // How many seeds there are; the first is 1.
 const SEEDS: u64 = 20;
@@ -68,135 +68,107 @@ fn seed_of(number: u64) -> Seed {
     }
 }
 
-fn caller_of(alloc: Global, dice: &mut Dice, epoch: u64) -> Result<(Kind, MemConn), Memory> {
+fn caller_of(rt: &impl Abort, alloc: Global, dice: &mut Dice, epoch: u64) -> (Kind, MemConn) {
     let kind = if dice.below(5) < 2 {
         Kind::Http
     } else {
         Kind::Tcp
     };
-    let pieces = pieces_of(alloc, dice, kind, epoch)?;
-    let reads = dice.failing(alloc)?;
-    let writes = dice.failing(alloc)?;
-    Ok((kind, MemConn::new(alloc, pieces, reads, writes)?))
-}
-
-// What comes from a caller of this kind.
-fn pieces_of(alloc: Global, dice: &mut Dice, kind: Kind, epoch: u64) -> Result<Vec<Piece>, Memory> {
-    let bytes = bytes_of(alloc, dice, kind, epoch)?;
-    dice.pieces(alloc, &bytes)
+    let bytes = bytes_of(rt, alloc, dice, kind, epoch);
+    let pieces = dice.pieces(rt, alloc, &bytes);
+    drop(bytes);
+    let reads = dice.failing(rt, alloc);
+    let writes = dice.failing(rt, alloc);
+    let conn = MemConn::new(alloc, pieces, reads, writes).expect(rt, "memory");
+    (kind, conn)
 }
 
 // What a caller of this kind sends.
-fn bytes_of(alloc: Global, dice: &mut Dice, kind: Kind, epoch: u64) -> Result<Vec<u8>, Memory> {
+fn bytes_of(rt: &impl Abort, alloc: Global, dice: &mut Dice, kind: Kind, epoch: u64) -> Vec<u8> {
     match kind {
-        Kind::Tcp => dice.stream(alloc, epoch),
-        Kind::Http => dice.request(alloc),
+        Kind::Tcp => dice.stream(rt, alloc, epoch),
+        Kind::Http => dice.request(rt, alloc),
     }
 }
 
-fn callers_of(alloc: Global, dice: &mut Dice, epoch: u64) -> Result<Vec<(Kind, MemConn)>, Memory> {
+fn callers_of(rt: &impl Abort, alloc: Global, dice: &mut Dice, epoch: u64) -> Vec<(Kind, MemConn)> {
     let mut callers = Vec::new(alloc);
-    add_callers(alloc, &mut callers, dice, epoch)?;
-    Ok(callers)
-}
-
-fn add_callers(
-    alloc: Global,
-    callers: &mut Vec<(Kind, MemConn)>,
-    dice: &mut Dice,
-    epoch: u64,
-) -> Result<(), Memory> {
     for _ in 0..CALLERS {
-        callers.push(caller_of(alloc, dice, epoch)?)?;
+        let caller = caller_of(rt, alloc, dice, epoch);
+        callers.push(caller).expect(rt, "memory");
     }
-    Ok(())
+    callers
 }
 
 fn given_by(
+    rt: &impl Abort,
     alloc: Global,
     seed: &mut Seed,
     epoch: u64,
     files: &[NamedFile],
-) -> Result<Given, Memory> {
-    let callers = callers_of(alloc, &mut seed.dice, epoch)?;
-    let folder = seed_folder(alloc, seed, files)?;
-    let readings = seed.dice.readings(alloc)?;
-    let words = words_of(alloc, seed.setting.words)?;
-    Ok(Given {
-        words,
-        callers,
-        folder,
-        readings,
+) -> Given {
+    Given {
+        callers: callers_of(rt, alloc, &mut seed.dice, epoch),
+        folder: seed_folder(rt, alloc, seed, files),
+        readings: seed.dice.readings(rt, alloc),
+        words: words_of(rt, alloc, seed.setting.words),
         fails: NONE_FAILS,
-    })
+    }
 }
 
 // A folder with these files, which fails where a seed's does.
-fn seed_folder(alloc: Global, seed: &mut Seed, files: &[NamedFile]) -> Result<MemFolder, Memory> {
+fn seed_folder(rt: &impl Abort, alloc: Global, seed: &mut Seed, files: &[NamedFile]) -> MemFolder {
     let fails = if seed.fails {
-        seed.dice.faults(alloc)?
+        seed.dice.faults(rt, alloc)
     } else {
         Vec::new(alloc)
     };
-    folder_of(alloc, files, fails)
+    folder_of(rt, alloc, files, fails)
 }
 
 // What is wrong with a run of a seed over these files. Then they are those that it left.
-fn run_wrong<R: Wait>(
+fn run_wrong<R: Abort + Wait>(
     rt: &R,
     alloc: Global,
     seed: &mut Seed,
     epoch: u64,
     files: &mut Vec<NamedFile>,
-) -> Result<Option<&'static str>, Memory> {
-    let given = given_by(alloc, seed, epoch, files)?;
+) -> Option<&'static str> {
+    let given = given_by(rt, alloc, seed, epoch, files);
     let began = given.readings.first().copied().unwrap_or(0);
-    let outcome = run_with(rt, alloc, given)?;
-    outcome_wrong(alloc, seed, began, files, outcome)
+    let outcome = run_with(rt, alloc, given);
+    outcome_wrong(rt, alloc, seed, began, files, outcome)
 }
 
 // What is wrong with what a run of a seed over these files came to. Then they are those that it left.
 fn outcome_wrong(
+    rt: &impl Abort,
     alloc: Global,
     seed: &Seed,
     began: u64,
     files: &mut Vec<NamedFile>,
     outcome: Outcome,
-) -> Result<Option<&'static str>, Memory> {
-    let (shown, judged) = seen(alloc, seed, began, files, &outcome)?;
-    *files = outcome.leave(alloc)?;
-    if shown.is_some() {
-        return Ok(shown);
-    }
-    left_wrong(alloc, &judged, files)
-}
-
-// What is wrong with what a run of a seed over these files showed, and what it noted, as it is judged.
-fn seen(
-    alloc: Global,
-    seed: &Seed,
-    began: u64,
-    files: &[NamedFile],
-    outcome: &Outcome,
-) -> Result<(Option<&'static str>, Judged), Memory> {
-    let options = options_of(alloc, seed.setting)?;
-    let shown = shown_wrong(alloc, &options, seed, began, outcome)?;
-    let judged = judge(alloc, &options, began, files, outcome)?;
-    Ok((shown, judged))
+) -> Option<&'static str> {
+    let options = options_of(rt, alloc, seed.setting);
+    let shown = shown_wrong(rt, alloc, &options, seed, began, &outcome);
+    let noted = noted_wrong(rt, alloc, &options, began, files, outcome);
+    drop(options);
+    shown.or(noted)
 }
 
 // What is wrong with the status of a run of a seed, or with its callers.
 fn shown_wrong(
+    rt: &impl Abort,
     alloc: Global,
     options: &Options,
     seed: &Seed,
     began: u64,
     outcome: &Outcome,
-) -> Result<Option<&'static str>, Memory>
+) -> Option<&'static str>
     requires { IsInRange options.now }
 {
     if !is_status(seed, outcome.status) {
-        return Ok(Some("the status"));
+        return Some("the status");
     }
     let served = if outcome.has_opened() {
         served_in(outcome.entries())
@@ -204,14 +176,14 @@ fn shown_wrong(
         0
     };
     if outcome.count() as u64 != served {
-        return Ok(Some("how many are handed back"));
+        return Some("how many are handed back");
     }
     for place in 0..outcome.count() {
-        if !is_served(alloc, options, began, outcome, place, &ENDINGS)? {
-            return Ok(Some("a conversation or an exchange"));
+        if !is_served(rt, alloc, options, began, outcome, place, &ENDINGS) {
+            return Some("a conversation or an exchange");
         }
     }
-    Ok(None)
+    None
 }
 
 // How many callers are served: none behind one that stops the daemon.
@@ -229,61 +201,41 @@ fn is_status(seed: &Seed, status: u8) -> bool {
     status == 0 || seed.fails && (status == 2 || status == 3)
 }
 
-// What is wrong with what a run noted, or with the files that it left.
-fn left_wrong(
-    alloc: Global,
-    judged: &Judged,
-    files: &[NamedFile],
-) -> Result<Option<&'static str>, Memory> {
-    if judged.wrong.is_some() {
-        return Ok(judged.wrong);
-    }
-    if !judged.is_kept(alloc, files)? {
-        return Ok(Some("something else is kept"));
-    }
-    Ok(None)
-}
-
 // What is wrong with the runs of a seed.
-fn seed_wrong<R: Wait>(rt: &R, alloc: Global, number: u64) -> Result<Option<&'static str>, Memory> {
+fn seed_wrong<R: Abort + Wait>(rt: &R, alloc: Global, number: u64) -> Option<&'static str> {
     let mut seed = seed_of(number);
     let mut files = Vec::new(alloc);
     runs_wrong(rt, alloc, &mut seed, &mut files)
 }
 
 // What is wrong with the runs of a seed over these files, one after another.
-fn runs_wrong<R: Wait>(
+fn runs_wrong<R: Abort + Wait>(
     rt: &R,
     alloc: Global,
     seed: &mut Seed,
     files: &mut Vec<NamedFile>,
-) -> Result<Option<&'static str>, Memory> {
+) -> Option<&'static str> {
     for epoch in 1..3 {
-        let wrong = run_wrong(rt, alloc, seed, epoch, files)?;
+        let wrong = run_wrong(rt, alloc, seed, epoch, files);
         if wrong.is_some() {
-            return Ok(wrong);
+            return wrong;
         }
     }
-    Ok(None)
+    None
 }
 
-// The same, begun once more where it is wrong, so that a seed holds too where one allocation fails.
-fn seed_wrong_at_last<R: Wait>(
-    rt: &R,
-    alloc: Global,
-    number: u64,
-) -> Result<Option<&'static str>, Memory> {
-    if let Ok(None) = seed_wrong(rt, alloc, number) {
-        return Ok(None);
+// The same, begun once more where it is wrong, so that a seed holds too where one allocation of the daemon's fails.
+fn seed_wrong_at_last<R: Abort + Wait>(rt: &R, alloc: Global, number: u64) -> Option<&'static str> {
+    if seed_wrong(rt, alloc, number).is_none() {
+        return None;
     }
     seed_wrong(rt, alloc, number)
 }
 
 #[test]
-fn random_runs(rt: HostRuntime) -> Result<(), Fail> {
+fn random_runs(rt: HostRuntime) {
     for number in 1..SEEDS + 1 {
-        let wrong = seed_wrong_at_last(&rt, rt.alloc(), number)?;
+        let wrong = seed_wrong_at_last(&rt, rt.alloc(), number);
         assert!(rt; wrong.is_none(), "seed {number}: {}", wrong.unwrap_or(""));
     }
-    Ok(())
 }

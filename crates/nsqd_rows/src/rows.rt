@@ -4,18 +4,18 @@ ghost use Rattle.nsq_base.specs.Options.{IsInRange};
 
 use crate::files::{File, add_files, bytes_of, folder_of};
 use crate::hosts::{Given, HostFails, NONE_FAILS, Outcome, run_with};
-use crate::judged::{Judged, is_served, judge};
+use crate::judged::{is_served, noted_wrong};
 use crate::setting::{DEFAULTS, Setting, options_of, words_of};
 use crate::tables::tables;
 use crate::texts::same;
 use broker_history::Ended;
-use nsq_base::{Body, Memory, Options};
+use nsq_base::{Body, Options};
 use nsq_fakes::{Failing, MemConn, Piece};
 use nsq_outside::Kind;
 use queue_plain::NamedFile;
 use std::alloc::Global;
+use std::process::Abort;
 use std::sync::Wait;
-use std::test::Fail;
 
 /// More than the bytes of any piece.
 pub const WHOLE: usize = 1 << 24;
@@ -108,72 +108,52 @@ pub struct Row {
     pub runs: &'static [Run],
 }
 
-fn readings_of(alloc: Global, clock: Shows) -> Result<Vec<u64>, Memory> {
+fn readings_of(rt: &impl Abort, alloc: Global, clock: Shows) -> Vec<u64> {
     let mut readings = Vec::new(alloc);
     match clock {
-        Shows::These(moments) => add_moments(&mut readings, moments)?,
-        Shows::Rises(step) => add_readings(&mut readings, 0, step, READINGS)?,
+        Shows::These(moments) => add_moments(rt, &mut readings, moments),
+        Shows::Rises(step) => add_readings(rt, &mut readings, 0, step, READINGS),
     }
-    Ok(readings)
+    readings
 }
 
 // Adds each of these moments so many times.
-fn add_moments(readings: &mut Vec<u64>, moments: &[(u64, u32)]) -> Result<(), Memory> {
+fn add_moments(rt: &impl Abort, readings: &mut Vec<u64>, moments: &[(u64, u32)]) {
     for (moment, count) in moments {
-        add_readings(readings, *moment, 0, u64::from(*count))?;
+        add_readings(rt, readings, *moment, 0, u64::from(*count));
     }
-    Ok(())
 }
 
 // Adds so many readings, the first of this moment, each so much later than the last.
-fn add_readings(readings: &mut Vec<u64>, moment: u64, step: u64, count: u64) -> Result<(), Memory> {
+fn add_readings(rt: &impl Abort, readings: &mut Vec<u64>, moment: u64, step: u64, count: u64) {
     for number in 0..count {
-        readings.push(moment.wrapping_add(step.wrapping_mul(number)))?;
+        readings
+            .push(moment.wrapping_add(step.wrapping_mul(number)))
+            .expect(rt, "memory");
     }
-    Ok(())
 }
 
-fn callers_of(alloc: Global, run: &Run) -> Result<Vec<(Kind, MemConn)>, Memory> {
+fn callers_of(rt: &impl Abort, alloc: Global, run: &Run) -> Vec<(Kind, MemConn)> {
     let mut callers = Vec::new(alloc);
-    add_callers(alloc, &mut callers, run)?;
-    Ok(callers)
-}
-
-fn add_callers(alloc: Global, callers: &mut Vec<(Kind, MemConn)>, run: &Run) -> Result<(), Memory> {
     for caller in run.callers {
-        let conn = conn_of(alloc, caller.sends, run.size)?;
-        callers.push((caller.kind, conn))?;
+        let conn = conn_of(rt, alloc, caller.sends, run.size);
+        callers.push((caller.kind, conn)).expect(rt, "memory");
     }
-    Ok(())
+    callers
 }
 
 // A connection from which this comes, so many bytes at a time.
-fn conn_of(alloc: Global, sends: &[&[u8]], size: usize) -> Result<MemConn, Memory> {
+fn conn_of(rt: &impl Abort, alloc: Global, sends: &[&[u8]], size: usize) -> MemConn {
     let mut pieces = Vec::new(alloc);
-    add_all_pieces(alloc, &mut pieces, sends, size)?;
-    MemConn::new(alloc, pieces, Vec::new(alloc), Vec::new(alloc))
-}
-
-fn add_all_pieces(
-    alloc: Global,
-    pieces: &mut Vec<Piece>,
-    sends: &[&[u8]],
-    size: usize,
-) -> Result<(), Memory> {
     for bytes in sends {
-        add_pieces(alloc, pieces, bytes, size)?;
+        add_pieces(rt, alloc, &mut pieces, bytes, size);
     }
-    Ok(())
+    MemConn::new(alloc, pieces, Vec::new(alloc), Vec::new(alloc)).expect(rt, "memory")
 }
 
-fn add_pieces(
-    alloc: Global,
-    pieces: &mut Vec<Piece>,
-    bytes: &[u8],
-    size: usize,
-) -> Result<(), Memory> {
+fn add_pieces(rt: &impl Abort, alloc: Global, pieces: &mut Vec<Piece>, bytes: &[u8], size: usize) {
     if bytes.is_empty() {
-        pieces.push(Piece::Nothing)?;
+        pieces.push(Piece::Nothing).expect(rt, "memory");
     }
     let mut rest = bytes;
     for _ in 0..bytes.len() {
@@ -181,112 +161,98 @@ fn add_pieces(
             break;
         }
         let (piece, after) = rest.split_at(size.max(1).min(rest.len()));
-        pieces.push(Piece::Bytes(Body::copy(alloc, piece)?))?;
+        let piece = Body::copy(alloc, piece).expect(rt, "memory");
+        pieces.push(Piece::Bytes(piece)).expect(rt, "memory");
         rest = after;
     }
-    Ok(())
 }
 
-fn given_by(alloc: Global, run: &Run, files: &[NamedFile]) -> Result<Given, Memory> {
-    let folder = folder_of(alloc, files, Vec::from_slice(alloc, run.fails)?)?;
-    let callers = callers_of(alloc, run)?;
-    let readings = readings_of(alloc, run.clock)?;
-    let words = words_of(alloc, run.setting.words)?;
-    Ok(Given {
-        words,
-        callers,
-        folder,
-        readings,
+fn given_by(rt: &impl Abort, alloc: Global, run: &Run, files: &[NamedFile]) -> Given {
+    let fails = Vec::from_slice(alloc, run.fails).expect(rt, "memory");
+    Given {
+        words: words_of(rt, alloc, run.setting.words),
+        callers: callers_of(rt, alloc, run),
+        folder: folder_of(rt, alloc, files, fails),
+        readings: readings_of(rt, alloc, run.clock),
         fails: run.host_fails,
-    })
+    }
 }
 
 // What differs in a row; nothing where it holds.
-fn differs<R: Wait>(rt: &R, alloc: Global, row: &Row) -> Result<Option<&'static str>, Memory> {
+fn differs<R: Abort + Wait>(rt: &R, alloc: Global, row: &Row) -> Option<&'static str> {
     let mut files = Vec::new(alloc);
     runs_differ(rt, alloc, row.runs, &mut files)
 }
 
 // What differs in runs over these files, one after another.
-fn runs_differ<R: Wait>(
+fn runs_differ<R: Abort + Wait>(
     rt: &R,
     alloc: Global,
     runs: &[Run],
     files: &mut Vec<NamedFile>,
-) -> Result<Option<&'static str>, Memory> {
+) -> Option<&'static str> {
     for run in runs {
-        let wrong = run_differs(rt, alloc, run, files)?;
+        let wrong = run_differs(rt, alloc, run, files);
         if wrong.is_some() {
-            return Ok(wrong);
+            return wrong;
         }
     }
-    Ok(None)
+    None
 }
 
 // What differs in a run over these files. Then they are those that it left.
-fn run_differs<R: Wait>(
+fn run_differs<R: Abort + Wait>(
     rt: &R,
     alloc: Global,
     run: &Run,
     files: &mut Vec<NamedFile>,
-) -> Result<Option<&'static str>, Memory> {
-    add_files(alloc, files, run.files)?;
-    let given = given_by(alloc, run, files)?;
-    let outcome = run_with(rt, alloc, given)?;
-    outcome_differs(alloc, run, files, outcome)
+) -> Option<&'static str> {
+    add_files(rt, alloc, files, run.files);
+    let given = given_by(rt, alloc, run, files);
+    let outcome = run_with(rt, alloc, given);
+    outcome_differs(rt, alloc, run, files, outcome)
 }
 
 // What differs in what a run over these files came to. Then they are those that it left.
 fn outcome_differs(
+    rt: &impl Abort,
     alloc: Global,
     run: &Run,
     files: &mut Vec<NamedFile>,
     outcome: Outcome,
-) -> Result<Option<&'static str>, Memory> {
-    let (shown, judged) = seen(alloc, run, files, &outcome)?;
-    *files = outcome.leave(alloc)?;
-    if shown.is_some() {
-        return Ok(shown);
-    }
-    left_differs(alloc, run, &judged, files)
-}
-
-// What differs in what a run over these files showed, and what it noted, as it is judged.
-fn seen(
-    alloc: Global,
-    run: &Run,
-    files: &[NamedFile],
-    outcome: &Outcome,
-) -> Result<(Option<&'static str>, Judged), Memory> {
-    let options = options_of(alloc, run.setting)?;
-    let shown = shown_differs(alloc, &options, run, outcome)?;
-    let judged = judge(alloc, &options, began(run.clock), files, outcome)?;
-    Ok((shown, judged))
+) -> Option<&'static str> {
+    let options = options_of(rt, alloc, run.setting);
+    let shown = shown_differs(rt, alloc, &options, run, &outcome);
+    let noted = noted_wrong(rt, alloc, &options, began(run.clock), files, outcome);
+    drop(options);
+    shown.or(noted).or(leaves_differ(run, files))
 }
 
 // What differs in what a run showed.
 fn shown_differs(
+    rt: &impl Abort,
     alloc: Global,
     options: &Options,
     run: &Run,
     outcome: &Outcome,
-) -> Result<Option<&'static str>, Memory>
+) -> Option<&'static str>
     requires { IsInRange options.now }
 {
     if outcome.status != run.status {
-        return Ok(Some("the status"));
+        return Some("the status");
     }
     if !same(outcome.line(), run.line) || outcome.lines() != usize::from(!run.line.is_empty()) {
-        return Ok(Some("the line"));
+        return Some("the line");
     }
     if !same(outcome.printed(), run.printed) {
-        return Ok(Some("what is printed"));
+        return Some("what is printed");
     }
     let count = run.callers.len().saturating_sub(run.behind);
     if outcome.count() != count {
-        return Ok(Some("how many are handed back"));
+        return Some("how many are handed back");
     }
     callers_differ(
+        rt,
         alloc,
         options,
         began(run.clock),
@@ -297,23 +263,24 @@ fn shown_differs(
 
 // What differs in the callers that are handed back.
 fn callers_differ(
+    rt: &impl Abort,
     alloc: Global,
     options: &Options,
     began: u64,
     callers: &[Caller],
     outcome: &Outcome,
-) -> Result<Option<&'static str>, Memory>
+) -> Option<&'static str>
     requires { IsInRange options.now }
 {
     for (place, caller) in callers.iter().enumerate() {
         if !has_got(outcome, place, caller.gets) {
-            return Ok(Some("what a caller gets"));
+            return Some("what a caller gets");
         }
-        if !is_served(alloc, options, began, outcome, place, &[caller.ended])? {
-            return Ok(Some("a conversation or an exchange"));
+        if !is_served(rt, alloc, options, began, outcome, place, &[caller.ended]) {
+            return Some("a conversation or an exchange");
         }
     }
-    Ok(None)
+    None
 }
 
 // Whether the caller at this place got these frames, or these parts of an answer.
@@ -339,45 +306,37 @@ fn began(clock: Shows) -> u64 {
     }
 }
 
-// What differs in what was noted, and in the files that were left.
-fn left_differs(
-    alloc: Global,
-    run: &Run,
-    judged: &Judged,
-    files: &[NamedFile],
-) -> Result<Option<&'static str>, Memory> {
-    if judged.wrong.is_some() {
-        return Ok(judged.wrong);
-    }
-    if !judged.is_kept(alloc, files)? {
-        return Ok(Some("something else is kept"));
-    }
+// What differs in the files that were left.
+fn leaves_differ(run: &Run, files: &[NamedFile]) -> Option<&'static str> {
     for (name, bytes) in run.leaves {
-        if bytes_of(files, name) != *bytes {
-            return Ok(Some(name));
+        if !is_left(files, name, *bytes) {
+            return Some(name);
         }
     }
-    Ok(None)
+    None
 }
 
-// What differs in a row. One that doesn't hold begins once more; so the rows hold too where one allocation fails, whichever it is:
-// `rt try --test --fail-alloc N`.
-fn differs_at_last<R: Wait>(
-    rt: &R,
-    alloc: Global,
-    row: &Row,
-) -> Result<Option<&'static str>, Memory> {
-    if let Ok(None) = differs(rt, alloc, row) {
-        return Ok(None);
+// Whether the file of this name has these bytes, or isn't there.
+fn is_left(files: &[NamedFile], name: &str, bytes: Option<&[u8]>) -> bool {
+    match (bytes_of(files, name), bytes) {
+        (Some(found), Some(bytes)) => same(found, bytes),
+        (found, bytes) => found.is_none() && bytes.is_none(),
+    }
+}
+
+// What differs in a row. One that doesn't hold begins once more, so that it holds too where one allocation of the daemon's fails.
+fn differs_at_last<R: Abort + Wait>(rt: &R, alloc: Global, row: &Row) -> Option<&'static str> {
+    if differs(rt, alloc, row).is_none() {
+        return None;
     }
     differs(rt, alloc, row)
 }
 
 #[test]
-fn rows(rt: HostRuntime) -> Result<(), Fail> {
+fn rows(rt: HostRuntime) {
     for table in &tables() {
         for row in *table {
-            let differs = differs_at_last(&rt, rt.alloc(), row)?;
+            let differs = differs_at_last(&rt, rt.alloc(), row);
             assert!(rt;
                 differs.is_none(),
                 "{}: {}",
@@ -386,5 +345,4 @@ fn rows(rt: HostRuntime) -> Result<(), Fail> {
             );
         }
     }
-    Ok(())
 }

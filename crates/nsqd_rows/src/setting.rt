@@ -1,10 +1,10 @@
 //! The options of a run.
 
-ghost use Rattle.std.specs.Prelude.{IfOk};
 ghost use Rattle.nsq_base.specs.Options.{IsInRange};
 
-use nsq_base::{Memory, Options};
+use nsq_base::Options;
 use std::alloc::Global;
+use std::process::Abort;
 
 pub const SECOND: u64 = 1_000_000_000;
 
@@ -35,27 +35,32 @@ pub const DEFAULTS: Setting = Setting {
 };
 
 /// The options of a setting.
-pub fn options_of(alloc: Global, setting: Setting) -> Result<Options, Memory>
-    ensures { IfOk result IsInRange }
+pub fn options_of(rt: &impl Abort, alloc: Global, setting: Setting) -> Options
+    ensures { IsInRange result }
 {
-    let mut options = Options::defaults(alloc)?;
+    let mut options = Options::defaults(alloc).expect(rt, "memory");
     options.mem_queue_size = setting.memory;
     options.msg_timeout = setting.timeout;
     options.sync_timeout = setting.unsaved;
     options.http_stop = setting.stops;
-    if options.in_range() {
-        Ok(options)
-    } else {
-        Err(Memory)
+    if !options.in_range() {
+        panic!(rt; "options that aren't in range");
     }
+    options
 }
 
 /// The words of a command line: the program's name, and these.
-pub fn words_of(alloc: Global, further: &[&str]) -> Result<Vec<String>, Memory> {
+pub fn words_of(rt: &impl Abort, alloc: Global, further: &[&str]) -> Vec<String> {
     let mut words = Vec::new(alloc);
-    words.push(String::from_str(alloc, "nsqd")?)?;
+    push_word(rt, alloc, &mut words, "nsqd");
     for word in further {
-        words.push(String::from_str(alloc, word)?)?;
+        push_word(rt, alloc, &mut words, word);
     }
-    Ok(words)
+    words
+}
+
+/// Adds a word.
+pub fn push_word(rt: &impl Abort, alloc: Global, words: &mut Vec<String>, word: &str) {
+    let word = String::from_str(alloc, word).expect(rt, "memory");
+    words.push(word).expect(rt, "memory");
 }

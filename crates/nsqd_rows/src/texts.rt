@@ -1,6 +1,4 @@
-//! Bytes that several tables expect, and small things that are done with bytes.
-
-use nsq_base::Memory;
+//! Bytes that several tables expect, and whether bytes are the same.
 
 /// The reply of a command that is carried out.
 pub const OK: &[u8] = b"\0\0\0\x06\0\0\0\0OK";
@@ -62,14 +60,7 @@ pub const HTTP_TOO_BIG: &[u8] =
 pub const HTTP_DISK_FAULT: &[u8] =
     b"HTTP/1.1 500 Internal Server Error\r\nContent-Type: application/json; charset=utf-8\r\nContent-Length: 24\r\nConnection: close\r\n\r\n{\"message\":\"DISK_FAULT\"}";
 
+/// Whether the bytes are the same.
 pub fn same(one: &[u8], other: &[u8]) -> bool {
     one == other
-}
-
-/// Adds texts, one behind another.
-pub fn put_each(out: &mut Vec<u8>, texts: &[&[u8]]) -> Result<(), Memory> {
-    for text in texts {
-        out.extend_from_slice(text)?;
-    }
-    Ok(())
 }

@@ -3,14 +3,15 @@
 
 ghost use Rattle.std.specs.Prelude.{◌≡◌, ◌≤◌};
 
-use crate::plain::finds;
+use crate::plain::found;
 use crate::same;
-use crate::script::{ROLLING, folder_of};
+use crate::script::{ROLLING, empties, folder_of, let_folder_go, let_go, syncs};
 use disk_queue::{Deleted, Emptied, Put, Queue, Sync, Take};
-use nsq_base::{Bodies, Body, Memory};
+use nsq_base::Bodies;
 use nsq_fakes::{Failing, FolderCall, MemFolder};
+use queue_plain::Found;
 use std::alloc::Global;
-use std::test::Fail;
+use std::process::Abort;
 
 // Calls of a new queue, of which every call of the folder in turn fails.
 struct Trial {
@@ -90,28 +91,31 @@ struct Letters {
 }
 
 // Whether all is right where the call of the folder with that number fails.
-fn holds(alloc: Global, trial: &Trial, failing: u64) -> Result<bool, Memory> {
+fn holds(rt: &impl Abort, alloc: Global, trial: &Trial, failing: u64) -> bool {
     let fails = [Failing {
         call: FolderCall::Any,
         from: failing,
         to: failing.saturating_add(1),
     }];
-    let mut folder = folder_of(alloc, &[], &fails)?;
-    let mut queue = Queue::fresh(alloc, "q", ROLLING)?;
+    let mut folder = folder_of(rt, alloc, &[], &fails);
+    let mut queue = Queue::fresh(alloc, "q", ROLLING).expect(rt, "memory");
     let mut letters = Letters {
         first: b'a',
         next: b'a',
     };
     let right = goes(
+        rt,
         alloc,
         &mut queue,
         &mut folder,
         &mut letters,
         trial.moves,
         failing,
-    )?;
+    );
     let ended = ends(queue, &mut folder, &mut letters, trial.deletes, failing);
-    Ok(right && ended && finds_letters(alloc, &folder, &letters)?)
+    let found = right && ended && finds_letters(rt, alloc, &folder, &letters);
+    let_folder_go(folder);
+    found
 }
 
 // Whether the queue's deletion is right, where it is deleted.
@@ -125,40 +129,43 @@ fn ends(
     if deletes {
         delete(queue, folder, letters, failing)
     } else {
+        let_go(queue);
         true
     }
 }
 
 // Makes the moves up to one that goes wrong.
 fn goes(
+    rt: &impl Abort,
     alloc: Global,
     queue: &mut Queue,
     folder: &mut MemFolder,
     letters: &mut Letters,
     moves: &[Move],
     failing: u64,
-) -> Result<bool, Memory>
+) -> bool
     requires least { queue.old.options.least ≤ 40 }
     requires limit { queue.old.options.limit ≤ 60 }
     requires none { queue.old.staged.count ≡ 0 }
 {
     for a_move in moves {
-        if !is_right(alloc, queue, folder, letters, *a_move, failing)? {
-            return Ok(false);
+        if !is_right(rt, alloc, queue, folder, letters, *a_move, failing) {
+            return false;
         }
     }
-    Ok(true)
+    true
 }
 
 // Whether a move's answer is right.
 fn is_right(
+    rt: &impl Abort,
     alloc: Global,
     queue: &mut Queue,
     folder: &mut MemFolder,
     letters: &mut Letters,
     a_move: Move,
     failing: u64,
-) -> Result<bool, Memory>
+) -> bool
     requires least { queue.old.options.least ≤ 40 }
     requires limit { queue.old.options.limit ≤ 60 }
     requires none { queue.old.staged.count ≡ 0 }
@@ -168,16 +175,16 @@ fn is_right(
     match a_move {
         Move::Put => {
             put(queue, folder, letters);
-            Ok(true)
+            true
         }
-        Move::Take => Ok(take(queue, folder, letters)),
+        Move::Take => take(queue, folder, letters),
         Move::Sync => {
-            save(queue, folder);
-            Ok(true)
+            syncs(queue, folder, Sync::Failed);
+            true
         }
-        Move::Save => Ok(save(queue, folder) != Sync::Failed),
-        Move::Empty => empty(alloc, queue, folder, letters, failing),
-        Move::Count => Ok(queue.depth() == letters.next.saturating_sub(letters.first) as u128),
+        Move::Save => !syncs(queue, folder, Sync::Failed),
+        Move::Empty => empty(rt, alloc, queue, folder, letters, failing),
+        Move::Count => queue.depth() == letters.next.saturating_sub(letters.first) as u128,
     }
 }
 
@@ -212,30 +219,24 @@ fn take(queue: &mut Queue, folder: &mut MemFolder, letters: &mut Letters) -> boo
     }
 }
 
-fn save(queue: &mut Queue, folder: &mut MemFolder) -> Sync
-    ensures options { queue.new.options ≡ queue.old.options }
-    ensures staged { queue.new.staged ≡ queue.old.staged }
-{
-    queue.sync(folder)
-}
-
 // Once the list is emptied an opening finds nothing.
 fn empty(
+    rt: &impl Abort,
     alloc: Global,
     queue: &mut Queue,
     folder: &mut MemFolder,
     letters: &mut Letters,
     failing: u64,
-) -> Result<bool, Memory>
+) -> bool
     ensures options { queue.new.options ≡ queue.old.options }
     ensures staged { queue.new.staged ≡ queue.old.staged }
 {
     let before = folder.called().len() as u64;
-    match queue.empty(folder) {
-        Emptied::Done => letters.first = letters.next,
-        Emptied::Fault => return Ok(true),
+    if !empties(queue, folder, Emptied::Done) {
+        return true;
     }
-    Ok(may_be_done(folder, before, failing) && finds_letters(alloc, folder, letters)?)
+    letters.first = letters.next;
+    may_be_done(folder, before, failing) && finds_letters(rt, alloc, folder, letters)
 }
 
 // Whether the call that fails, where it came behind the first so many, is a removal.
@@ -259,32 +260,38 @@ fn delete(queue: Queue, folder: &mut MemFolder, letters: &mut Letters, failing: 
         Deleted::Fault(kept) => {
             let mut kept = kept;
             kept.sync(folder);
+            let_go(kept);
             true
         }
     }
 }
 
-// Whether an opening finds these letters.
-fn finds_letters(alloc: Global, folder: &MemFolder, letters: &Letters) -> Result<bool, Memory> {
-    let mut expected = Bodies::new(alloc);
-    push_letters(alloc, letters, &mut expected)?;
-    finds(alloc, folder, &expected)
+// Whether an opening finds these letters, and no bad file.
+fn finds_letters(rt: &impl Abort, alloc: Global, folder: &MemFolder, letters: &Letters) -> bool {
+    match found(rt, alloc, folder, 26) {
+        Found::BadMeta => false,
+        Found::Records(listing) => listing.bad.is_empty() && are(&listing.bodies, letters),
+    }
 }
 
-fn push_letters(alloc: Global, letters: &Letters, bodies: &mut Bodies) -> Result<(), Memory> {
+// Whether these are the letters' records, one by one.
+fn are(found: &Bodies, letters: &Letters) -> bool {
+    let mut place = 0;
     for letter in letters.first..letters.next {
-        bodies.push(Body::copy(alloc, &[letter; 40])?)?;
+        if place >= found.count() || !same(found.get(place).bytes(), &[letter; 40]) {
+            return false;
+        }
+        place += 1;
     }
-    Ok(())
+    place == found.count()
 }
 
 #[test]
-fn rows(rt: HostRuntime) -> Result<(), Fail> {
+fn rows(rt: HostRuntime) {
     for row in &TRIALS {
         for failing in 0..row.calls {
-            let holds = holds(rt.alloc(), row, failing)?;
+            let holds = holds(&rt, rt.alloc(), row, failing);
             assert!(rt; holds, "{}: call {failing} fails", row.name);
         }
     }
-    Ok(())
 }

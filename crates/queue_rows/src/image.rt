@@ -1,19 +1,12 @@
 //! What queue files are called, what their bytes are, and what the plain program finds in them.
 
-use crate::plain::copy_file;
+use crate::plain::{are, copied};
 use crate::same;
-use nsq_base::{Bodies, Memory};
+use crate::script::File;
 use queue_image::{Positions, file_names, laws, read_meta};
-use queue_plain::{Found, NamedFile, Row, found_queue, records_of};
+use queue_plain::{Found, Row, found_queue, records_of};
 use std::alloc::Global;
-use std::test::Fail;
-
-// A file of a folder.
-#[derive(Clone, Copy)]
-struct File {
-    name: &'static str,
-    bytes: &'static [u8],
-}
+use std::process::Abort;
 
 // What is found of a queue among files.
 struct Finding {
@@ -28,7 +21,7 @@ struct Finding {
     bad: &'static [u64],
 }
 
-static FINDINGS_1: [Finding; 3] = [
+static FINDINGS: [Finding; 7] = [
     Finding {
         name: "three records in two files",
         files: &[
@@ -92,9 +85,6 @@ static FINDINGS_1: [Finding; 3] = [
         bodies: Some(&[]),
         bad: &[],
     },
-];
-
-static FINDINGS_2: [Finding; 4] = [
     Finding {
         name: "three messages of a channel",
         files: &[
@@ -158,43 +148,8 @@ static FINDINGS_2: [Finding; 4] = [
     },
 ];
 
-fn findings_1() -> &'static [Finding] {
-    &FINDINGS_1
-}
-
-fn findings_2() -> &'static [Finding] {
-    &FINDINGS_2
-}
-
-fn findings_in_parts() -> [&'static [Finding]; 2] {
-    [findings_1(), findings_2()]
-}
-
-fn copy_all(alloc: Global, files: &[File], all: &mut Vec<NamedFile>) -> Result<(), Memory> {
-    for file in files {
-        copy_file(alloc, file.name, file.bytes, all)?;
-    }
-    Ok(())
-}
-
-// The files as the plain program takes them.
-fn copied(alloc: Global, files: &[File]) -> Result<Vec<NamedFile>, Memory> {
-    let mut all = Vec::new(alloc);
-    copy_all(alloc, files, &mut all)?;
-    Ok(all)
-}
-
-// Whether these are the bodies, one by one.
-fn are(found: &Bodies, expected: &[&[u8]]) -> bool {
-    if found.count() != expected.len() {
-        return false;
-    }
-    for i in 0..expected.len() {
-        if !same(found.get(i).bytes(), expected[i]) {
-            return false;
-        }
-    }
-    true
+fn findings() -> &'static [Finding] {
+    &FINDINGS
 }
 
 // Whether this is what the row says.
@@ -209,10 +164,10 @@ fn is_found(found: &Found, row: &Finding) -> bool {
 }
 
 // Whether the plain program finds what the row says.
-fn finds(alloc: Global, row: &Finding) -> Result<bool, Memory> {
-    let files = copied(alloc, row.files)?;
-    let found = found_queue(alloc, files.as_slice(), row.queue, 26, row.limit)?;
-    Ok(is_found(&found, row))
+fn finds(rt: &impl Abort, alloc: Global, row: &Finding) -> bool {
+    let files = copied(rt, alloc, row.files);
+    let found = found_queue(alloc, files.as_slice(), row.queue, 26, row.limit);
+    is_found(&found.expect(rt, "memory"), row)
 }
 
 // What bytes are as a row of records.
@@ -251,9 +206,9 @@ fn is_split(found: &Row, damage: Option<(usize, u32)>) -> bool {
 }
 
 // Whether the bytes are what the row says. Its records have at most 60 bytes.
-fn splits(alloc: Global, row: &Splitting) -> Result<bool, Memory> {
-    let found = records_of(alloc, row.bytes, row.least, 60)?;
-    Ok(is_split(&found, row.damage))
+fn splits(rt: &impl Abort, alloc: Global, row: &Splitting) -> bool {
+    let found = records_of(alloc, row.bytes, row.least, 60).expect(rt, "memory");
+    is_split(&found, row.damage)
 }
 
 // What a metadata text says.
@@ -390,20 +345,21 @@ static NAMINGS: [Naming; 6] = [
 ];
 
 // What it is called.
-fn name_of(alloc: Global, named: Named) -> Result<String, Memory> {
-    match named {
+fn name_of(rt: &impl Abort, alloc: Global, named: Named) -> String {
+    let name = match named {
         Named::Data(queue, number) => file_names::data_file(alloc, queue, number),
         Named::Metadata(queue) => file_names::meta_file(alloc, queue),
         Named::Temporary(queue) => file_names::meta_temp(alloc, queue),
         Named::Aside(file) => file_names::set_aside(alloc, file),
         Named::Channel(topic, channel) => file_names::channel_queue(alloc, topic, channel),
-    }
+    };
+    name.expect(rt, "memory")
 }
 
 // Whether the row's name is given.
-fn is_named(alloc: Global, row: &Naming) -> Result<bool, Memory> {
-    let name = name_of(alloc, row.of)?;
-    Ok(same(name.as_bytes(), row.is.as_bytes()))
+fn is_named(rt: &impl Abort, alloc: Global, row: &Naming) -> bool {
+    let name = name_of(rt, alloc, row.of);
+    same(name.as_bytes(), row.is.as_bytes())
 }
 
 // The number of a file of the queue `t`.
@@ -436,8 +392,8 @@ static NUMBERINGS: [Numbering; 5] = [
 ];
 
 // Whether the file has the row's number.
-fn is_numbered(alloc: Global, row: &Numbering) -> Result<bool, Memory> {
-    Ok(file_names::number_of(alloc, "t", row.file.as_bytes())? == row.number)
+fn is_numbered(rt: &impl Abort, alloc: Global, row: &Numbering) -> bool {
+    file_names::number_of(alloc, "t", row.file.as_bytes()).expect(rt, "memory") == row.number
 }
 
 // Each law is called once.
@@ -451,48 +407,45 @@ fn call_laws() {
 }
 
 // The name of the first row of files, of records or of metadata that doesn't hold, if any.
-fn wrong_text(alloc: Global) -> Result<Option<&'static str>, Memory> {
-    for part in &findings_in_parts() {
-        for row in *part {
-            if !finds(alloc, row)? {
-                return Ok(Some(row.name));
-            }
+fn wrong_text(rt: &impl Abort, alloc: Global) -> Option<&'static str> {
+    for row in findings() {
+        if !finds(rt, alloc, row) {
+            return Some(row.name);
         }
     }
     for row in &SPLITTINGS {
-        if !splits(alloc, row)? {
-            return Ok(Some(row.name));
+        if !splits(rt, alloc, row) {
+            return Some(row.name);
         }
     }
     for row in &METAS {
         if !says(row) {
-            return Ok(Some(row.name));
+            return Some(row.name);
         }
     }
-    Ok(None)
+    None
 }
 
 // The first row's name or file that doesn't hold, if any.
-fn wrong_name(alloc: Global) -> Result<Option<&'static str>, Memory> {
+fn wrong_name(rt: &impl Abort, alloc: Global) -> Option<&'static str> {
     for row in &NAMINGS {
-        if !is_named(alloc, row)? {
-            return Ok(Some(row.is));
+        if !is_named(rt, alloc, row) {
+            return Some(row.is);
         }
     }
     for row in &NUMBERINGS {
-        if !is_numbered(alloc, row)? {
-            return Ok(Some(row.file));
+        if !is_numbered(rt, alloc, row) {
+            return Some(row.file);
         }
     }
-    Ok(None)
+    None
 }
 
 #[test]
-fn rows(rt: HostRuntime) -> Result<(), Fail> {
-    let text = wrong_text(rt.alloc())?;
+fn rows(rt: HostRuntime) {
+    let text = wrong_text(&rt, rt.alloc());
     assert!(rt; text.is_none(), "{}", text.unwrap_or(""));
-    let name = wrong_name(rt.alloc())?;
+    let name = wrong_name(&rt, rt.alloc());
     assert!(rt; name.is_none(), "{}", name.unwrap_or(""));
     call_laws();
-    Ok(())
 }

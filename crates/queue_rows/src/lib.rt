@@ -1,6 +1,9 @@
-//! Rows of queues on disk, of backlogs and of a topic's queue: worked examples of their files and of their calls, and random calls beside a
-//! plain list. It has nothing but tests.
+//! Rows of queues on disk, of backlogs, of a topic's queue and of a data path: worked examples of their files and of their calls, and
+//! random calls beside a plain list. It has nothing but tests.
 #![tactic(auto)]
+
+#[cfg(test)]
+use std::process::Abort;
 
 #[cfg(test)]
 mod faults;
@@ -11,11 +14,15 @@ mod opening;
 #[cfg(test)]
 mod order;
 #[cfg(test)]
+mod path;
+#[cfg(test)]
 mod plain;
 #[cfg(test)]
 mod reading;
 #[cfg(test)]
 mod script;
+#[cfg(test)]
+mod text;
 #[cfg(test)]
 mod topic;
 #[cfg(test)]
@@ -27,4 +34,10 @@ mod writing;
 #[cfg(test)]
 pub(crate) fn same(one: &[u8], other: &[u8]) -> bool {
     one == other
+}
+
+// Stops the test where the row of that name doesn't hold.
+#[cfg(test)]
+pub(crate) fn check(rt: &impl Abort, holds: bool, name: &str) {
+    assert!(rt; holds, "{}", name);
 }

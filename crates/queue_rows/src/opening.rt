@@ -1,23 +1,17 @@
 //! What an opening makes of a queue's files.
 
-use crate::plain::finds_short;
-use crate::script::{File, Look, Script, Step, folder_of};
-use disk_queue::{Open, Put, Queue, QueueOptions, Sync, Take};
-use nsq_base::{Bodies, Body, Memory};
+use crate::check;
+use crate::plain::{are, found};
+use crate::script::{File, SHORT, folder_of, folder_told, let_folder_go, let_go};
+use crate::text::part;
+use disk_queue::{Open, Queue};
 use nsq_fakes::{Failing, FolderCall, MemFolder};
+use queue_plain::Found;
 use std::alloc::Global;
-use std::test::Fail;
-
-// Records of 1 to 60 bytes.
-const OPTIONS: QueueOptions = QueueOptions {
-    max_bytes: 100,
-    sync_every: 2500,
-    least: 1,
-    limit: 60,
-};
+use std::process::Abort;
 
 // A good file 1, a read one below it, a damaged write file 3, one above it, and no file 2.
-const DAMAGED: [File; 8] = [
+static DAMAGED_FILES: [File; 8] = [
     File {
         name: "q.diskqueue.meta.dat",
         bytes: b"3\n1,0\n3,5\n",
@@ -52,392 +46,158 @@ const DAMAGED: [File; 8] = [
     },
 ];
 
-/// Scripts.
-static ROWS_1: [Script; 1] = [Script {
-    name: "the depth is not trusted",
-    queue: "q",
-    options: OPTIONS,
-    files: &[
-        File {
-            name: "q.diskqueue.meta.dat",
-            bytes: b"7\n0,5\n0,11\n",
-        },
-        File {
-            name: "q.diskqueue.000000.dat",
-            bytes: b"\0\0\0\x01a\0\0\0\x02bc\0\0\0\x01d",
-        },
-    ],
-    fails: &[],
-    steps: &[Step::Open(1)],
-    left: &[
-        Look::Has("q.diskqueue.meta.dat", &[b"1\n0,5\n0,11\n"]),
-        Look::Has("q.diskqueue.000000.dat", &[b"\0\0\0\x01a\0\0\0\x02bc"]),
-    ],
-}];
-
-static ROWS_2: [Script; 1] = [Script {
-    name: "a damaged write file",
-    queue: "q",
-    options: OPTIONS,
-    files: &DAMAGED,
-    fails: &[],
-    steps: &[
-        Step::Open(2),
-        Step::Look(Look::Has("q.diskqueue.meta.dat", &[b"2\n1,0\n4,0\n"])),
-        Step::Look(Look::Absent("q.diskqueue.000000.dat")),
-        Step::Look(Look::Absent("q.diskqueue.000003.dat")),
-        Step::Look(Look::Has("q.diskqueue.000003.dat.bad", &[b"\0\0\0\x02de"])),
-        Step::Look(Look::Has("q.diskqueue.000004.dat.bad", &[b"above"])),
-        Step::Look(Look::Has("q.diskqueue.000005.dat.bad", &[b"kept"])),
-        Step::Look(Look::Has("q:c.diskqueue.000000.dat", &[b"another"])),
-        Step::Look(Look::Has("q.diskqueue.000004.dat", &[b""])),
-        Step::Put(b"f", Put::Stored(Sync::NotDue)),
-    ],
-    left: &[Look::Has("q.diskqueue.000004.dat", &[b"\0\0\0\x01f"])],
-}];
-
-static ROWS_3: [Script; 1] = [Script {
-    name: "a damaged read file",
-    queue: "q",
-    options: OPTIONS,
-    files: &[
-        File {
-            name: "q.diskqueue.meta.dat",
-            bytes: b"9\n1,5\n2,5\n",
-        },
-        File {
-            name: "q.diskqueue.000001.dat",
-            bytes: b"\0\0\0\x01a\0\0\0",
-        },
-        File {
-            name: "q.diskqueue.000002.dat",
-            bytes: b"\0\0\0\x01b\0\0\0\x01c",
-        },
-    ],
-    fails: &[],
-    steps: &[Step::Open(1)],
-    left: &[
-        Look::Has("q.diskqueue.meta.dat", &[b"1\n1,0\n2,5\n"]),
-        Look::Has("q.diskqueue.000001.dat.bad", &[b"\0\0\0\x01a\0\0\0"]),
-        Look::Has("q.diskqueue.000002.dat", &[b"\0\0\0\x01b"]),
-    ],
-}];
-
-static ROWS_4: [Script; 1] = [Script {
-    name: "the last number",
-    queue: "q",
-    options: OPTIONS,
-    files: &[
-        File {
-            name: "q.diskqueue.meta.dat",
-            bytes: b"9\n0,0\n1099511627776,4\n",
-        },
-        File {
-            name: "q.diskqueue.000000.dat",
-            bytes: b"\0\0\0\x01a",
-        },
-        File {
-            name: "q.diskqueue.1099511627776.dat",
-            bytes: b"\0\0\0\x01b",
-        },
-    ],
-    fails: &[],
-    steps: &[Step::Open(1)],
-    left: &[
-        Look::Has("q.diskqueue.meta.dat", &[b"1\n0,0\n1099511627776,0\n"]),
-        Look::Has("q.diskqueue.1099511627776.dat.bad", &[b"\0\0\0\x01b"]),
-        Look::Has("q.diskqueue.1099511627776.dat", &[b""]),
-    ],
-}];
-
-static ROWS_5: [Script; 1] = [Script {
-    name: "without metadata",
-    queue: "q",
-    options: OPTIONS,
-    files: &[
-        File {
-            name: "q.diskqueue.000000.dat",
-            bytes: b"\0\0\0\x01a",
-        },
-        File {
-            name: "q.diskqueue.000007.dat",
-            bytes: b"seven",
-        },
-        File {
-            name: "q:c.diskqueue.000000.dat",
-            bytes: b"another",
-        },
-    ],
-    fails: &[],
-    steps: &[Step::Open(0)],
-    left: &[
-        Look::Has("q.diskqueue.meta.dat", &[b"0\n0,0\n0,0\n"]),
-        Look::Has("q.diskqueue.000000.dat", &[b""]),
-        Look::Has("q.diskqueue.000000.dat.bad", &[b"\0\0\0\x01a"]),
-        Look::Has("q.diskqueue.000007.dat.bad", &[b"seven"]),
-        Look::Absent("q.diskqueue.000007.dat"),
-        Look::Has("q:c.diskqueue.000000.dat", &[b"another"]),
-    ],
-}];
-
-static ROWS_6: [Script; 2] = [
-    Script {
-        name: "an empty list begins at the start of its file",
-        queue: "q",
-        options: OPTIONS,
-        files: &[
-            File {
-                name: "q.diskqueue.meta.dat",
-                bytes: b"4\n3,5\n3,5\n",
-            },
-            File {
-                name: "q.diskqueue.000003.dat",
-                bytes: b"\0\0\0\x01a\0\0",
-            },
-        ],
-        fails: &[],
-        steps: &[Step::Open(0)],
-        left: &[
-            Look::Has("q.diskqueue.meta.dat", &[b"0\n3,0\n3,0\n"]),
-            Look::Has("q.diskqueue.000003.dat", &[b""]),
-            Look::Absent("q.diskqueue.000003.dat.bad"),
-        ],
-    },
-    Script {
-        name: "a great gap is passed over at once",
-        queue: "q",
-        options: OPTIONS,
-        files: &[
-            File {
-                name: "q.diskqueue.meta.dat",
-                bytes: b"0\n0,0\n1099511627776,0\n",
-            },
-            File {
-                name: "q.diskqueue.000005.dat",
-                bytes: b"",
-            },
-        ],
-        fails: &[],
-        steps: &[Step::Open(0)],
-        left: &[
-            Look::Has(
-                "q.diskqueue.meta.dat",
-                &[b"0\n1099511627776,0\n1099511627776,0\n"],
-            ),
-            Look::Absent("q.diskqueue.000005.dat"),
-        ],
-    },
+static ROWS: [&'static str; 8] = [
+    "the depth is not trusted
+        queue: q short
+        files: q.diskqueue.meta.dat is 7/0,5/0,11/; q.diskqueue.000000.dat is size 1+a+size 2+bc+size 1+d
+        fails:
+        steps: open => 1
+        left: q.diskqueue.meta.dat is 1/0,5/0,11/; q.diskqueue.000000.dat is size 1+a+size 2+bc",
+    "a damaged write file
+        queue: q short
+        files: q.diskqueue.meta.dat is 3/1,0/3,5/; q.diskqueue.000000.dat is size 1+z; q.diskqueue.000001.dat is size 1+a+size 2+bc;
+            q.diskqueue.000003.dat is size 2+de; q.diskqueue.000003.dat.bad is old; q.diskqueue.000004.dat is above;
+            q.diskqueue.000005.dat.bad is kept; q:c.diskqueue.000000.dat is another
+        fails:
+        steps: open => 2; look q.diskqueue.meta.dat is 2/1,0/4,0/; look q.diskqueue.000000.dat absent; look q.diskqueue.000003.dat absent;
+            look q.diskqueue.000003.dat.bad is size 2+de; look q.diskqueue.000004.dat.bad is above;
+            look q.diskqueue.000005.dat.bad is kept; look q:c.diskqueue.000000.dat is another; look q.diskqueue.000004.dat empty;
+            put f => stored, not due
+        left: q.diskqueue.000004.dat is size 1+f",
+    "a damaged read file
+        queue: q short
+        files: q.diskqueue.meta.dat is 9/1,5/2,5/; q.diskqueue.000001.dat is size 1+a+zeros 3; q.diskqueue.000002.dat is size 1+b+size 1+c
+        fails:
+        steps: open => 1
+        left: q.diskqueue.meta.dat is 1/1,0/2,5/; q.diskqueue.000001.dat.bad is size 1+a+zeros 3; q.diskqueue.000002.dat is size 1+b",
+    "the last number
+        queue: q short
+        files: q.diskqueue.meta.dat is 9/0,0/1099511627776,4/; q.diskqueue.000000.dat is size 1+a;
+            q.diskqueue.1099511627776.dat is size 1+b
+        fails:
+        steps: open => 1
+        left: q.diskqueue.meta.dat is 1/0,0/1099511627776,0/; q.diskqueue.1099511627776.dat.bad is size 1+b;
+            q.diskqueue.1099511627776.dat empty",
+    "without metadata
+        queue: q short
+        files: q.diskqueue.000000.dat is size 1+a; q.diskqueue.000007.dat is seven; q:c.diskqueue.000000.dat is another
+        fails:
+        steps: open => 0
+        left: q.diskqueue.meta.dat is 0/0,0/0,0/; q.diskqueue.000000.dat empty; q.diskqueue.000000.dat.bad is size 1+a;
+            q.diskqueue.000007.dat.bad is seven; q.diskqueue.000007.dat absent; q:c.diskqueue.000000.dat is another",
+    "an empty list begins at the start of its file
+        queue: q short
+        files: q.diskqueue.meta.dat is 4/3,5/3,5/; q.diskqueue.000003.dat is size 1+a+zeros 2
+        fails:
+        steps: open => 0
+        left: q.diskqueue.meta.dat is 0/3,0/3,0/; q.diskqueue.000003.dat empty; q.diskqueue.000003.dat.bad absent",
+    "a great gap is passed over at once
+        queue: q short
+        files: q.diskqueue.meta.dat is 0/0,0/1099511627776,0/; q.diskqueue.000005.dat empty
+        fails:
+        steps: open => 0
+        left: q.diskqueue.meta.dat is 0/1099511627776,0/1099511627776,0/; q.diskqueue.000005.dat absent",
+    "what was taken is not found
+        queue: q short
+        files: fails:
+        steps: put 40*a => stored, not due; put 40*b => stored, not due; put 40*c => stored, done; take 40*a => got 40, not due;
+            take 40*b => got 40, not due; take 40*c => got 40, done; open => 0
+        left: q.diskqueue.000000.dat absent; q.diskqueue.meta.dat is 0/1,0/1,0/",
 ];
 
-static ROWS_7: [Script; 1] = [Script {
-    name: "what was taken is not found",
-    queue: "q",
-    options: OPTIONS,
-    files: &[],
-    fails: &[],
-    steps: &[
-        Step::Put(&[b'a'; 40], Put::Stored(Sync::NotDue)),
-        Step::Put(&[b'b'; 40], Put::Stored(Sync::NotDue)),
-        Step::Put(&[b'c'; 40], Put::Stored(Sync::Done)),
-        Step::Take(Take::Got(40, Sync::NotDue), &[b'a'; 40]),
-        Step::Take(Take::Got(40, Sync::NotDue), &[b'b'; 40]),
-        Step::Take(Take::Got(40, Sync::Done), &[b'c'; 40]),
-        Step::Open(0),
-    ],
-    left: &[
-        Look::Absent("q.diskqueue.000000.dat"),
-        Look::Has("q.diskqueue.meta.dat", &[b"0\n1,0\n1,0\n"]),
-    ],
-}];
-
-pub fn rows_1() -> &'static [Script] {
-    &ROWS_1
+pub fn scripts() -> &'static [&'static str] {
+    &ROWS
 }
 
-pub fn rows_2() -> &'static [Script] {
-    &ROWS_2
-}
-
-pub fn rows_3() -> &'static [Script] {
-    &ROWS_3
-}
-
-pub fn rows_4() -> &'static [Script] {
-    &ROWS_4
-}
-
-pub fn rows_5() -> &'static [Script] {
-    &ROWS_5
-}
-
-pub fn rows_6() -> &'static [Script] {
-    &ROWS_6
-}
-
-pub fn rows_7() -> &'static [Script] {
-    &ROWS_7
-}
-
-// What an opening answers on a metadata text; None where it makes a queue.
-struct Meta {
-    name: &'static str,
-    text: &'static [u8],
-    answer: Option<Open>,
-}
-
-static METAS: [Meta; 14] = [
-    Meta {
-        name: "nothing",
-        text: b"",
-        answer: Some(Open::BadMeta),
-    },
-    Meta {
-        name: "one position",
-        text: b"1\n0,0\n",
-        answer: Some(Open::BadMeta),
-    },
-    Meta {
-        name: "a letter",
-        text: b"1\n0,x\n0,44\n",
-        answer: Some(Open::BadMeta),
-    },
-    Meta {
-        name: "an open line",
-        text: b"1\n0,0\n0,44",
-        answer: Some(Open::BadMeta),
-    },
-    Meta {
-        name: "a byte more",
-        text: b"1\n0,0\n0,44\nx",
-        answer: Some(Open::BadMeta),
-    },
-    Meta {
-        name: "a read place past the write place",
-        text: b"1\n0,44\n0,43\n",
-        answer: Some(Open::BadMeta),
-    },
-    Meta {
-        name: "a read file past the write file",
-        text: b"1\n1,0\n0,44\n",
-        answer: Some(Open::BadMeta),
-    },
-    Meta {
-        name: "a depth of 41 digits",
-        text: b"00000000000000000000000000000000000000001\n0,0\n0,44\n",
-        answer: Some(Open::BadMeta),
-    },
-    Meta {
-        name: "a place of 41 digits",
-        text: b"1\n0,0\n0,00000000000000000000000000000000000000044\n",
-        answer: Some(Open::BadMeta),
-    },
-    Meta {
-        name: "a place past 2^62",
-        text: b"1\n0,0\n0,4611686018427387905\n",
-        answer: Some(Open::BadMeta),
-    },
-    Meta {
-        name: "a file past 2^40",
-        text: b"1\n0,0\n1099511627777,0\n",
-        answer: Some(Open::BadMeta),
-    },
-    Meta {
-        name: "a sign",
-        text: b"-1\n0,0\n0,44\n",
-        answer: Some(Open::BadMeta),
-    },
-    Meta {
-        name: "300 digits",
-        text: &[b'0'; 300],
-        answer: Some(Open::BadMeta),
-    },
-    Meta {
-        name: "a depth of 40 digits",
-        text: b"0000000000000000000000000000000000000001\n0,0\n0,0\n",
-        answer: None,
-    },
+// Metadata that is good, of which an opening makes a queue, and bad.
+static METAS: [&'static str; 14] = [
+    "nothing: bad, q.diskqueue.meta.dat empty",
+    "one position: bad, q.diskqueue.meta.dat is 1/0,0/",
+    "a letter: bad, q.diskqueue.meta.dat is 1/0,x/0,44/",
+    "an open line: bad, q.diskqueue.meta.dat is 1/0,0/0,44",
+    "a byte more: bad, q.diskqueue.meta.dat is 1/0,0/0,44/x",
+    "a read place past the write place: bad, q.diskqueue.meta.dat is 1/0,44/0,43/",
+    "a read file past the write file: bad, q.diskqueue.meta.dat is 1/1,0/0,44/",
+    "a depth of 41 digits: bad, q.diskqueue.meta.dat is 00000000000000000000000000000000000000001/0,0/0,44/",
+    "a place of 41 digits: bad, q.diskqueue.meta.dat is 1/0,0/0,00000000000000000000000000000000000000044/",
+    "a place past 2^62: bad, q.diskqueue.meta.dat is 1/0,0/0,4611686018427387905/",
+    "a file past 2^40: bad, q.diskqueue.meta.dat is 1/0,0/1099511627777,0/",
+    "a sign: bad, q.diskqueue.meta.dat is -1/0,0/0,44/",
+    "300 digits: bad, q.diskqueue.meta.dat is 300*0",
+    "a depth of 40 digits: good, q.diskqueue.meta.dat is 0000000000000000000000000000000000000001/0,0/0,0/",
 ];
+
+// How many records an opening of the queue `q` finds.
+fn opened(alloc: Global, folder: &mut MemFolder) -> Result<u128, Open> {
+    match Queue::open(alloc, folder, "q", SHORT) {
+        Ok(queue) => {
+            let depth = queue.depth();
+            let_go(queue);
+            Ok(depth)
+        }
+        Err(why) => Err(why),
+    }
+}
 
 // Whether the opening answers what the row says.
-fn answers(alloc: Global, row: &Meta) -> Result<bool, Memory> {
-    let files = [File {
-        name: "q.diskqueue.meta.dat",
-        bytes: row.text,
-    }];
-    let mut folder = folder_of(alloc, &files, &[])?;
-    Ok(match Queue::open(alloc, &mut folder, "q", OPTIONS) {
-        Ok(_queue) => row.answer.is_none(),
-        Err(why) => row.answer == Some(why),
-    })
+fn answers(rt: &impl Abort, alloc: Global, row: &str) -> bool {
+    let (_, rest) = part(rt, row, ": ");
+    let (answer, file) = part(rt, rest, ", ");
+    let mut folder = folder_told(rt, alloc, file, "");
+    let opened = opened(alloc, &mut folder);
+    let_folder_go(folder);
+    match answer {
+        "good" => opened.is_ok(),
+        "bad" => matches!(opened, Err(Open::BadMeta)),
+        _ => panic!(rt; "{} is no answer of an opening", answer),
+    }
 }
-
-// The same, as what functions name.
-static DAMAGED_FILES: [File; 8] = DAMAGED;
 
 // The records of the good ones between the positions.
 static LEFT: [&[u8]; 2] = [b"a", b"bc"];
 
-fn push_left(alloc: Global, left: &mut Bodies) -> Result<(), Memory> {
-    for bytes in &LEFT {
-        left.push(Body::copy(alloc, bytes)?)?;
-    }
-    Ok(())
-}
-
-// Whether an opening fails as the folder does.
-fn fails_to_open(alloc: Global, folder: &mut MemFolder) -> bool {
-    match Queue::open(alloc, folder, "q", OPTIONS) {
-        Err(Open::Fault) => true,
-        _ => false,
+// Whether the plain program finds these, whatever files are bad.
+fn finds_left(rt: &impl Abort, alloc: Global, folder: &MemFolder) -> bool {
+    match found(rt, alloc, folder, 1) {
+        Found::BadMeta => false,
+        Found::Records(listing) => are(&listing.bodies, &LEFT),
     }
 }
 
-// Whether an opening finds two records.
-fn finds_two(alloc: Global, folder: &mut MemFolder) -> bool {
-    match Queue::open(alloc, folder, "q", OPTIONS) {
-        Ok(queue) => queue.depth() == 2,
-        Err(_) => false,
-    }
-}
-
-// Whether the plain program finds these before and after an opening of the files in which one call fails, and after one behind it
-// that opens them.
-fn is_found_again(alloc: Global, folder: &mut MemFolder, left: &Bodies) -> Result<bool, Memory> {
-    if !finds_short(alloc, folder, left)? || !fails_to_open(alloc, folder) {
-        return Ok(false);
-    }
-    if !finds_short(alloc, folder, left)? || !finds_two(alloc, folder) {
-        return Ok(false);
-    }
-    finds_short(alloc, folder, left)
+// Whether the plain program finds what is left before and after an opening of the files in which one call fails, and after one behind
+// it that opens them.
+fn is_found_again(rt: &impl Abort, alloc: Global, folder: &mut MemFolder) -> bool {
+    finds_left(rt, alloc, folder)
+        && matches!(opened(alloc, folder), Err(Open::Fault))
+        && finds_left(rt, alloc, folder)
+        && matches!(opened(alloc, folder), Ok(2))
+        && finds_left(rt, alloc, folder)
 }
 
 // The same of the damaged files, where the call with that number fails.
-fn opens_again(alloc: Global, failing: u64) -> Result<bool, Memory> {
+fn opens_again(rt: &impl Abort, alloc: Global, failing: u64) -> bool {
     let fails = [Failing {
         call: FolderCall::Any,
         from: failing,
         to: failing.saturating_add(1),
     }];
-    let mut folder = folder_of(alloc, &DAMAGED_FILES, &fails)?;
-    let mut left = Bodies::new(alloc);
-    push_left(alloc, &mut left)?;
-    is_found_again(alloc, &mut folder, &left)
+    let mut folder = folder_of(rt, alloc, &DAMAGED_FILES, &fails);
+    let right = is_found_again(rt, alloc, &mut folder);
+    let_folder_go(folder);
+    right
 }
 
 // How many calls the opening of the damaged files makes.
 const CALLS: u64 = 20;
 
 #[test]
-fn rows(rt: HostRuntime) -> Result<(), Fail> {
+fn rows(rt: HostRuntime) {
     let alloc = rt.alloc();
     for row in &METAS {
-        let holds = answers(alloc, row)?;
-        assert!(rt; holds, "{}", row.name);
+        check(&rt, answers(&rt, alloc, row), row);
     }
     for failing in 0..CALLS {
-        let holds = opens_again(alloc, failing)?;
+        let holds = opens_again(&rt, alloc, failing);
         assert!(rt; holds, "call {failing} of an opening fails");
     }
-    Ok(())
 }

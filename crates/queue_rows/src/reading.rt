@@ -1,158 +1,46 @@
 //! Reading, emptying and deleting.
 
-use crate::script::{Look, ROLLING, Script, Step};
-use disk_queue::{Emptied, Peek, Put, Sync, Take};
-use nsq_fakes::{Failing, FolderCall};
-
-/// Scripts.
-static ROWS_1: [Script; 2] = [
-    Script {
-        name: "three are taken",
-        queue: "q",
-        options: ROLLING,
-        files: &[],
-        fails: &[],
-        steps: &[
-            Step::Put(&[b'a'; 40], Put::Stored(Sync::NotDue)),
-            Step::Put(&[b'b'; 40], Put::Stored(Sync::NotDue)),
-            Step::Put(&[b'c'; 40], Put::Stored(Sync::Done)),
-            Step::Take(Take::Got(40, Sync::NotDue), &[b'a'; 40]),
-            Step::Take(Take::Got(40, Sync::NotDue), &[b'b'; 40]),
-            Step::Look(Look::Has(
-                "q.diskqueue.000000.dat",
-                &[b"\0\0\0\x28", &[b'a'; 40], b"\0\0\0\x28", &[b'b'; 40]],
-            )),
-            Step::Take(Take::Got(40, Sync::Done), &[b'c'; 40]),
-            Step::Look(Look::Has("q.diskqueue.meta.dat", &[b"0\n1,44\n1,44\n"])),
-            Step::Look(Look::Absent("q.diskqueue.000000.dat")),
-            Step::Take(Take::Empty, b""),
-        ],
-        left: &[],
-    },
-    Script {
-        name: "a peek leaves the record",
-        queue: "q",
-        options: ROLLING,
-        files: &[],
-        fails: &[],
-        steps: &[
-            Step::Peek(Peek::Empty, b""),
-            Step::Put(&[b'a'; 30], Put::Stored(Sync::NotDue)),
-            Step::Put(&[b'b'; 40], Put::Stored(Sync::NotDue)),
-            Step::Peek(Peek::Got(30), &[b'a'; 30]),
-            Step::Peek(Peek::Got(30), &[b'a'; 30]),
-            Step::Depth(2),
-        ],
-        left: &[],
-    },
+static ROWS: [&'static str; 6] = [
+    "three are taken
+        queue: q rolling
+        files: fails:
+        steps: put 40*a => stored, not due; put 40*b => stored, not due; put 40*c => stored, done; take 40*a => got 40, not due;
+            take 40*b => got 40, not due; look q.diskqueue.000000.dat is size 40+40*a+size 40+40*b; take 40*c => got 40, done;
+            look q.diskqueue.meta.dat is 0/1,44/1,44/; look q.diskqueue.000000.dat absent; take => empty
+        left:",
+    "a peek leaves the record
+        queue: q rolling
+        files: fails:
+        steps: peek => empty; put 30*a => stored, not due; put 40*b => stored, not due; peek 30*a => got 30; peek 30*a => got 30;
+            depth => 2
+        left:",
+    "a damaged file is passed over, and then another
+        queue: q rolling
+        files: fails:
+        steps: put 40*a => stored, not due; put 40*b => stored, not due; put 40*c => stored, done;
+            write q.diskqueue.000000.dat 44 size 99; take 40*a => got 40, not due; take => damaged 0 44 99; take 40*c => got 40, done;
+            put 40*d => stored, not due; cut q.diskqueue.000001.dat 46; take => damaged 1 44 0; take => empty
+        left:",
+    "a read file goes after the save: the third time that names are made durable is in that of the taking
+        queue: q rolling
+        files: fails: SyncNames 2 3
+        steps: put 40*a => stored, not due; put 40*b => stored, not due; put 40*c => stored, done; take 40*a => got 40, not due;
+            take 40*b => got 40, not due; take 40*c => got 40, failed; look q.diskqueue.000000.dat is size 40+40*a+size 40+40*b;
+            look q.diskqueue.meta.dat is 3/0,0/1,44/; sync => done
+        left: q.diskqueue.000000.dat absent",
+    "a failed removal is tried again
+        queue: q rolling
+        files: fails: Remove 0 1
+        steps: put 40*a => stored, not due; put 40*b => stored, not due; put 40*c => stored, done; empty => done;
+            look q.diskqueue.000000.dat is size 40+40*a+size 40+40*b; look q.diskqueue.meta.dat is 0/1,44/1,44/; sync => done
+        left: q.diskqueue.000000.dat absent",
+    "a deleted queue has no file
+        queue: q rolling
+        files: fails:
+        steps: put 40*a => stored, not due; put 40*b => stored, not due; put 40*c => stored, done; delete
+        left: q.diskqueue.000000.dat absent; q.diskqueue.000001.dat absent; q.diskqueue.meta.dat absent",
 ];
 
-static ROWS_2: [Script; 1] = [Script {
-    name: "a damaged file is passed over, and then another",
-    queue: "q",
-    options: ROLLING,
-    files: &[],
-    fails: &[],
-    steps: &[
-        Step::Put(&[b'a'; 40], Put::Stored(Sync::NotDue)),
-        Step::Put(&[b'b'; 40], Put::Stored(Sync::NotDue)),
-        Step::Put(&[b'c'; 40], Put::Stored(Sync::Done)),
-        Step::Write("q.diskqueue.000000.dat", 44, b"\0\0\0\x63"),
-        Step::Take(Take::Got(40, Sync::NotDue), &[b'a'; 40]),
-        Step::Take(Take::Damaged(0, 44, 99), b""),
-        Step::Take(Take::Got(40, Sync::Done), &[b'c'; 40]),
-        Step::Put(&[b'd'; 40], Put::Stored(Sync::NotDue)),
-        Step::Cut("q.diskqueue.000001.dat", 46),
-        Step::Take(Take::Damaged(1, 44, 0), b""),
-        Step::Take(Take::Empty, b""),
-    ],
-    left: &[],
-}];
-
-static ROWS_3: [Script; 1] = [Script {
-    name: "a read file goes after the save: the third time that names are made durable is in that of the taking",
-    queue: "q",
-    options: ROLLING,
-    files: &[],
-    fails: &[Failing {
-        call: FolderCall::SyncNames,
-        from: 2,
-        to: 3,
-    }],
-    steps: &[
-        Step::Put(&[b'a'; 40], Put::Stored(Sync::NotDue)),
-        Step::Put(&[b'b'; 40], Put::Stored(Sync::NotDue)),
-        Step::Put(&[b'c'; 40], Put::Stored(Sync::Done)),
-        Step::Take(Take::Got(40, Sync::NotDue), &[b'a'; 40]),
-        Step::Take(Take::Got(40, Sync::NotDue), &[b'b'; 40]),
-        Step::Take(Take::Got(40, Sync::Failed), &[b'c'; 40]),
-        Step::Look(Look::Has(
-            "q.diskqueue.000000.dat",
-            &[b"\0\0\0\x28", &[b'a'; 40], b"\0\0\0\x28", &[b'b'; 40]],
-        )),
-        Step::Look(Look::Has("q.diskqueue.meta.dat", &[b"3\n0,0\n1,44\n"])),
-        Step::Sync(Sync::Done),
-    ],
-    left: &[Look::Absent("q.diskqueue.000000.dat")],
-}];
-
-static ROWS_4: [Script; 2] = [
-    Script {
-        name: "a failed removal is tried again",
-        queue: "q",
-        options: ROLLING,
-        files: &[],
-        fails: &[Failing {
-            call: FolderCall::Remove,
-            from: 0,
-            to: 1,
-        }],
-        steps: &[
-            Step::Put(&[b'a'; 40], Put::Stored(Sync::NotDue)),
-            Step::Put(&[b'b'; 40], Put::Stored(Sync::NotDue)),
-            Step::Put(&[b'c'; 40], Put::Stored(Sync::Done)),
-            Step::Empty(Emptied::Done),
-            Step::Look(Look::Has(
-                "q.diskqueue.000000.dat",
-                &[b"\0\0\0\x28", &[b'a'; 40], b"\0\0\0\x28", &[b'b'; 40]],
-            )),
-            Step::Look(Look::Has("q.diskqueue.meta.dat", &[b"0\n1,44\n1,44\n"])),
-            Step::Sync(Sync::Done),
-        ],
-        left: &[Look::Absent("q.diskqueue.000000.dat")],
-    },
-    Script {
-        name: "a deleted queue has no file",
-        queue: "q",
-        options: ROLLING,
-        files: &[],
-        fails: &[],
-        steps: &[
-            Step::Put(&[b'a'; 40], Put::Stored(Sync::NotDue)),
-            Step::Put(&[b'b'; 40], Put::Stored(Sync::NotDue)),
-            Step::Put(&[b'c'; 40], Put::Stored(Sync::Done)),
-            Step::Delete,
-        ],
-        left: &[
-            Look::Absent("q.diskqueue.000000.dat"),
-            Look::Absent("q.diskqueue.000001.dat"),
-            Look::Absent("q.diskqueue.meta.dat"),
-        ],
-    },
-];
-
-pub fn rows_1() -> &'static [Script] {
-    &ROWS_1
-}
-
-pub fn rows_2() -> &'static [Script] {
-    &ROWS_2
-}
-
-pub fn rows_3() -> &'static [Script] {
-    &ROWS_3
-}
-
-pub fn rows_4() -> &'static [Script] {
-    &ROWS_4
+pub fn rows() -> &'static [&'static str] {
+    &ROWS
 }

@@ -1,16 +1,24 @@
 //! Backlogs: what their calls answer, where their messages are, and what is left on disk.
+//!
+//! A message's body is a letter. It was sent three times, and is held back for 5 nanoseconds. With `put` one is put, and that becomes of it; with
+//! `put-all` these are put together, and so many are left with the caller. With `take` the first message is drawn and settled, and its letter and
+//! its delay are the answer, or that there is none; with `undo` one is drawn and put back before. `sync`, `empty`, `flush` and `delete` are these
+//! calls; behind a deletion a new backlog is made. With `open` a durable one of that name is opened in the folder, in place of this one, with
+//! a ring for so many. The `depths` are how many are in the ring and how many on disk, and a file is `absent`.
 
-ghost use Rattle.std.specs.Prelude.{◌≡◌, ◌≤◌, All, length, IfOk, OnOk, IsSome, IsTrue};
+ghost use Rattle.std.specs.Prelude.{◌≡◌, ◌≤◌, All, length, IsSome, IsTrue};
 ghost use Rattle.backlog.specs.declared.backlog.Lent.TheVariants.{Nothing};
 ghost use Rattle.backlog.specs.Seen.{SameQueue, FitsLimit};
 
-use crate::same;
+use crate::script::{folder_of, let_folder_go, sync_of};
+use crate::text::{cut, cut_at, fails_of, is_done, letter, number, part};
+use crate::{check, same};
 use backlog::{Backlog, Depths, Drawn, Flushed, Gone, PutAll, PutOne};
-use disk_queue::{Emptied, Open, QueueOptions, Sync};
-use nsq_base::{Body, Memory, MsgId};
-use nsq_fakes::{Failing, FolderCall, MemFolder};
+use disk_queue::{Emptied, QueueOptions};
+use nsq_base::{Body, MsgId};
+use nsq_fakes::MemFolder;
 use std::alloc::Global;
-use std::test::Fail;
+use std::process::Abort;
 use v2_frame::Message;
 
 const OPTIONS: QueueOptions = QueueOptions {
@@ -26,33 +34,10 @@ struct Script {
     backlog: &'static str,
     ring: usize,
     durable: bool,
-    // The calls of the folder that fail.
-    fails: &'static [Failing],
-    steps: &'static [Step],
-}
-
-// A message's body is a letter. It was sent three times, and is held back for 5 nanoseconds.
-#[derive(Clone, Copy)]
-enum Step {
-    // A message is put, and this becomes of it.
-    Put(u8, Fate),
-    // These are put together; and how many are left with the caller.
-    PutAll(&'static [u8], PutAll, usize),
-    // The first message is drawn and settled: its letter and its delay.
-    Take(Option<(u8, u64)>),
-    // The first message is drawn and put back, and then the first is taken.
-    Undo(Option<(u8, u64)>),
-    // So many are in the ring, and so many on disk.
-    Depths(u64, u128),
-    Sync(Sync),
-    Empty(Emptied),
-    Flush(Flushed),
-    // A durable backlog of that name is opened in the folder, in place of this one, with a ring for so many.
-    Open(usize),
-    // The backlog is deleted, and a new one is made in its place.
-    Delete,
-    // The folder has no such file.
-    Absent(&'static str),
+    // The calls of the folder that fail, each from a number on and below another.
+    fails: &'static str,
+    // Calls, with a `;` between them, and their answers behind `=>`.
+    steps: &'static str,
 }
 
 // What becomes of a message that is put.
@@ -67,72 +52,47 @@ enum Fate {
     Other,
 }
 
-static ROWS_1: [Script; 9] = [
+static SCRIPTS: [Script; 9] = [
     Script {
         name: "the ring comes before the disk",
         backlog: "q",
         ring: 1,
         durable: true,
-        fails: &[],
-        steps: &[
-            Step::Put(b'x', Fate::Kept),
-            Step::Put(b'y', Fate::Spilled),
-            Step::Depths(1, 1),
-            Step::Take(Some((b'x', 5))),
-            Step::Put(b'z', Fate::Kept),
-            Step::Take(Some((b'z', 5))),
-            Step::Take(Some((b'y', 0))),
-            Step::Take(None),
-            Step::Depths(0, 0),
-        ],
+        fails: "",
+        steps: "put x => kept; put y => spilled; depths 1 1; take => x 5; put z => kept; take => z 5; take => y 0;
+            take => none; depths 0 0",
     },
     Script {
         name: "an undone message is the first again",
         backlog: "q",
         ring: 1,
         durable: true,
-        fails: &[],
-        steps: &[
-            Step::Put(b'x', Fate::Kept),
-            Step::Put(b'y', Fate::Spilled),
-            Step::Undo(Some((b'x', 5))),
-            Step::Undo(Some((b'y', 0))),
-        ],
+        fails: "",
+        steps: "put x => kept; put y => spilled; undo => x 5; undo => y 0",
     },
     Script {
         name: "without a disk what overflows goes away",
         backlog: "q#ephemeral",
         ring: 1,
         durable: false,
-        fails: &[],
-        steps: &[
-            Step::Put(b'x', Fate::Kept),
-            Step::Put(b'y', Fate::Dropped),
-            Step::Depths(1, 0),
-            Step::Sync(Sync::NotDue),
-            Step::Empty(Emptied::Done),
-            Step::Take(None),
-        ],
+        fails: "",
+        steps: "put x => kept; put y => dropped; depths 1 0; sync => not due; empty => done; take => none",
     },
     Script {
         name: "a ring of none keeps nothing, and the disk takes all",
         backlog: "q",
         ring: 0,
         durable: true,
-        fails: &[],
-        steps: &[
-            Step::Put(b'x', Fate::Spilled),
-            Step::Depths(0, 1),
-            Step::Take(Some((b'x', 0))),
-        ],
+        fails: "",
+        steps: "put x => spilled; depths 0 1; take => x 0",
     },
     Script {
         name: "a ring of none without a disk keeps nothing",
         backlog: "q#ephemeral",
         ring: 0,
         durable: false,
-        fails: &[],
-        steps: &[Step::Put(b'x', Fate::Dropped)],
+        fails: "",
+        steps: "put x => dropped",
     },
     // Of the two records that go to disk the second is refused.
     Script {
@@ -140,170 +100,222 @@ static ROWS_1: [Script; 9] = [
         backlog: "q",
         ring: 1,
         durable: true,
-        fails: &[Failing {
-            call: FolderCall::WriteAt,
-            from: 1,
-            to: 2,
-        }],
-        steps: &[
-            Step::PutAll(b"abc", PutAll::Fault, 3),
-            Step::Depths(0, 0),
-            Step::PutAll(b"abc", PutAll::Done, 0),
-            Step::Depths(1, 2),
-            Step::Take(Some((b'a', 5))),
-            Step::Take(Some((b'b', 0))),
-            Step::Take(Some((b'c', 0))),
-        ],
+        fails: "WriteAt 1 2",
+        steps: "put-all abc => fault, 3 left; depths 0 0; put-all abc => done, 0 left; depths 1 2; take => a 5;
+            take => b 0; take => c 0",
     },
     Script {
         name: "what was flushed is found",
         backlog: "q",
         ring: 2,
         durable: true,
-        fails: &[],
-        steps: &[
-            Step::PutAll(b"abc", PutAll::Done, 0),
-            Step::Flush(Flushed::Done),
-            Step::Depths(0, 3),
-            Step::Open(2),
-            Step::Take(Some((b'c', 0))),
-            Step::Take(Some((b'a', 0))),
-            Step::Take(Some((b'b', 0))),
-        ],
+        fails: "",
+        steps: "put-all abc => done, 0 left; flush => done; depths 0 3; open 2; take => c 0; take => a 0; take => b 0",
     },
     Script {
         name: "a fault hands the message back",
         backlog: "q",
         ring: 1,
         durable: true,
-        fails: &[Failing {
-            call: FolderCall::WriteAt,
-            from: 1,
-            to: 2,
-        }],
-        steps: &[
-            Step::Put(b'x', Fate::Kept),
-            Step::Put(b'y', Fate::Spilled),
-            Step::Put(b'z', Fate::Back),
-            Step::Depths(1, 1),
-            Step::Empty(Emptied::Done),
-            Step::Take(None),
-            Step::Delete,
-            Step::Absent("q.diskqueue.meta.dat"),
-        ],
+        fails: "WriteAt 1 2",
+        steps: "put x => kept; put y => spilled; put z => back; depths 1 1; empty => done; take => none; delete;
+            absent q.diskqueue.meta.dat",
     },
     Script {
         name: "a flush that fails keeps the rest",
         backlog: "q",
         ring: 2,
         durable: true,
-        fails: &[Failing {
-            call: FolderCall::WriteAt,
-            from: 1,
-            to: 2,
-        }],
-        steps: &[
-            Step::Put(b'x', Fate::Kept),
-            Step::Put(b'y', Fate::Kept),
-            Step::Flush(Flushed::Fault),
-            Step::Depths(1, 1),
-            Step::Take(Some((b'y', 5))),
-            Step::Take(Some((b'x', 0))),
-        ],
+        fails: "WriteAt 1 2",
+        steps: "put x => kept; put y => kept; flush => fault; depths 1 1; take => y 5; take => x 0",
     },
 ];
 
-fn rows_1() -> &'static [Script] {
-    &ROWS_1
-}
-
-fn rows_in_parts() -> [&'static [Script]; 1] {
-    [rows_1()]
+fn scripts() -> &'static [Script] {
+    &SCRIPTS
 }
 
 // Whether each step answers what it says.
-fn holds(alloc: Global, scratch: &mut [u8], script: &Script) -> Result<bool, Memory>
+fn holds(rt: &impl Abort, alloc: Global, scratch: &mut [u8], script: &Script) -> bool
     requires { 16777242 ≤ length scratch.old }
 {
-    let fails = script.fails.to_vec(alloc)?;
-    let mut folder = MemFolder::new(alloc, Vec::new(alloc), fails)?;
-    let mut backlog = Backlog::fresh(alloc, script.backlog, script.ring, script.durable, OPTIONS)?;
-    for step in script.steps {
-        if !step_holds(alloc, &mut backlog, &mut folder, scratch, script, *step)? {
-            return Ok(false);
-        }
-    }
-    Ok(true)
+    let mut folder = folder_of(rt, alloc, &[], &fails_of(rt, alloc, script.fails));
+    let mut backlog = fresh(rt, alloc, script);
+    let held = all_hold(rt, alloc, &mut backlog, &mut folder, scratch, script);
+    let_go(backlog);
+    let_folder_go(folder);
+    held
 }
 
-// Whether a step answers what it says.
-fn step_holds(
+// A new backlog.
+fn fresh(rt: &impl Abort, alloc: Global, script: &Script) -> Backlog
+    ensures nothing { result.lent ≡ Nothing }
+    ensures disk { IsTrue script.now.durable → IsSome result.queue }
+{
+    let name = script.backlog;
+    let backlog = Backlog::fresh(alloc, name, script.ring, script.durable, OPTIONS);
+    backlog.expect(rt, "memory")
+}
+
+// Takes a backlog apart.
+fn let_go(_backlog: Backlog) {}
+
+fn all_hold(
+    rt: &impl Abort,
     alloc: Global,
     backlog: &mut Backlog,
     folder: &mut MemFolder,
     scratch: &mut [u8],
     script: &Script,
-    step: Step,
-) -> Result<bool, Memory>
+) -> bool
     requires nothing { backlog.old.lent ≡ Nothing }
     requires disk { IsTrue script.now.durable → IsSome backlog.old.queue }
     requires scratch { 16777242 ≤ length scratch.old }
-    ensures nothing_now { OnOk result (backlog.new.lent ≡ Nothing) }
-    ensures disk { OnOk result (IsTrue script.now.durable → IsSome backlog.new.queue) }
 {
-    match step {
-        Step::Put(letter, fate) => Ok(put(alloc, backlog, folder, scratch, letter)? == fate),
-        Step::PutAll(letters, answer, left) => {
-            Ok(put_all(alloc, backlog, folder, scratch, letters)? == (answer, left))
+    for step in script.steps.split(';') {
+        if !step_holds(rt, alloc, backlog, folder, scratch, script, step.trim()) {
+            return false;
         }
-        Step::Take(told) => Ok(are_told(take(backlog, folder, scratch), told)),
-        Step::Undo(told) => Ok(are_told(undo_and_take(backlog, folder, scratch), told)),
-        Step::Depths(ring, disk) => Ok(backlog.depths() == Depths { ring, disk }),
-        Step::Sync(answer) => Ok(backlog.sync(folder) == answer),
-        Step::Empty(answer) => Ok(backlog.empty(folder) == answer),
-        Step::Flush(answer) => {
-            if !script.durable {
-                return Ok(false);
-            }
-            Ok(backlog.flush(folder, scratch) == answer)
+    }
+    true
+}
+
+// Whether a step answers what it says.
+fn step_holds(
+    rt: &impl Abort,
+    alloc: Global,
+    backlog: &mut Backlog,
+    folder: &mut MemFolder,
+    scratch: &mut [u8],
+    script: &Script,
+    step: &str,
+) -> bool
+    requires nothing { backlog.old.lent ≡ Nothing }
+    requires disk { IsTrue script.now.durable → IsSome backlog.old.queue }
+    requires scratch { 16777242 ≤ length scratch.old }
+    ensures nothing_now { backlog.new.lent ≡ Nothing }
+    ensures disk { IsTrue script.now.durable → IsSome backlog.new.queue }
+{
+    let (call, answer) = cut_at(step, " => ");
+    let (word, rest) = cut(call);
+    match word {
+        "put" => {
+            put(rt, alloc, backlog, folder, scratch, letter(rt, rest)) == fate_of(rt, answer)
         }
-        Step::Open(ring) => open(alloc, backlog, folder, script, ring),
-        Step::Delete => delete(alloc, backlog, folder, script),
-        Step::Absent(name) => Ok(folder.file(name).is_none()),
+        "put-all" => {
+            let wanted = all_put_of(rt, answer);
+            put_all(rt, alloc, backlog, folder, scratch, rest.as_bytes()) == wanted
+        }
+        "take" => are_told(take(backlog, folder, scratch), told_of(rt, answer)),
+        "undo" => are_told(undo_and_take(backlog, folder, scratch), told_of(rt, answer)),
+        "flush" => {
+            script.durable
+                && (backlog.flush(folder, scratch) == Flushed::Done) == is_done(rt, answer)
+        }
+        _ => changes(rt, alloc, backlog, folder, script, (word, rest), answer),
     }
 }
 
-fn message(alloc: Global, letter: u8) -> Result<Message, Memory>
-    ensures { IfOk result (λ m. length m.body ≡ 1) }
+// The same of a step that no room for a message is needed for.
+fn changes(
+    rt: &impl Abort,
+    alloc: Global,
+    backlog: &mut Backlog,
+    folder: &mut MemFolder,
+    script: &Script,
+    call: (&str, &str),
+    answer: &str,
+) -> bool
+    requires nothing { backlog.old.lent ≡ Nothing }
+    requires disk { IsTrue script.now.durable → IsSome backlog.old.queue }
+    ensures nothing_now { backlog.new.lent ≡ Nothing }
+    ensures disk { IsTrue script.now.durable → IsSome backlog.new.queue }
 {
-    Ok(Message {
+    let (word, rest) = call;
+    match word {
+        "sync" => backlog.sync(folder) == sync_of(rt, answer),
+        "empty" => (backlog.empty(folder) == Emptied::Done) == is_done(rt, answer),
+        "open" => open(alloc, backlog, folder, script, number(rt, rest) as usize),
+        "delete" => delete(rt, alloc, backlog, folder, script),
+        "depths" => are_depths(rt, backlog, rest),
+        "absent" => folder.file(rest).is_none(),
+        _ => panic!(rt; "{} is no step", word),
+    }
+}
+
+// Whether so many messages are in the ring, and so many on disk.
+fn are_depths(rt: &impl Abort, backlog: &Backlog, numbers: &str) -> bool {
+    let (ring, disk) = cut(numbers);
+    backlog.depths()
+        == Depths {
+            ring: number(rt, ring),
+            disk: u128::from(number(rt, disk)),
+        }
+}
+
+fn fate_of(rt: &impl Abort, answer: &str) -> Fate {
+    match answer {
+        "kept" => Fate::Kept,
+        "dropped" => Fate::Dropped,
+        "spilled" => Fate::Spilled,
+        "back" => Fate::Back,
+        _ => panic!(rt; "{} is no fate of a message", answer),
+    }
+}
+
+/// What is answered where messages are put together, and how many are left.
+pub fn all_put_of(rt: &impl Abort, answer: &str) -> (PutAll, usize) {
+    let (answer, left) = part(rt, answer, ", ");
+    let (left, _) = part(rt, left, " left");
+    let left = number(rt, left) as usize;
+    match answer {
+        "done" => (PutAll::Done, left),
+        "fault" => (PutAll::Fault, left),
+        _ => panic!(rt; "{} is no answer of a putting", answer),
+    }
+}
+
+// A letter and a delay, or that there is none.
+fn told_of(rt: &impl Abort, answer: &str) -> Option<(u8, u64)> {
+    if answer == "none" {
+        return None;
+    }
+    let (word, delay) = cut(answer);
+    Some((letter(rt, word), number(rt, delay)))
+}
+
+fn message(rt: &impl Abort, alloc: Global, letter: u8) -> Message
+    ensures { length result.body ≡ 1 }
+{
+    Message {
         stamp: 7,
         attempts: 3,
         id: MsgId::make(1, 2),
-        body: Body::copy(alloc, &[letter])?,
+        body: Body::copy(alloc, &[letter]).expect(rt, "memory"),
         delay: 5,
-    })
+    }
 }
 
 fn put(
+    rt: &impl Abort,
     alloc: Global,
     backlog: &mut Backlog,
     folder: &mut MemFolder,
     scratch: &mut [u8],
     letter: u8,
-) -> Result<Fate, Memory>
+) -> Fate
     requires nothing { backlog.old.lent ≡ Nothing }
     requires scratch { 16777242 ≤ length scratch.old }
     ensures nothing_now { backlog.new.lent ≡ Nothing }
     ensures queue { SameQueue backlog.old.queue backlog.new.queue }
 {
-    let message = message(alloc, letter)?;
-    Ok(match backlog.put(folder, scratch, message) {
+    let message = message(rt, alloc, letter);
+    match backlog.put(folder, scratch, message) {
         PutOne::Kept => Fate::Kept,
         PutOne::Dropped => Fate::Dropped,
         PutOne::Spilled => Fate::Spilled,
         PutOne::Fault(message) => came_back(&message, letter),
-    })
+    }
 }
 
 // What becomes of a message that comes back.
@@ -317,30 +329,33 @@ fn came_back(message: &Message, letter: u8) -> Fate {
 
 // The answer, and how many are left.
 fn put_all(
+    rt: &impl Abort,
     alloc: Global,
     backlog: &mut Backlog,
     folder: &mut MemFolder,
     scratch: &mut [u8],
     letters: &[u8],
-) -> Result<(PutAll, usize), Memory>
+) -> (PutAll, usize)
     requires nothing { backlog.old.lent ≡ Nothing }
     requires scratch { 16777242 ≤ length scratch.old }
     ensures nothing_now { backlog.new.lent ≡ Nothing }
     ensures queue { SameQueue backlog.old.queue backlog.new.queue }
 {
-    let mut messages = all_of(alloc, letters)?;
+    let mut messages = all_of(rt, alloc, letters);
     let answer = backlog.put_all(folder, scratch, &mut messages);
-    Ok((answer, messages.len()))
+    (answer, messages.len())
 }
 
-fn all_of(alloc: Global, letters: &[u8]) -> Result<Vec<Message>, Memory>
-    ensures { IfOk result (λ messages. All FitsLimit messages.items) }
+fn all_of(rt: &impl Abort, alloc: Global, letters: &[u8]) -> Vec<Message>
+    ensures { All FitsLimit result.items }
 {
     let mut messages = Vec::new(alloc);
     for letter in letters {
-        messages.push(message(alloc, *letter)?)?;
+        messages
+            .push(message(rt, alloc, *letter))
+            .expect(rt, "memory");
     }
-    Ok(messages)
+    messages
 }
 
 fn are_told(told: Option<(u8, u64)>, want: Option<(u8, u64)>) -> bool {
@@ -395,56 +410,55 @@ fn open(
     folder: &mut MemFolder,
     script: &Script,
     ring: usize,
-) -> Result<bool, Memory>
+) -> bool
     requires nothing { backlog.old.lent ≡ Nothing }
     requires disk { IsTrue script.now.durable → IsSome backlog.old.queue }
-    ensures nothing_now { OnOk result (backlog.new.lent ≡ Nothing) }
-    ensures disk { OnOk result (IsTrue script.now.durable → IsSome backlog.new.queue) }
+    ensures nothing_now { backlog.new.lent ≡ Nothing }
+    ensures disk { IsTrue script.now.durable → IsSome backlog.new.queue }
 {
     match Backlog::open(alloc, folder, script.backlog, ring, OPTIONS) {
         Ok(opened) => {
-            *backlog = opened;
-            Ok(true)
+            let_go(std::mem::replace(backlog, opened));
+            true
         }
-        Err(Open::Memory) => Err(Memory),
-        Err(Open::Fault | Open::BadMeta) => Ok(false),
+        Err(_) => false,
     }
 }
 
 fn delete(
+    rt: &impl Abort,
     alloc: Global,
     backlog: &mut Backlog,
     folder: &mut MemFolder,
     script: &Script,
-) -> Result<bool, Memory>
+) -> bool
     requires nothing { backlog.old.lent ≡ Nothing }
-    ensures nothing_now { OnOk result (backlog.new.lent ≡ Nothing) }
-    ensures disk { OnOk result (IsTrue script.now.durable → IsSome backlog.new.queue) }
+    ensures nothing_now { backlog.new.lent ≡ Nothing }
+    ensures disk { IsTrue script.now.durable → IsSome backlog.new.queue }
 {
-    let fresh = Backlog::fresh(alloc, script.backlog, script.ring, script.durable, OPTIONS)?;
+    let fresh = fresh(rt, alloc, script);
     let old = std::mem::replace(backlog, fresh);
-    Ok(match old.delete(folder) {
+    match old.delete(folder) {
         Gone::Done => true,
-        Gone::Fault(_backlog) => false,
-    })
+        Gone::Fault(kept) => {
+            let_go(kept);
+            false
+        }
+    }
 }
 
 // Room for the longest message.
-fn scratch(alloc: Global) -> Result<Vec<u8>, Memory>
-    ensures { IfOk result (λ bytes. length bytes.items ≡ 16777242) }
+fn scratch(rt: &impl Abort, alloc: Global) -> Vec<u8>
+    ensures { length result.items ≡ 16777242 }
 {
-    Ok(vec![in alloc; 0; 16_777_242]?)
+    vec![in alloc; 0; 16_777_242].expect(rt, "memory")
 }
 
 #[test]
-fn rows(rt: HostRuntime) -> Result<(), Fail> {
+fn rows(rt: HostRuntime) {
     let alloc = rt.alloc();
-    let mut scratch = scratch(alloc)?;
-    for part in &rows_in_parts() {
-        for row in *part {
-            let holds = holds(alloc, &mut scratch, row)?;
-            assert!(rt; holds, "{}", row.name);
-        }
+    let mut scratch = scratch(&rt, alloc);
+    for row in scripts() {
+        check(&rt, holds(&rt, alloc, &mut scratch, row), row.name);
     }
-    Ok(())
 }

@@ -1,10 +1,23 @@
-//! A connection in memory that sets the clock as it is read.
+//! A connection in memory that takes few bytes at a time, and whose reads and writes are watched.
 
-use nsq_fakes::MemConn;
+use crate::lists::push;
+use nsq_fakes::{MemConn, Piece};
 use nsq_outside::{Conn, Read, Sink, Source, Write, get, put};
+use session_scripts::Trace;
 use std::alloc::Global;
+use std::process::Abort;
 use std::sync::Wait;
 use std::sync::atomic::{AtomicU64, Ordering};
+
+/// What fails of a connection, if anything does.
+#[derive(Clone, Copy)]
+pub enum Fails {
+    Nothing,
+    /// The read of this number, counted from 0.
+    Read(u64),
+    /// The write of this number, counted from 0.
+    Write(u64),
+}
 
 /// What is done as a connection is read.
 #[derive(Clone, Copy)]
@@ -17,21 +30,21 @@ pub struct Moment {
 
 /// The reads of a connection.
 #[derive(Drop)]
-struct Watch<'a> {
-    clock: &'a AtomicU64,
+pub struct Reads<'a> {
+    pub clock: &'a AtomicU64,
     /// What is done at each read. The clock stays at those past them, and they are marked.
-    moments: &'a [Moment],
+    pub moments: &'a [Moment],
     /// How many reads there were.
-    reads: usize,
+    pub count: usize,
     /// How many bytes were written before each read that is marked. One for which there is no memory is missing.
-    marks: Vec<usize>,
+    pub marks: Vec<usize>,
 }
 
-impl Watch<'_> {
+impl Reads<'_> {
     /// A read comes, and so many bytes were written before it.
     fn note(&mut self, written: usize) {
-        let next = self.moments.get(self.reads).copied();
-        self.reads = self.reads.saturating_add(1);
+        let next = self.moments.get(self.count).copied();
+        self.count = self.count.saturating_add(1);
         if let Some(moment) = next {
             self.clock.store(moment.at, Ordering::SeqCst);
             if !moment.marked {
@@ -42,32 +55,25 @@ impl Watch<'_> {
     }
 }
 
-/// A connection in memory that sets the clock at each read, and marks how many bytes were written before it.
+/// Who watches a connection.
 #[derive(Drop)]
-pub struct TimedConn<'a> {
-    inner: MemConn,
-    watch: Watch<'a>,
+pub enum Watch<'a> {
+    Nobody,
+    /// Its calls are noted here by their letters, `r` for a read and `w` for a write.
+    Letters(&'a Trace),
+    /// The clock is set at each read, and it is marked how many bytes were written before it.
+    Reads(Reads<'a>),
 }
 
-impl<'a> TimedConn<'a> {
-    /// This connection, of which nothing was read, with what is done at each read.
-    pub fn new(
-        alloc: Global,
-        inner: MemConn,
-        moments: &'a [Moment],
-        clock: &'a AtomicU64,
-    ) -> TimedConn<'a> {
-        TimedConn {
-            inner,
-            watch: Watch {
-                clock,
-                moments,
-                reads: 0,
-                marks: Vec::new(alloc),
-            },
-        }
-    }
+/// A connection in memory of which a write takes so many bytes at most, and one at least.
+#[derive(Drop)]
+pub struct WatchedConn<'a> {
+    pub inner: MemConn,
+    pub most: usize,
+    pub watch: Watch<'a>,
+}
 
+impl WatchedConn<'_> {
     /// The bytes that were written.
     pub fn written(&self) -> &[u8] {
         self.inner.bytes_written()
@@ -75,11 +81,54 @@ impl<'a> TimedConn<'a> {
 
     /// How many bytes were written before each read that is marked.
     pub fn marks(&self) -> &[usize] {
-        &self.watch.marks
+        match &self.watch {
+            Watch::Reads(reads) => &reads.marks,
+            _ => &[],
+        }
     }
 }
 
-impl Source for TimedConn<'_> {
+/// Lets go of a connection.
+pub fn let_go(_conn: WatchedConn<'_>) {}
+
+// A read comes, and so many bytes were written before it.
+fn note_read(watch: &mut Watch<'_>, written: usize) {
+    match watch {
+        Watch::Nobody => {}
+        Watch::Letters(trace) => trace.note(b'r'),
+        Watch::Reads(reads) => reads.note(written),
+    }
+}
+
+// A write comes.
+fn note_write(watch: &Watch<'_>) {
+    if let Watch::Letters(trace) = watch {
+        trace.note(b'w');
+    }
+}
+
+// The numbers of the calls that fail.
+fn numbers(rt: &impl Abort, alloc: Global, number: Option<u64>) -> Vec<u64> {
+    let mut numbers = Vec::new(alloc);
+    if let Some(number) = number {
+        push(rt, &mut numbers, number);
+    }
+    numbers
+}
+
+/// A connection in memory that gives these pieces, and at which this fails.
+pub fn conn_of(rt: &impl Abort, alloc: Global, pieces: Vec<Piece>, fails: Fails) -> MemConn {
+    let (read, write) = match fails {
+        Fails::Nothing => (None, None),
+        Fails::Read(number) => (Some(number), None),
+        Fails::Write(number) => (None, Some(number)),
+    };
+    let reads = numbers(rt, alloc, read);
+    let writes = numbers(rt, alloc, write);
+    MemConn::new(alloc, pieces, reads, writes).expect(rt, "memory")
+}
+
+impl Source for WatchedConn<'_> {
     ghost use Rattle.std.specs.Prelude.{false, [], ◌≤◌};
     ghost use Rattle.nsq_fakes.specs.MemConns.{has_ended, read_faults_of, write_faults_of};
 
@@ -96,14 +145,14 @@ impl Source for TimedConn<'_> {
     ghost may_read = { λ a b. write_faults_of a.inner ≤ write_faults_of b.inner };
 
     fn read<R: Wait>(&mut self, rt: &R, into: &mut [u8]) -> Read {
-        self.watch.note(self.inner.bytes_written().len());
+        note_read(&mut self.watch, self.inner.bytes_written().len());
         get(rt, &mut self.inner, into)
     }
 
     ghost read_faults_fit = { λ c. c.inner.reads.faults.fits };
 }
 
-impl Sink for TimedConn<'_> {
+impl Sink for WatchedConn<'_> {
     ghost use Rattle.std.specs.Prelude.{false, [], ◌≡◌, ◌≤◌};
     ghost use Rattle.nsq_fakes.specs.MemConns.{has_ended, read_faults_of, write_faults_of};
 
@@ -116,13 +165,15 @@ impl Sink for TimedConn<'_> {
     ghost may_write = { λ a b. (has_ended b.inner ≡ has_ended a.inner) × (read_faults_of a.inner ≤ read_faults_of b.inner) };
 
     fn write<R: Wait>(&mut self, rt: &R, from: &[u8]) -> Write {
-        put(rt, &mut self.inner, from)
+        note_write(&self.watch);
+        let count = self.most.max(1).min(from.len());
+        put(rt, &mut self.inner, &from[..count])
     }
 
     ghost write_faults_fit = { λ c. c.inner.writes.faults.fits };
 }
 
-impl Conn for TimedConn<'_> {
+impl Conn for WatchedConn<'_> {
     ghost use Rattle.std.specs.Prelude.{refl};
 
     ghost read_keeps = { λ a b h. (refl, h) };

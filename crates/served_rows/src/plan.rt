@@ -1,10 +1,27 @@
 //! What a client sends and what must be seen of it, as a row says.
 
 use crate::conn::Moment;
-use nsq_base::Memory;
-use session_scripts::{Runs, spread};
+use crate::lists::{copied, push, put};
 use std::alloc::Global;
+use std::process::Abort;
 use v2_session::Ended;
+
+/// What is written to a client.
+#[derive(Clone, Copy)]
+pub enum Gets {
+    /// The reply of a command that is carried out.
+    Ok,
+    /// The answer to a first CLS.
+    CloseWait,
+    /// The answer to a FIN of a message that isn't in flight.
+    NotInFlight,
+    /// A message that was published at moment 0 and is sent for the first time: its id and its body, one byte.
+    First(&'static [u8]),
+    /// The same where it is sent for the second time.
+    Second(&'static [u8]),
+    /// Other bytes.
+    Bytes(&'static [u8]),
+}
 
 /// What comes with a read of a client's connection, and what the client gets then.
 #[derive(Clone, Copy)]
@@ -14,7 +31,7 @@ pub struct Step {
     /// The bytes that come; none where nothing comes.
     pub sends: &'static [u8],
     /// What is written before the next read.
-    pub gets: Runs,
+    pub gets: &'static [Gets],
     /// What is written instead where the bytes come in two pieces.
     pub parted: Parted,
 }
@@ -25,7 +42,7 @@ pub enum Parted {
     /// Nothing else, wherever they are cut.
     Same,
     /// This, where they are cut before the byte of this number or later.
-    From(usize, Runs),
+    From(usize, &'static [Gets]),
 }
 
 /// Nothing comes, at moment 0, and nothing is written.
@@ -75,69 +92,62 @@ pub struct Plan {
     pub ended: Ended,
 }
 
-impl Plan {
-    fn new(alloc: Global, ended: Ended) -> Plan {
-        Plan {
-            pieces: Vec::new(alloc),
-            moments: Vec::new(alloc),
-            written: Vec::new(alloc),
-            marks: Vec::new(alloc),
-            ended,
-        }
-    }
-
-    // This piece comes with a read of this moment.
-    fn read(&mut self, alloc: Global, at: u64, piece: &[u8], marked: bool) -> Result<(), Memory> {
-        self.pieces.push(piece.to_vec(alloc)?)?;
-        self.moments.push(Moment { at, marked })?;
-        Ok(())
-    }
-
-    // A step's bytes come in one piece, or in two where they are cut before another byte than the first one.
-    fn take(&mut self, alloc: Global, step: &Step, place: usize) -> Result<(), Memory> {
-        let (front, rest) = step.sends.split_at(place.min(step.sends.len()));
-        if place == 0 {
-            return self.read(alloc, step.at, rest, true);
-        }
-        self.read(alloc, step.at, front, true)?;
-        self.read(alloc, step.at, rest, false)
-    }
-
-    // What was planned so far must be written before the next read that is marked.
-    fn mark(&mut self) -> Result<(), Memory> {
-        self.marks.push(self.written.len())?;
-        Ok(())
-    }
-
-    // All steps of the client of this number, and the read behind them.
-    fn add_all(
-        &mut self,
-        alloc: Global,
-        client: &Client,
-        number: usize,
-        cut: Cut,
-    ) -> Result<(), Memory> {
-        for (at, step) in client.steps.iter().enumerate() {
-            self.add(alloc, step, place_in(cut, number, at))?;
-        }
-        match client.ended {
-            Ended::EndOfInput => self.mark(),
-            _ => Ok(()),
-        }
-    }
-
-    // One more step.
-    fn add(&mut self, alloc: Global, step: &Step, place: usize) -> Result<(), Memory> {
-        self.mark()?;
-        self.take(alloc, step, place)?;
-        let written = spread(alloc, written_by(step, place))?;
-        self.written.extend_from_slice(&written)?;
-        Ok(())
+// The bytes of what is written, in two parts.
+fn bytes_of(gets: Gets) -> (&'static [u8], &'static [u8]) {
+    match gets {
+        Gets::Ok => (b"\0\0\0\x06\0\0\0\0OK", b""),
+        Gets::CloseWait => (b"\0\0\0\x0e\0\0\0\0CLOSE_WAIT", b""),
+        Gets::NotInFlight => (
+            b"\0\0\0\x26\0\0\0\x01E_FIN_FAILED message not in flight",
+            b"",
+        ),
+        Gets::First(message) => (b"\0\0\0\x1f\0\0\0\x02\0\0\0\0\0\0\0\0\0\x01", message),
+        Gets::Second(message) => (b"\0\0\0\x1f\0\0\0\x02\0\0\0\0\0\0\0\0\0\x02", message),
+        Gets::Bytes(bytes) => (bytes, b""),
     }
 }
 
+// Adds what is written.
+fn put_all(rt: &impl Abort, written: &mut Vec<u8>, all: &[Gets]) {
+    for gets in all {
+        let (front, rest) = bytes_of(*gets);
+        put(rt, written, front);
+        put(rt, written, rest);
+    }
+}
+
+// This piece comes with a read of this moment.
+fn read(rt: &impl Abort, alloc: Global, plan: &mut Plan, piece: &[u8], moment: Moment) {
+    push(rt, &mut plan.pieces, copied(rt, alloc, piece));
+    push(rt, &mut plan.moments, moment);
+}
+
+// A step's bytes come in one piece, or in two where they are cut before another byte than the first one.
+fn take(rt: &impl Abort, alloc: Global, plan: &mut Plan, step: &Step, place: usize) {
+    let (front, rest) = step.sends.split_at(place.min(step.sends.len()));
+    if place != 0 {
+        let moment = Moment {
+            at: step.at,
+            marked: true,
+        };
+        read(rt, alloc, plan, front, moment);
+    }
+    let moment = Moment {
+        at: step.at,
+        marked: place == 0,
+    };
+    read(rt, alloc, plan, rest, moment);
+}
+
+// One more step. What was planned so far must be written before its read.
+fn add(rt: &impl Abort, alloc: Global, plan: &mut Plan, step: &Step, place: usize) {
+    push(rt, &mut plan.marks, plan.written.len());
+    take(rt, alloc, plan, step, place);
+    put_all(rt, &mut plan.written, written_by(step, place));
+}
+
 // What a step writes where its bytes are cut before the byte of this number.
-fn written_by(step: &Step, place: usize) -> Runs {
+fn written_by(step: &Step, place: usize) -> &'static [Gets] {
     match step.parted {
         Parted::From(from, instead) if place != 0 && from <= place => instead,
         _ => step.gets,
@@ -154,8 +164,19 @@ fn place_in(cut: Cut, client: usize, step: usize) -> usize {
 }
 
 /// What the client of this number sends, counted from 0, and what must be seen of it. One that ends by itself is read once more.
-pub fn plan_of(alloc: Global, client: &Client, number: usize, cut: Cut) -> Result<Plan, Memory> {
-    let mut plan = Plan::new(alloc, client.ended);
-    plan.add_all(alloc, client, number, cut)?;
-    Ok(plan)
+pub fn plan_of(rt: &impl Abort, alloc: Global, client: &Client, number: usize, cut: Cut) -> Plan {
+    let mut plan = Plan {
+        pieces: Vec::new(alloc),
+        moments: Vec::new(alloc),
+        written: Vec::new(alloc),
+        marks: Vec::new(alloc),
+        ended: client.ended,
+    };
+    for (at, step) in client.steps.iter().enumerate() {
+        add(rt, alloc, &mut plan, step, place_in(cut, number, at));
+    }
+    if client.ended == Ended::EndOfInput {
+        push(rt, &mut plan.marks, plan.written.len());
+    }
+    plan
 }

@@ -3,17 +3,13 @@
 use crate::plan::{Client, Cut, WHOLE};
 use crate::served::{Row, holds};
 use crate::tables::tables;
-use nsq_base::Memory;
 use std::alloc::Global;
+use std::process::Abort;
 use std::sync::Wait;
-use std::test::Fail;
 
 // Whether a row holds. One that doesn't begins once more, so that the rows hold too where one allocation fails, whichever it is.
-fn holds_at_last<R: Wait>(rt: &R, alloc: Global, row: &Row, cut: Cut) -> Result<bool, Memory> {
-    if let Ok(true) = holds(rt, alloc, row, cut) {
-        return Ok(true);
-    }
-    holds(rt, alloc, row, cut)
+fn holds_at_last<R: Abort + Wait>(rt: &R, alloc: Global, row: &Row, cut: Cut) -> bool {
+    holds(rt, alloc, row, cut) || holds(rt, alloc, row, cut)
 }
 
 // The number of the step with the one piece that a client sends, and the length of the piece. None where it sends another number of pieces.
@@ -33,36 +29,30 @@ fn only_piece(client: &Client) -> Option<(usize, usize)> {
 }
 
 // The first place at which the one piece of the last client may not be cut in two; 0 where the row doesn't hold whole.
-fn wrong_cut<R: Wait>(rt: &R, alloc: Global, row: &Row) -> Result<Option<usize>, Memory> {
-    if !holds_at_last(rt, alloc, row, WHOLE)? {
-        return Ok(Some(0));
+fn wrong_cut<R: Abort + Wait>(rt: &R, alloc: Global, row: &Row) -> Option<usize> {
+    if !holds_at_last(rt, alloc, row, WHOLE) {
+        return Some(0);
     }
-    let Some(client) = row.clients.last() else {
-        return Ok(None);
-    };
-    let Some((step, length)) = only_piece(client) else {
-        return Ok(None);
-    };
+    let (step, length) = only_piece(row.clients.last()?)?;
     for place in 1..length {
         let cut = Cut {
             client: row.clients.len().saturating_sub(1),
             step,
             place,
         };
-        if !holds_at_last(rt, alloc, row, cut)? {
-            return Ok(Some(place));
+        if !holds_at_last(rt, alloc, row, cut) {
+            return Some(place);
         }
     }
-    Ok(None)
+    None
 }
 
 #[test]
-fn rows(rt: HostRuntime) -> Result<(), Fail> {
+fn rows(rt: HostRuntime) {
     for table in &tables() {
         for row in *table {
-            let wrong = wrong_cut(&rt, rt.alloc(), row)?;
+            let wrong = wrong_cut(&rt, rt.alloc(), row);
             assert!(rt; wrong.is_none(), "{}, cut before {:?}", row.name, wrong);
         }
     }
-    Ok(())
 }

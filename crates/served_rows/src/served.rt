@@ -2,21 +2,23 @@
 
 ghost use Rattle.std.specs.Prelude.{◌<◌};
 
-use crate::conn::TimedConn;
-use crate::outside::{MemFloor, floor_of, options_of};
+use crate::conn::{Fails, Reads, Watch, WatchedConn, conn_of, let_go};
+use crate::floor::{MemFloor, PLAIN, Setting, floor_of, options_of};
+use crate::lists::same;
 use crate::plan::{Client, Cut, Plan, plan_of};
 use desk::FloorDesk;
 use nsq_base::Memory;
-use nsq_fakes::{MemConn, MemFolder};
+use nsq_fakes::MemFolder;
 use session_scripts::pieces_of;
 use std::alloc::Global;
+use std::process::Abort;
 use std::sync::Wait;
 use std::sync::atomic::AtomicU64;
 use v2_frame::Limits;
 use v2_session::{Ended, serve_v2};
 
 /// The limits of each connection, those of the default options.
-const LIMITS: Limits = Limits {
+pub const LIMITS: Limits = Limits {
     msg: 1_048_576,
     body: 5_242_880,
 };
@@ -43,7 +45,7 @@ fn serve_at<R: Wait>(
     rt: &R,
     alloc: Global,
     number: u64,
-    conn: &mut TimedConn<'_>,
+    conn: &mut WatchedConn<'_>,
     floor: &mut MemFloor<'_>,
 ) -> Ended
     requires { 0 < number }
@@ -56,40 +58,43 @@ fn serve_at<R: Wait>(
     serve_v2(rt, alloc, number, conn, &mut desk, LIMITS)
 }
 
-// A connection in memory that gives these pieces, and at which nothing fails.
-fn conn_of(alloc: Global, pieces: &[Vec<u8>]) -> Result<MemConn, Memory> {
-    let pieces = pieces_of(alloc, pieces)?;
-    MemConn::new(alloc, pieces, Vec::new(alloc), Vec::new(alloc))
-}
-
-fn same(one: &[u8], other: &[u8]) -> bool {
-    one == other
-}
-
 // Whether what was written to a connection, and how much before each read, is as planned.
-fn is_seen(conn: &TimedConn<'_>, plan: &Plan) -> bool {
+fn is_seen(conn: &WatchedConn<'_>, plan: &Plan) -> bool {
     same(conn.written(), &plan.written) && conn.marks() == plan.marks.as_slice()
 }
 
 // Whether a client is served as planned, under this number.
-fn is_served<R: Wait>(
+fn is_served<R: Abort + Wait>(
     rt: &R,
     alloc: Global,
     number: u64,
     plan: &Plan,
     floor: &mut MemFloor<'_>,
     clock: &AtomicU64,
-) -> Result<bool, Memory>
+) -> bool
     requires { 0 < number }
 {
-    let inner = conn_of(alloc, &plan.pieces)?;
-    let mut conn = TimedConn::new(alloc, inner, &plan.moments, clock);
+    let Ok(pieces) = pieces_of(alloc, &plan.pieces) else {
+        return false;
+    };
+    let mut conn = WatchedConn {
+        inner: conn_of(rt, alloc, pieces, Fails::Nothing),
+        most: usize::MAX,
+        watch: Watch::Reads(Reads {
+            clock,
+            moments: &plan.moments,
+            count: 0,
+            marks: Vec::new(alloc),
+        }),
+    };
     let ended = serve_at(rt, alloc, number, &mut conn, floor);
-    Ok(ended == plan.ended && is_seen(&conn, plan))
+    let seen = ended == plan.ended && is_seen(&conn, plan);
+    let_go(conn);
+    seen
 }
 
 // Whether a client is served as a row says; the row's clients are counted from 0.
-fn goes<R: Wait>(
+fn goes<R: Abort + Wait>(
     rt: &R,
     alloc: Global,
     client: &Client,
@@ -97,29 +102,29 @@ fn goes<R: Wait>(
     cut: Cut,
     floor: &mut MemFloor<'_>,
     clock: &AtomicU64,
-) -> Result<bool, Memory> {
-    let plan = plan_of(alloc, client, at, cut)?;
+) -> bool {
+    let plan = plan_of(rt, alloc, client, at, cut);
     let number = (at as u64).saturating_add(1);
     is_served(rt, alloc, number, &plan, floor, clock)
 }
 
 // Whether each client is served as the row says.
-fn all_go<R: Wait>(
+fn all_go<R: Abort + Wait>(
     rt: &R,
     alloc: Global,
     clients: &[Client],
     cut: Cut,
     floor: &mut MemFloor<'_>,
     clock: &AtomicU64,
-) -> Result<bool, Memory> {
+) -> bool {
     let mut at = 0usize;
     for client in clients {
-        if !goes(rt, alloc, client, at, cut, floor, clock)? {
-            return Ok(false);
+        if !goes(rt, alloc, client, at, cut, floor, clock) {
+            return false;
         }
         at = at.saturating_add(1);
     }
-    Ok(true)
+    true
 }
 
 // Whether these files are there.
@@ -135,15 +140,22 @@ fn are_there(folder: &MemFolder, files: &[File]) -> bool {
 
 // A floor as a row wants it.
 fn floor_for<'a>(alloc: Global, row: &Row, clock: &'a AtomicU64) -> Result<MemFloor<'a>, Memory> {
-    let options = options_of(alloc, row.memory, row.timeout)?;
-    floor_of(alloc, &options, clock)
+    let setting = Setting {
+        memory: row.memory,
+        timeout: row.timeout,
+        ..PLAIN
+    };
+    let options = options_of(alloc, setting)?;
+    floor_of(alloc, setting, &options, clock)
 }
 
-/// Whether a row goes as it says where it is cut so.
-pub fn holds<R: Wait>(rt: &R, alloc: Global, row: &Row, cut: Cut) -> Result<bool, Memory> {
+/// Whether a row goes as it says where it is cut so. One for whose floor or for one of whose connections there is no memory doesn't.
+pub fn holds<R: Abort + Wait>(rt: &R, alloc: Global, row: &Row, cut: Cut) -> bool {
     let clock = AtomicU64::new(0);
-    let mut floor = floor_for(alloc, row, &clock)?;
-    let all_go = all_go(rt, alloc, row.clients, cut, &mut floor, &clock)?;
+    let Ok(mut floor) = floor_for(alloc, row, &clock) else {
+        return false;
+    };
+    let all_go = all_go(rt, alloc, row.clients, cut, &mut floor, &clock);
     let left = floor.end();
-    Ok(all_go && are_there(&left.folder, row.leaves))
+    all_go && are_there(&left.folder, row.leaves)
 }

@@ -1,19 +1,21 @@
 //! States that rows give, as constants, and their making.
 
+use crate::made::{copy, put};
 use broker_plain::Phase;
 use broker_state::{
     ChannelState, Client, MessageCopy, Place, Route, State, TakenMessage, TopicState, Waiting,
 };
-use nsq_base::{Body, Chan, Memory, MsgId, Options, Topic};
+use nsq_base::{Chan, MsgId, Options, Topic};
 use std::alloc::Global;
+use std::process::Abort;
 use v2_frame::Message;
 
-/// A message of moment 0: its number among the ids of the first run, its attempts and its body.
+/// A message of moment 0: its number among the ids of the first run, its attempts and the letter that is its body.
 #[derive(Clone, Copy)]
 pub struct Sent {
     pub number: u64,
     pub attempts: u16,
-    pub body: &'static [u8],
+    pub letter: u8,
 }
 
 /// A channel: its name, whether it is paused, its counts (joined, given back, timed out), and its copies.
@@ -60,77 +62,65 @@ pub struct Given {
 }
 
 /// The message.
-pub fn message(alloc: Global, sent: Sent) -> Result<Message, Memory> {
-    Ok(Message {
+pub fn message(rt: &impl Abort, alloc: Global, sent: Sent) -> Message {
+    Message {
         stamp: 0,
         attempts: sent.attempts,
         id: MsgId::make(1, sent.number.min(255)),
-        body: Body::copy(alloc, sent.body)?,
+        body: copy(rt, alloc, &[sent.letter]),
         delay: 0,
-    })
+    }
 }
 
-/// Whether these are the same bytes.
-pub fn same(one: &[u8], other: &[u8]) -> bool {
-    one == other
-}
-
-/// The state, without what is no name.
-pub fn state(alloc: Global, given: &Given) -> Result<State, Memory> {
-    let clients = clients(alloc, given.clients)?;
-    let topics = topics(alloc, given.topics)?;
-    let mut options = Options::defaults(alloc)?;
+/// The state.
+pub fn state(rt: &impl Abort, alloc: Global, given: &Given) -> State {
+    let mut options = Options::defaults(alloc).expect(rt, "memory");
     options.mem_queue_size = given.mem_queue_size;
-    Ok(State {
+    State {
         options,
         epoch: given.epoch.min(255),
         ids_used: given.ids_used,
         moment: 0,
         stopped: false,
         began: Vec::new(alloc),
-        clients,
-        topics,
-    })
+        clients: clients(rt, alloc, given.clients),
+        topics: topics(rt, alloc, given.topics),
+    }
 }
 
-fn clients(alloc: Global, given: &[GivenClient]) -> Result<Vec<Client>, Memory> {
+fn clients(rt: &impl Abort, alloc: Global, given: &[GivenClient]) -> Vec<Client> {
     let mut clients = Vec::new(alloc);
     for one in given {
-        clients.push(client(alloc, one)?)?;
+        put(rt, &mut clients, client(rt, alloc, one));
     }
-    Ok(clients)
+    clients
 }
 
-fn topics(alloc: Global, given: &[GivenTopic]) -> Result<Vec<TopicState>, Memory> {
+fn topics(rt: &impl Abort, alloc: Global, given: &[GivenTopic]) -> Vec<TopicState> {
     let mut topics = Vec::new(alloc);
     for one in given {
-        if let Some(name) = Topic::read(one.name) {
-            topics.push(topic(alloc, name, one)?)?;
-        }
+        put(rt, &mut topics, topic(rt, alloc, one));
     }
-    Ok(topics)
+    topics
 }
 
-fn client(alloc: Global, given: &GivenClient) -> Result<Client, Memory> {
+fn client(rt: &impl Abort, alloc: Global, given: &GivenClient) -> Client {
     let [client_id, hostname, user_agent] = given.texts;
-    let client_id = Body::copy(alloc, client_id)?;
-    let hostname = Body::copy(alloc, hostname)?;
-    let user_agent = Body::copy(alloc, user_agent)?;
-    Ok(client_with(given, client_id, hostname, user_agent))
-}
-
-fn client_with(given: &GivenClient, client_id: Body, hostname: Body, user_agent: Body) -> Client {
     let [finish_count, message_count, requeue_count] = given.counts;
+    let route = Route {
+        topic: Topic::read(given.topic).expect(rt, "a topic's name"),
+        channel: Chan::read(given.channel).expect(rt, "a channel's name"),
+    };
     Client {
         number: given.number,
         phase: given.phase,
-        route: route(given.topic, given.channel),
+        route: Some(route),
         ready: given.ready,
         heartbeat: None,
         timeout: 60_000_000_000,
-        client_id,
-        hostname,
-        user_agent,
+        client_id: copy(rt, alloc, client_id),
+        hostname: copy(rt, alloc, hostname),
+        user_agent: copy(rt, alloc, user_agent),
         last_command: 0,
         beat_from: 0,
         finish_count,
@@ -139,74 +129,69 @@ fn client_with(given: &GivenClient, client_id: Body, hostname: Body, user_agent:
     }
 }
 
-fn route(topic: &'static [u8], channel: &'static [u8]) -> Option<Route> {
-    let topic = Topic::read(topic)?;
-    let channel = Chan::read(channel)?;
-    Some(Route { topic, channel })
-}
-
-fn topic(alloc: Global, name: Topic, given: &GivenTopic) -> Result<TopicState, Memory> {
-    let waiting = waiting(alloc, given.waiting)?;
-    let channels = channels(alloc, given.channels)?;
-    let taken = taken(alloc, given.taken)?;
-    Ok(TopicState {
-        name,
+fn topic(rt: &impl Abort, alloc: Global, given: &GivenTopic) -> TopicState {
+    TopicState {
+        name: Topic::read(given.name).expect(rt, "a topic's name"),
         paused: given.paused,
         message_count: given.count,
-        waiting,
-        taken,
-        channels,
-    })
+        waiting: waiting(rt, alloc, given.waiting),
+        taken: taken(rt, alloc, given.taken),
+        channels: channels(rt, alloc, given.channels),
+    }
 }
 
-fn waiting(alloc: Global, given: &[Sent]) -> Result<Vec<Waiting>, Memory> {
+fn waiting(rt: &impl Abort, alloc: Global, given: &[Sent]) -> Vec<Waiting> {
     let mut waiting = Vec::new(alloc);
     for sent in given {
-        let message = message(alloc, *sent)?;
-        waiting.push(Waiting {
-            message,
-            loose: false,
-        })?;
+        let message = message(rt, alloc, *sent);
+        put(
+            rt,
+            &mut waiting,
+            Waiting {
+                message,
+                loose: false,
+            },
+        );
     }
-    Ok(waiting)
+    waiting
 }
 
-fn channels(alloc: Global, given: &[GivenChannel]) -> Result<Vec<ChannelState>, Memory> {
+fn channels(rt: &impl Abort, alloc: Global, given: &[GivenChannel]) -> Vec<ChannelState> {
     let mut channels = Vec::new(alloc);
     for one in given {
-        if let Some(name) = Chan::read(one.name) {
-            channels.push(channel(alloc, name, one)?)?;
-        }
+        put(rt, &mut channels, channel(rt, alloc, one));
     }
-    Ok(channels)
+    channels
 }
 
-fn taken(alloc: Global, taken: &[Sent]) -> Result<Option<TakenMessage>, Memory> {
+fn taken(rt: &impl Abort, alloc: Global, taken: &[Sent]) -> Option<TakenMessage> {
     match taken.first() {
-        Some(sent) => Ok(Some(TakenMessage {
-            message: message(alloc, *sent)?,
+        Some(sent) => Some(TakenMessage {
+            message: message(rt, alloc, *sent),
             owed: Vec::new(alloc),
-        })),
-        None => Ok(None),
+        }),
+        None => None,
     }
 }
 
-fn channel(alloc: Global, name: Chan, given: &GivenChannel) -> Result<ChannelState, Memory> {
-    let mut copies = Vec::new(alloc);
-    for (sent, place) in given.copies {
-        let message = message(alloc, *sent)?;
-        copies.push(MessageCopy {
-            message,
-            place: *place,
-        })?;
-    }
+fn channel(rt: &impl Abort, alloc: Global, given: &GivenChannel) -> ChannelState {
     let [message_count, requeue_count, timeout_count] = given.counts;
-    Ok(ChannelState {
-        name,
+    ChannelState {
+        name: Chan::read(given.name).expect(rt, "a channel's name"),
         paused: given.paused,
         message_count,
         requeue_count,
         timeout_count,
-        copies,
-    })
+        copies: copies(rt, alloc, given.copies),
+    }
+}
+
+fn copies(rt: &impl Abort, alloc: Global, given: &[(Sent, Place)]) -> Vec<MessageCopy> {
+    let mut copies = Vec::new(alloc);
+    for (sent, place) in given {
+        let message = message(rt, alloc, *sent);
+        let place = *place;
+        put(rt, &mut copies, MessageCopy { message, place });
+    }
+    copies
 }

@@ -1,10 +1,10 @@
 //! The text of the file of names, to the byte: what it keeps of a state, and that it is read as it was written.
 
-use crate::state::given::{Given, GivenChannel, GivenTopic, same, state};
-use broker_files::{kept_names, names_text, read_names};
-use nsq_base::Memory;
+use crate::made::same;
+use crate::state::given::{Given, GivenChannel, GivenTopic, state};
+use broker_files::{KeptNames, kept_names, names_text, read_names};
 use std::alloc::Global;
-use std::test::Fail;
+use std::process::Abort;
 
 /// A state, and the text of what is kept of it.
 struct Row {
@@ -103,25 +103,33 @@ static ROWS: [Row; 3] = [
     },
 ];
 
+fn all_rows() -> &'static [Row] {
+    &ROWS
+}
+
 /// Whether the text, as it is read, would be written so again.
-fn stays(alloc: Global, text: &[u8]) -> Result<bool, Memory> {
-    match read_names(alloc, text)? {
-        Some(kept) => Ok(same(&names_text(alloc, &kept)?, text)),
-        None => Ok(false),
+fn stays(rt: &impl Abort, alloc: Global, text: &[u8]) -> bool {
+    match read_names(alloc, text).expect(rt, "memory") {
+        Some(kept) => is_text_of(rt, alloc, text, &kept),
+        None => false,
     }
 }
 
-fn holds(alloc: Global, row: &Row) -> Result<bool, Memory> {
-    let kept = kept_names(alloc, &state(alloc, &row.given)?)?;
-    let text = names_text(alloc, &kept)?;
-    Ok(same(&text, row.text) && stays(alloc, row.text)?)
+fn is_text_of(rt: &impl Abort, alloc: Global, text: &[u8], kept: &KeptNames) -> bool {
+    let written = names_text(alloc, kept).expect(rt, "memory");
+    same(&written, text)
+}
+
+fn holds(rt: &impl Abort, alloc: Global, row: &Row) -> bool {
+    let state = state(rt, alloc, &row.given);
+    let kept = kept_names(alloc, &state).expect(rt, "memory");
+    is_text_of(rt, alloc, row.text, &kept) && stays(rt, alloc, row.text)
 }
 
 #[test]
-fn rows(rt: HostRuntime) -> Result<(), Fail> {
-    for row in &ROWS {
-        let holds = holds(rt.alloc(), row)?;
+fn rows(rt: HostRuntime) {
+    for row in all_rows() {
+        let holds = holds(&rt, rt.alloc(), row);
         assert!(rt; holds, "{}", row.name);
     }
-    Ok(())
 }

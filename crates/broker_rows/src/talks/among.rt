@@ -1,163 +1,64 @@
 //! Conversations in whole histories, among the entries of others.
 
-use super::{Got, Piece, Told, ends_in};
-use broker_history::Ended;
-use std::test::Fail;
+use crate::lines::tell;
+use crate::made::part;
+use crate::talks::conversation::is_talk;
+use std::alloc::Global;
+use std::process::Abort;
 
-/// A connection's number, the history with the number that each entry names, what the client sent and got, an ending, and whether this
-/// is a conversation that ended so.
-struct Row {
-    name: &'static str,
-    number: u64,
-    told: &'static [(u64, Told)],
-    sent: &'static [Piece],
-    got: &'static [Got],
-    ended: Ended,
-    is: bool,
-}
-
-static ROWS: [Row; 8] = [
-    Row {
-        name: "a connection among others",
-        number: 1,
-        told: &[
-            (1, Told::Began),
-            (0, Told::Ticked),
-            (2, Told::Began),
-            (1, Told::Idle),
-            (2, Told::Idle),
-            (1, Told::Nop),
-            (0, Told::DaemonStuck),
-            (1, Told::Idle),
-            (1, Told::Gone),
-            (2, Told::Gone),
-        ],
-        sent: &[Piece::MagicNop],
-        got: &[],
-        ended: Ended::EndOfInput,
-        is: true,
-    },
-    Row {
-        name: "the other connection",
-        number: 2,
-        told: &[
-            (1, Told::Began),
-            (0, Told::Ticked),
-            (2, Told::Began),
-            (1, Told::Idle),
-            (2, Told::Idle),
-            (1, Told::Nop),
-            (0, Told::DaemonStuck),
-            (1, Told::Idle),
-            (1, Told::Gone),
-            (2, Told::Gone),
-        ],
-        sent: &[],
-        got: &[],
-        ended: Ended::EndOfInput,
-        is: true,
-    },
-    Row {
-        name: "the other connection, with the first one's bytes",
-        number: 2,
-        told: &[
-            (1, Told::Began),
-            (2, Told::Began),
-            (1, Told::Idle),
-            (2, Told::Idle),
-            (1, Told::Nop),
-            (1, Told::Idle),
-            (1, Told::Gone),
-            (2, Told::Gone),
-        ],
-        sent: &[Piece::MagicNop],
-        got: &[],
-        ended: Ended::EndOfInput,
-        is: false,
-    },
-    Row {
-        name: "a Stop of the daemon before its Gone",
-        number: 1,
-        told: &[
-            (1, Told::Began),
-            (1, Told::Idle),
-            (0, Told::Stop),
-            (1, Told::Gone),
-        ],
-        sent: &[],
-        got: &[],
-        ended: Ended::Closed,
-        is: true,
-    },
-    Row {
-        name: "a Stop of the daemon behind its Gone",
-        number: 1,
-        told: &[
-            (1, Told::Began),
-            (1, Told::Idle),
-            (1, Told::Gone),
-            (0, Told::Stop),
-        ],
-        sent: &[],
-        got: &[],
-        ended: Ended::Closed,
-        is: false,
-    },
-    Row {
-        name: "a Stop behind which it isn't gone",
-        number: 1,
-        told: &[(1, Told::Began), (1, Told::Idle), (0, Told::Stop)],
-        sent: &[],
-        got: &[],
-        ended: Ended::Closed,
-        is: false,
-    },
-    Row {
-        name: "a Stop behind its Gone, and before another's",
-        number: 1,
-        told: &[
-            (2, Told::Began),
-            (1, Told::Began),
-            (1, Told::Idle),
-            (1, Told::Gone),
-            (0, Told::Stop),
-            (2, Told::Gone),
-        ],
-        sent: &[],
-        got: &[],
-        ended: Ended::Closed,
-        is: false,
-    },
-    Row {
-        name: "a heartbeat of another connection",
-        number: 1,
-        told: &[
-            (1, Told::Began),
-            (2, Told::Began),
-            (2, Told::Beat),
-            (1, Told::Idle),
-            (1, Told::Gone),
-            (2, Told::Gone),
-        ],
-        sent: &[],
-        got: &[Got::Heartbeat],
-        ended: Ended::EndOfInput,
-        is: false,
-    },
+static ROWS: [&'static str; 8] = [
+    "a connection among others
+        told: 0 1 began; 0 0 ticked; 0 2 began; 0 1 idle; 0 2 idle; 0 1 nop; 0 0 stuck t; 0 1 idle; 0 1 gone; 0 2 gone
+        talk: 1 EndOfInput: Magic Nop =>",
+    "the other connection
+        told: 0 1 began; 0 0 ticked; 0 2 began; 0 1 idle; 0 2 idle; 0 1 nop; 0 0 stuck t; 0 1 idle; 0 1 gone; 0 2 gone
+        talk: 2 EndOfInput: =>",
+    "the other connection, with the first one's bytes
+        told: 0 1 began; 0 2 began; 0 1 idle; 0 2 idle; 0 1 nop; 0 1 idle; 0 1 gone; 0 2 gone
+        no talk: 2 EndOfInput: Magic Nop =>",
+    "a Stop of the daemon before its Gone
+        told: 0 1 began; 0 1 idle; 0 0 stop; 0 1 gone
+        talk: 1 Closed: =>",
+    "a Stop of the daemon behind its Gone
+        told: 0 1 began; 0 1 idle; 0 1 gone; 0 0 stop
+        no talk: 1 Closed: =>",
+    "a Stop behind which it isn't gone
+        told: 0 1 began; 0 1 idle; 0 0 stop
+        no talk: 1 Closed: =>",
+    "a Stop behind its Gone, and before another's
+        told: 0 2 began; 0 1 began; 0 1 idle; 0 1 gone; 0 0 stop; 0 2 gone
+        no talk: 1 Closed: =>",
+    "a heartbeat of another connection
+        told: 0 1 began; 0 2 began; 0 2 beat; 0 1 idle; 0 1 gone; 0 2 gone
+        no talk: 1 EndOfInput: => Heartbeat",
 ];
 
-#[test]
-fn rows(rt: HostRuntime) -> Result<(), Fail> {
-    for row in &ROWS {
-        let ends = ends_in(
-            rt.alloc(),
-            row.number,
-            row.told,
-            row.sent,
-            row.got,
-            row.ended,
-        )?;
-        assert!(rt; ends == row.is, "{}", row.name);
+fn all_rows() -> &'static [&'static str] {
+    &ROWS
+}
+
+// Whether the talk is a conversation in the history, or none where the row says so.
+fn holds(rt: &impl Abort, alloc: Global, row: &str) -> bool {
+    match row.split_once("no talk:") {
+        Some((told, talk)) => !is_talk_told(rt, alloc, told, talk),
+        None => {
+            let (told, talk) = part(rt, row, "talk:");
+            is_talk_told(rt, alloc, told, talk)
+        }
     }
-    Ok(())
+}
+
+fn is_talk_told(rt: &impl Abort, alloc: Global, told: &str, talk: &str) -> bool {
+    let (_, told) = part(rt, told, "told:");
+    let mut entries = Vec::new(alloc);
+    tell(rt, alloc, &mut entries, told);
+    is_talk(rt, alloc, talk.trim(), &entries)
+}
+
+#[test]
+fn rows(rt: HostRuntime) {
+    for row in all_rows() {
+        let holds = holds(&rt, rt.alloc(), row);
+        assert!(rt; holds, "{}", row);
+    }
 }

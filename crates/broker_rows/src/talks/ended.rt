@@ -1,288 +1,103 @@
 //! Rounds and how conversations end.
 
-use super::{Got, Piece, Row, Told};
-use broker_history::Ended;
-
-static FIRST: [Row; 5] = [
-    Row {
-        name: "64 sent, and then a read",
-        sent: &[Piece::MagicNop],
-        told: &[
-            Told::Began,
-            Told::Beats(64),
-            Told::Nop,
-            Told::Idle,
-            Told::Gone,
-        ],
-        got: &[Got::Heartbeats(64)],
-        stopped: false,
-        wanted: 0,
-        is: Some(Ended::EndOfInput),
-        is_not: Some(Ended::Closed),
-    },
-    Row {
-        name: "65 sent in a round",
-        sent: &[Piece::MagicNop],
-        told: &[
-            Told::Began,
-            Told::Beats(65),
-            Told::Nop,
-            Told::Idle,
-            Told::Gone,
-        ],
-        got: &[Got::Heartbeats(65)],
-        stopped: false,
-        wanted: 0,
-        is: None,
-        is_not: Some(Ended::EndOfInput),
-    },
-    Row {
-        name: "65 sent in two rounds",
-        sent: &[Piece::MagicNop],
-        told: &[
-            Told::Began,
-            Told::Beats(65),
-            Told::Idle,
-            Told::Nop,
-            Told::Idle,
-            Told::Gone,
-        ],
-        got: &[Got::Heartbeats(65)],
-        stopped: false,
-        wanted: 0,
-        is: Some(Ended::EndOfInput),
-        is_not: Some(Ended::Closed),
-    },
-    Row {
-        name: "63 sent, and then a read without an Idle",
-        sent: &[Piece::MagicNop],
-        told: &[
-            Told::Began,
-            Told::Beats(63),
-            Told::Nop,
-            Told::Idle,
-            Told::Gone,
-        ],
-        got: &[Got::Heartbeats(63)],
-        stopped: false,
-        wanted: 0,
-        is: None,
-        is_not: Some(Ended::EndOfInput),
-    },
-    Row {
-        name: "the end behind 64 sent",
-        sent: &[],
-        told: &[Told::Began, Told::Beats(64), Told::Gone],
-        got: &[Got::Heartbeats(64)],
-        stopped: false,
-        wanted: 0,
-        is: Some(Ended::EndOfInput),
-        is_not: Some(Ended::Closed),
-    },
+static ROWS: [&'static str; 19] = [
+    "64 sent, and then a read
+        told: 0 1 began; 0 1 beats 64; 0 1 nop; 0 1 idle; 0 1 gone
+        sent: Magic Nop
+        got: Heartbeat*64
+        ended EndOfInput, not Closed",
+    "65 sent in a round
+        told: 0 1 began; 0 1 beats 65; 0 1 nop; 0 1 idle; 0 1 gone
+        sent: Magic Nop
+        got: Heartbeat*65
+        ended never, not EndOfInput",
+    "65 sent in two rounds
+        told: 0 1 began; 0 1 beats 65; 0 1 idle; 0 1 nop; 0 1 idle; 0 1 gone
+        sent: Magic Nop
+        got: Heartbeat*65
+        ended EndOfInput, not Closed",
+    "63 sent, and then a read without an Idle
+        told: 0 1 began; 0 1 beats 63; 0 1 nop; 0 1 idle; 0 1 gone
+        sent: Magic Nop
+        got: Heartbeat*63
+        ended never, not EndOfInput",
+    "the end behind 64 sent
+        told: 0 1 began; 0 1 beats 64; 0 1 gone
+        sent:
+        got: Heartbeat*64
+        ended EndOfInput, not Closed",
+    "an Idle missing at the end
+        told: 0 1 began; 0 1 gone
+        sent:
+        got:
+        ended never, not EndOfInput",
+    "an Idle missing behind the last command
+        told: 0 1 began; 0 1 idle; 0 1 nop; 0 1 gone
+        sent: Magic Nop
+        got:
+        ended never, not ReadFault",
+    "a read that failed
+        told: 0 1 began; 0 1 idle; 0 1 nop; 0 1 idle; 0 1 gone
+        sent: Magic Nop
+        got:
+        ended ReadFault, not Closed",
+    "a Gone missing at the end of input
+        told: 0 1 began; 0 1 idle
+        sent:
+        got:
+        ended never, not EndOfInput",
+    "a Gone missing as its turn wanted memory
+        told with one turn in want: 0 1 began; 0 1 idle
+        sent:
+        got:
+        ended EndOfInput, not Closed",
+    "a Gone missing at a closed connection
+        told with one turn in want: 0 1 began; 0 1 idle; 0 1 refused BadMagic 0 => E_BAD_PROTOCOL
+        sent: BadMagic
+        got: BadProtocol
+        ended never, not Closed",
+    "a Stop that closes the connection in the middle of a round
+        told with a stop: 0 1 began; 0 1 idle; 0 1 sub t c => OK; 0 1 gone
+        sent: Magic SubC Rdy1
+        got: Okay
+        ended Closed, not EndOfInput",
+    "no Stop that closes it
+        told: 0 1 began; 0 1 idle; 0 1 sub t c => OK; 0 1 gone
+        sent: Magic SubC Rdy1
+        got: Okay
+        ended never, not Closed",
+    "a channel that was deleted, seen before a sending
+        told: 0 1 began; 0 1 idle; 0 1 sub t c => OK; 0 1 rdy 1; 0 1 dropped; 0 1 gone
+        sent: Magic SubC Rdy1
+        got: Okay
+        ended Closed, not EndOfInput",
+    "a channel that was deleted, seen at a command
+        told: 0 1 began; 0 1 idle; 0 1 sub t c => OK; 0 1 rdy 1; 0 1 idle; 0 1 dropped; 0 1 gone
+        sent: Magic SubC Rdy1 / Nop
+        got: Okay
+        ended Closed, not EndOfInput",
+    "an entry behind the one that closes
+        told: 0 1 began; 0 1 idle; 0 1 refused BadMagic 0 => E_BAD_PROTOCOL; 0 1 idle; 0 1 gone
+        sent: BadMagic
+        got: BadProtocol
+        ended never, not Closed",
+    "a byte behind the answer that closes
+        told: 0 1 began; 0 1 idle; 0 1 refused BadMagic 0 => E_BAD_PROTOCOL; 0 1 gone
+        sent: BadMagic
+        got: BadProtocol X
+        ended never, not Closed",
+    "a frame at the end of a silent client
+        told: 0 1 began; 0 1 idle; 0 1 nop; 0 1 idle; 0 1 silent; 0 1 gone
+        sent: Magic Nop
+        got: Heartbeat
+        ended never, not Closed",
+    "a client that is silent at a command
+        told: 0 1 began; 0 1 idle; 0 1 nop; 0 1 idle; 0 1 nop; 0 1 silent; 0 1 gone
+        sent: Magic Nop / Nop
+        got:
+        ended Closed, not EndOfInput",
 ];
 
-static MORE: [Row; 5] = [
-    Row {
-        name: "an Idle missing at the end",
-        sent: &[],
-        told: &[Told::Began, Told::Gone],
-        got: &[],
-        stopped: false,
-        wanted: 0,
-        is: None,
-        is_not: Some(Ended::EndOfInput),
-    },
-    Row {
-        name: "an Idle missing behind the last command",
-        sent: &[Piece::MagicNop],
-        told: &[Told::Began, Told::Idle, Told::Nop, Told::Gone],
-        got: &[],
-        stopped: false,
-        wanted: 0,
-        is: None,
-        is_not: Some(Ended::ReadFault),
-    },
-    Row {
-        name: "a read that failed",
-        sent: &[Piece::MagicNop],
-        told: &[Told::Began, Told::Idle, Told::Nop, Told::Idle, Told::Gone],
-        got: &[],
-        stopped: false,
-        wanted: 0,
-        is: Some(Ended::ReadFault),
-        is_not: Some(Ended::Closed),
-    },
-    Row {
-        name: "a Gone missing at the end of input",
-        sent: &[],
-        told: &[Told::Began, Told::Idle],
-        got: &[],
-        stopped: false,
-        wanted: 0,
-        is: None,
-        is_not: Some(Ended::EndOfInput),
-    },
-    Row {
-        name: "a Gone missing as its turn wanted memory",
-        sent: &[],
-        told: &[Told::Began, Told::Idle],
-        got: &[],
-        stopped: false,
-        wanted: 1,
-        is: Some(Ended::EndOfInput),
-        is_not: Some(Ended::Closed),
-    },
-];
-
-static OTHER: [Row; 5] = [
-    Row {
-        name: "a Gone missing at a closed connection",
-        sent: &[Piece::BadMagic],
-        told: &[Told::Began, Told::Idle, Told::BadMagic],
-        got: &[Got::BadProtocol],
-        stopped: false,
-        wanted: 1,
-        is: None,
-        is_not: Some(Ended::Closed),
-    },
-    Row {
-        name: "a Stop that closes the connection in the middle of a round",
-        sent: &[Piece::Subscribe(1)],
-        told: &[Told::Began, Told::Idle, Told::Sub, Told::Gone],
-        got: &[Got::Ok],
-        stopped: true,
-        wanted: 0,
-        is: Some(Ended::Closed),
-        is_not: Some(Ended::EndOfInput),
-    },
-    Row {
-        name: "no Stop that closes it",
-        sent: &[Piece::Subscribe(1)],
-        told: &[Told::Began, Told::Idle, Told::Sub, Told::Gone],
-        got: &[Got::Ok],
-        stopped: false,
-        wanted: 0,
-        is: None,
-        is_not: Some(Ended::Closed),
-    },
-    Row {
-        name: "a channel that was deleted, seen before a sending",
-        sent: &[Piece::Subscribe(1)],
-        told: &[
-            Told::Began,
-            Told::Idle,
-            Told::Sub,
-            Told::Rdy(1),
-            Told::Dropped,
-            Told::Gone,
-        ],
-        got: &[Got::Ok],
-        stopped: false,
-        wanted: 0,
-        is: Some(Ended::Closed),
-        is_not: Some(Ended::EndOfInput),
-    },
-    Row {
-        name: "a channel that was deleted, seen at a command",
-        sent: &[Piece::Subscribe(1), Piece::Nop],
-        told: &[
-            Told::Began,
-            Told::Idle,
-            Told::Sub,
-            Told::Rdy(1),
-            Told::Idle,
-            Told::Dropped,
-            Told::Gone,
-        ],
-        got: &[Got::Ok],
-        stopped: false,
-        wanted: 0,
-        is: Some(Ended::Closed),
-        is_not: Some(Ended::EndOfInput),
-    },
-];
-
-static LAST: [Row; 4] = [
-    Row {
-        name: "an entry behind the one that closes",
-        sent: &[Piece::BadMagic],
-        told: &[
-            Told::Began,
-            Told::Idle,
-            Told::BadMagic,
-            Told::Idle,
-            Told::Gone,
-        ],
-        got: &[Got::BadProtocol],
-        stopped: false,
-        wanted: 0,
-        is: None,
-        is_not: Some(Ended::Closed),
-    },
-    Row {
-        name: "a byte behind the answer that closes",
-        sent: &[Piece::BadMagic],
-        told: &[Told::Began, Told::Idle, Told::BadMagic, Told::Gone],
-        got: &[Got::BadProtocol, Got::X],
-        stopped: false,
-        wanted: 0,
-        is: None,
-        is_not: Some(Ended::Closed),
-    },
-    Row {
-        name: "a frame at the end of a silent client",
-        sent: &[Piece::MagicNop],
-        told: &[
-            Told::Began,
-            Told::Idle,
-            Told::Nop,
-            Told::Idle,
-            Told::Silent,
-            Told::Gone,
-        ],
-        got: &[Got::Heartbeat],
-        stopped: false,
-        wanted: 0,
-        is: None,
-        is_not: Some(Ended::Closed),
-    },
-    Row {
-        name: "a client that is silent at a command",
-        sent: &[Piece::MagicNop, Piece::Nop],
-        told: &[
-            Told::Began,
-            Told::Idle,
-            Told::Nop,
-            Told::Idle,
-            Told::Nop,
-            Told::Silent,
-            Told::Gone,
-        ],
-        got: &[],
-        stopped: false,
-        wanted: 0,
-        is: Some(Ended::Closed),
-        is_not: Some(Ended::EndOfInput),
-    },
-];
-
-fn first() -> &'static [Row] {
-    &FIRST
-}
-
-fn more() -> &'static [Row] {
-    &MORE
-}
-
-fn other() -> &'static [Row] {
-    &OTHER
-}
-
-fn last() -> &'static [Row] {
-    &LAST
-}
-
-/// The tables.
-pub(super) fn tables() -> [&'static [Row]; 4] {
-    [first(), more(), other(), last()]
+pub fn rows() -> &'static [&'static str] {
+    &ROWS
 }

@@ -18,57 +18,58 @@ const SIX: Caller = Caller {
 const FOUR: &[u8] =
     b"RDY 1\nFIN 0000010000000000\nFIN 0000010000000001\nFIN 0000010000000002\nFIN 0000010000000003\n";
 
-static ROWS_1: [Row; 1] = [Row {
-    name: "as many are sent as are wanted, and one more as one is finished",
-    runs: &[Run {
-        callers: &[
-            THREE,
-            Caller {
-                sends: &[b"  V2SUB t c\nRDY 2\n", b"FIN 0000010000000000\n"],
-                gets: &[
-                    OK,
-                    FIRST,
-                    b"0000010000000000a",
-                    FIRST,
-                    b"0000010000000001b",
-                    FIRST,
-                    b"0000010000000002c",
-                ],
-                ..CALLER
-            },
-        ],
-        ..RUN
-    }],
-}];
+static ROWS_1: [Row; 2] = [
+    Row {
+        name: "as many are sent as are wanted, and one more as one is finished",
+        runs: &[Run {
+            callers: &[
+                THREE,
+                Caller {
+                    sends: &[b"  V2SUB t c\nRDY 2\n", b"FIN 0000010000000000\n"],
+                    gets: &[
+                        OK,
+                        FIRST,
+                        b"0000010000000000a",
+                        FIRST,
+                        b"0000010000000001b",
+                        FIRST,
+                        b"0000010000000002c",
+                    ],
+                    ..CALLER
+                },
+            ],
+            ..RUN
+        }],
+    },
+    Row {
+        name: "nothing is sent while as many are in flight as are wanted",
+        runs: &[Run {
+            callers: &[
+                SIX,
+                Caller {
+                    sends: &[b"  V2SUB t c\nRDY 5\n", FOUR, b""],
+                    gets: &[
+                        OK,
+                        FIRST,
+                        b"0000010000000000a",
+                        FIRST,
+                        b"0000010000000001b",
+                        FIRST,
+                        b"0000010000000002c",
+                        FIRST,
+                        b"0000010000000003d",
+                        FIRST,
+                        b"0000010000000004e",
+                    ],
+                    ..CALLER
+                },
+            ],
+            ..RUN
+        }],
+    },
+];
 
 static ROWS_2: [Row; 1] = [Row {
-    name: "nothing is sent while as many are in flight as are wanted",
-    runs: &[Run {
-        callers: &[
-            SIX,
-            Caller {
-                sends: &[b"  V2SUB t c\nRDY 5\n", FOUR, b""],
-                gets: &[
-                    OK,
-                    FIRST,
-                    b"0000010000000000a",
-                    FIRST,
-                    b"0000010000000001b",
-                    FIRST,
-                    b"0000010000000002c",
-                    FIRST,
-                    b"0000010000000003d",
-                    FIRST,
-                    b"0000010000000004e",
-                ],
-                ..CALLER
-            },
-        ],
-        ..RUN
-    }],
-}];
-
-static ROWS_3: [Row; 1] = [Row {
     name: "the next is sent as the fifth is finished, and not before",
     runs: &[Run {
         callers: &[
@@ -104,43 +105,44 @@ static ROWS_3: [Row; 1] = [Row {
     }],
 }];
 
-static ROWS_4: [Row; 1] = [Row {
-    name: "a message is finished once, and the client goes on",
-    runs: &[Run {
-        callers: &[
-            ONE,
-            Caller {
-                sends: &[
-                    b"  V2SUB t c\nRDY 1\n",
-                    b"FIN 0000010000000000\nFIN 0000010000000000\nNOP\n",
-                ],
-                gets: &[OK, FIRST, b"0000010000000000a", NOT_IN_FLIGHT],
-                ..CALLER
-            },
-        ],
-        ..RUN
-    }],
-}];
-
-static ROWS_5: [Row; 1] = [Row {
-    name: "a client that wants no more gets none, and says so once",
-    runs: &[Run {
-        callers: &[
-            ONE,
-            Caller {
-                sends: &[b"  V2SUB t c\nRDY 1\nCLS\n", b"CLS\n"],
-                gets: &[
-                    OK,
-                    b"\0\0\0\x0e\0\0\0\0CLOSE_WAIT",
-                    b"\0\0\0\x1f\0\0\0\x01E_INVALID not in this state",
-                ],
-                ended: Ended::Closed,
-                ..CALLER
-            },
-        ],
-        ..RUN
-    }],
-}];
+static ROWS_3: [Row; 2] = [
+    Row {
+        name: "a message is finished once, and the client goes on",
+        runs: &[Run {
+            callers: &[
+                ONE,
+                Caller {
+                    sends: &[
+                        b"  V2SUB t c\nRDY 1\n",
+                        b"FIN 0000010000000000\nFIN 0000010000000000\nNOP\n",
+                    ],
+                    gets: &[OK, FIRST, b"0000010000000000a", NOT_IN_FLIGHT],
+                    ..CALLER
+                },
+            ],
+            ..RUN
+        }],
+    },
+    Row {
+        name: "a client that wants no more gets none, and says so once",
+        runs: &[Run {
+            callers: &[
+                ONE,
+                Caller {
+                    sends: &[b"  V2SUB t c\nRDY 1\nCLS\n", b"CLS\n"],
+                    gets: &[
+                        OK,
+                        b"\0\0\0\x0e\0\0\0\0CLOSE_WAIT",
+                        b"\0\0\0\x1f\0\0\0\x01E_INVALID not in this state",
+                    ],
+                    ended: Ended::Closed,
+                    ..CALLER
+                },
+            ],
+            ..RUN
+        }],
+    },
+];
 
 pub fn rows_1() -> &'static [Row] {
     &ROWS_1
@@ -152,12 +154,4 @@ pub fn rows_2() -> &'static [Row] {
 
 pub fn rows_3() -> &'static [Row] {
     &ROWS_3
-}
-
-pub fn rows_4() -> &'static [Row] {
-    &ROWS_4
-}
-
-pub fn rows_5() -> &'static [Row] {
-    &ROWS_5
 }

@@ -20,119 +20,120 @@ const KEPT: Run = Run {
 const RECORDS: &[u8] =
     b"\0\0\0\x1b\0\0\0\0\0\0\0\0\0\00000010000000000a\0\0\0\x1b\0\0\0\0\0\0\0\0\0\00000010000000001b\0\0\0\x1b\0\0\0\0\0\0\0\0\0\00000010000000002c";
 
-static ROWS_1: [Row; 1] = [Row {
-    name: "a publish is kept",
-    runs: &[KEPT],
-}];
-
-static ROWS_2: [Row; 1] = [Row {
-    name: "a publish in single bytes is kept",
-    runs: &[Run { size: 1, ..KEPT }],
-}];
-
-static ROWS_3: [Row; 1] = [Row {
-    name: "a caller that ends at once",
-    runs: &[Run {
-        callers: &[CALLER],
-        leaves: &[(NAMES, Some(NO_TOPIC))],
-        ..RUN
-    }],
-}];
-
-static ROWS_4: [Row; 1] = [Row {
-    name: "another magic",
-    runs: &[Run {
-        callers: &[Caller {
-            sends: &[b"  V1"],
-            gets: &[b"\0\0\0\x12\0\0\0\x01E_BAD_PROTOCOL"],
-            ended: Ended::Closed,
-            ..CALLER
+static ROWS_1: [Row; 3] = [
+    Row {
+        name: "a publish is kept",
+        runs: &[KEPT],
+    },
+    Row {
+        name: "a publish in single bytes is kept",
+        runs: &[Run { size: 1, ..KEPT }],
+    },
+    Row {
+        name: "a caller that ends at once",
+        runs: &[Run {
+            callers: &[CALLER],
+            leaves: &[(NAMES, Some(NO_TOPIC))],
+            ..RUN
         }],
-        leaves: &[(NAMES, Some(NO_TOPIC))],
-        ..RUN
-    }],
-}];
+    },
+];
 
-static ROWS_5: [Row; 1] = [Row {
-    name: "several messages whose last size is wrong make no topic",
-    runs: &[Run {
-        callers: &[Caller {
-            sends: &[b"  V2MPUB t\n\0\0\0\x13\0\0\0\x03\0\0\0\x01a\0\0\0\x01b\0\0\0\x02c"],
-            gets: &[b"\0\0\0\x17\0\0\0\x01E_BAD_BODY bad body"],
-            ended: Ended::Closed,
-            ..CALLER
-        }],
-        leaves: &[(NAMES, Some(NO_TOPIC)), (DATA, None)],
-        ..RUN
-    }],
-}];
-
-static ROWS_6: [Row; 1] = [Row {
-    name: "several messages are three",
-    runs: &[Run {
-        callers: &[Caller {
-            sends: &[b"  V2MPUB t\n\0\0\0\x13\0\0\0\x03\0\0\0\x01a\0\0\0\x01b\0\0\0\x01c"],
-            gets: &[OK],
-            ..CALLER
-        }],
-        leaves: &[
-            (NAMES, Some(ONE_TOPIC)),
-            (DATA, Some(RECORDS)),
-            (META, Some(b"3\n0,0\n0,93\n")),
-        ],
-        ..RUN
-    }],
-}];
-
-static ROWS_7: [Row; 1] = [Row {
-    name: "what a client says of itself",
-    runs: &[Run {
-        callers: &[
-            Caller {
-                sends: &[b"  V2IDENTIFY\n\0\0\0\x1c{\"feature_negotiation\":true}"],
-                gets: &[
-                    b"\0\0\0\xd5\0\0\0\0",
-                    br#"{"auth_required":false,"deflate":false,"deflate_level":0,"max_deflate_level":0,"max_msg_timeout":900000,"max_rdy_count":2500,"msg_timeout":60000,"sample_rate":0,"snappy":false,"tls_v1":false,"version":"1.0.0"}"#,
-                ],
-                ..CALLER
-            },
-            Caller {
-                sends: &[b"  V2IDENTIFY\n\0\0\0\x02{}"],
-                gets: &[OK],
-                ..CALLER
-            },
-            Caller {
-                sends: &[b"  V2IDENTIFY\n\0\0\0\x02[]"],
-                gets: &[b"\0\0\0\x17\0\0\0\x01E_BAD_BODY bad JSON"],
+static ROWS_2: [Row; 3] = [
+    Row {
+        name: "another magic",
+        runs: &[Run {
+            callers: &[Caller {
+                sends: &[b"  V1"],
+                gets: &[b"\0\0\0\x12\0\0\0\x01E_BAD_PROTOCOL"],
                 ended: Ended::Closed,
                 ..CALLER
-            },
-        ],
-        leaves: &[(NAMES, Some(NO_TOPIC))],
-        ..RUN
-    }],
-}];
+            }],
+            leaves: &[(NAMES, Some(NO_TOPIC))],
+            ..RUN
+        }],
+    },
+    Row {
+        name: "several messages whose last size is wrong make no topic",
+        runs: &[Run {
+            callers: &[Caller {
+                sends: &[b"  V2MPUB t\n\0\0\0\x13\0\0\0\x03\0\0\0\x01a\0\0\0\x01b\0\0\0\x02c"],
+                gets: &[b"\0\0\0\x17\0\0\0\x01E_BAD_BODY bad body"],
+                ended: Ended::Closed,
+                ..CALLER
+            }],
+            leaves: &[(NAMES, Some(NO_TOPIC)), (DATA, None)],
+            ..RUN
+        }],
+    },
+    Row {
+        name: "several messages are three",
+        runs: &[Run {
+            callers: &[Caller {
+                sends: &[b"  V2MPUB t\n\0\0\0\x13\0\0\0\x03\0\0\0\x01a\0\0\0\x01b\0\0\0\x01c"],
+                gets: &[OK],
+                ..CALLER
+            }],
+            leaves: &[
+                (NAMES, Some(ONE_TOPIC)),
+                (DATA, Some(RECORDS)),
+                (META, Some(b"3\n0,0\n0,93\n")),
+            ],
+            ..RUN
+        }],
+    },
+];
 
-static ROWS_8: [Row; 1] = [Row {
-    name: "callers of both kinds are served one after another, and handed back under their numbers",
-    runs: &[Run {
-        callers: &[
-            Caller {
-                sends: &[b"GET /ping HTTP/1.1\r\n\r\n"],
-                gets: &[HTTP_OK],
-                ..ASKER
-            },
-            PUBLISHER,
-            ASKER,
-            CALLER,
-            Caller {
-                sends: &[b"  V2PUB u\n\0\0\0\x02hi"],
-                ..ASKER
-            },
-        ],
-        ..KEPT
-    }],
-}];
+static ROWS_3: [Row; 2] = [
+    Row {
+        name: "what a client says of itself",
+        runs: &[Run {
+            callers: &[
+                Caller {
+                    sends: &[b"  V2IDENTIFY\n\0\0\0\x1c{\"feature_negotiation\":true}"],
+                    gets: &[
+                        b"\0\0\0\xd5\0\0\0\0",
+                        br#"{"auth_required":false,"deflate":false,"deflate_level":0,"max_deflate_level":0,"max_msg_timeout":900000,"max_rdy_count":2500,"msg_timeout":60000,"sample_rate":0,"snappy":false,"tls_v1":false,"version":"1.0.0"}"#,
+                    ],
+                    ..CALLER
+                },
+                Caller {
+                    sends: &[b"  V2IDENTIFY\n\0\0\0\x02{}"],
+                    gets: &[OK],
+                    ..CALLER
+                },
+                Caller {
+                    sends: &[b"  V2IDENTIFY\n\0\0\0\x02[]"],
+                    gets: &[b"\0\0\0\x17\0\0\0\x01E_BAD_BODY bad JSON"],
+                    ended: Ended::Closed,
+                    ..CALLER
+                },
+            ],
+            leaves: &[(NAMES, Some(NO_TOPIC))],
+            ..RUN
+        }],
+    },
+    Row {
+        name: "callers of both kinds are served one after another, and handed back under their numbers",
+        runs: &[Run {
+            callers: &[
+                Caller {
+                    sends: &[b"GET /ping HTTP/1.1\r\n\r\n"],
+                    gets: &[HTTP_OK],
+                    ..ASKER
+                },
+                PUBLISHER,
+                ASKER,
+                CALLER,
+                Caller {
+                    sends: &[b"  V2PUB u\n\0\0\0\x02hi"],
+                    ..ASKER
+                },
+            ],
+            ..KEPT
+        }],
+    },
+];
 
 pub fn rows_1() -> &'static [Row] {
     &ROWS_1
@@ -144,24 +145,4 @@ pub fn rows_2() -> &'static [Row] {
 
 pub fn rows_3() -> &'static [Row] {
     &ROWS_3
-}
-
-pub fn rows_4() -> &'static [Row] {
-    &ROWS_4
-}
-
-pub fn rows_5() -> &'static [Row] {
-    &ROWS_5
-}
-
-pub fn rows_6() -> &'static [Row] {
-    &ROWS_6
-}
-
-pub fn rows_7() -> &'static [Row] {
-    &ROWS_7
-}
-
-pub fn rows_8() -> &'static [Row] {
-    &ROWS_8
 }

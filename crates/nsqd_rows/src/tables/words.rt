@@ -15,63 +15,50 @@ const REFUSED: Run = Run {
     ..NOTHING
 };
 
-static ROWS_1: [Row; 1] = [Row {
-    name: "the version is printed",
-    runs: &[Run {
-        setting: Setting {
-            words: &["--version"],
-            ..DEFAULTS
-        },
-        printed: b"nsqd 1.0.0\n",
-        ..NOTHING
-    }],
-}];
+static ROWS: [Row; 4] = [
+    Row {
+        name: "the version is printed",
+        runs: &[Run {
+            setting: Setting {
+                words: &["--version"],
+                ..DEFAULTS
+            },
+            printed: b"nsqd 1.0.0\n",
+            ..NOTHING
+        }],
+    },
+    Row {
+        name: "a size that is no number",
+        runs: &[Run {
+            setting: Setting {
+                words: &["--mem-queue-size=x"],
+                ..DEFAULTS
+            },
+            ..REFUSED
+        }],
+    },
+    Row {
+        name: "an option that is said twice",
+        runs: &[Run {
+            setting: Setting {
+                words: &["--mem-queue-size=5", "--mem-queue-size=5"],
+                ..DEFAULTS
+            },
+            ..REFUSED
+        }],
+    },
+    Row {
+        name: "a message timeout above the longest",
+        runs: &[Run {
+            setting: Setting {
+                words: &["--msg-timeout=16m"],
+                ..DEFAULTS
+            },
+            ..REFUSED
+        }],
+    },
+];
 
-static ROWS_2: [Row; 1] = [Row {
-    name: "a size that is no number",
-    runs: &[Run {
-        setting: Setting {
-            words: &["--mem-queue-size=x"],
-            ..DEFAULTS
-        },
-        ..REFUSED
-    }],
-}];
-
-static ROWS_3: [Row; 1] = [Row {
-    name: "an option that is said twice",
-    runs: &[Run {
-        setting: Setting {
-            words: &["--mem-queue-size=5", "--mem-queue-size=5"],
-            ..DEFAULTS
-        },
-        ..REFUSED
-    }],
-}];
-
-static ROWS_4: [Row; 1] = [Row {
-    name: "a message timeout above the longest",
-    runs: &[Run {
-        setting: Setting {
-            words: &["--msg-timeout=16m"],
-            ..DEFAULTS
-        },
-        ..REFUSED
-    }],
-}];
-
-pub fn rows_1() -> &'static [Row] {
-    &ROWS_1
-}
-
-pub fn rows_2() -> &'static [Row] {
-    &ROWS_2
-}
-
-pub fn rows_3() -> &'static [Row] {
-    &ROWS_3
-}
-
-pub fn rows_4() -> &'static [Row] {
-    &ROWS_4
+pub fn rows() -> &'static [Row] {
+    &ROWS
 }

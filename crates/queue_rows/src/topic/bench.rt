@@ -10,6 +10,7 @@ use disk_queue::{Emptied, Open, Sync};
 use nsq_base::{Body, Chan, Memory, MsgId, Options, Topic};
 use nsq_fakes::{Failing, MemFolder};
 use std::alloc::Global;
+use std::process::Abort;
 use topic_core::{DropTopic, Head, TopicQueue};
 use v2_frame::Message;
 
@@ -137,7 +138,8 @@ impl Bench {
 
     /// Opens a topic of that name in the folder, in place of this one.
     pub fn open(&mut self, alloc: Global) -> Result<(), Open> {
-        self.topic = TopicQueue::open(alloc, &mut self.folder, self.topic.name(), &self.options)?;
+        let opened = TopicQueue::open(alloc, &mut self.folder, self.topic.name(), &self.options)?;
+        let_topic_go(std::mem::replace(&mut self.topic, opened));
         Ok(())
     }
 
@@ -147,7 +149,10 @@ impl Bench {
         let old = std::mem::replace(&mut self.topic, fresh);
         match old.delete(&mut self.folder) {
             DropTopic::Done => Ok(true),
-            DropTopic::Fault(_topic) => Ok(false),
+            DropTopic::Fault(kept) => {
+                let_topic_go(kept);
+                Ok(false)
+            }
         }
     }
 
@@ -179,14 +184,33 @@ impl Bench {
         if owed.len() != letters.len() {
             return false;
         }
-        for (i, letter) in letters.iter().enumerate() {
-            if i >= owed.len() || !same(owed[i].bytes(), &[*letter]) {
-                return false;
-            }
+        let mut all = true;
+        for i in 0..letters.len() {
+            all = all && same(owed[i].bytes(), &[letters[i]]);
         }
-        true
+        all
     }
 }
+
+/// A new topic of that name in an empty folder, as a bench.
+pub fn bench_of(
+    rt: &impl Abort,
+    alloc: Global,
+    topic: &[u8],
+    memory: u64,
+    fails: &[Failing],
+) -> Bench {
+    match Topic::read(topic) {
+        Some(name) => Bench::new(alloc, name, memory, fails).expect(rt, "memory"),
+        None => panic!(rt; "a topic's name"),
+    }
+}
+
+// Takes a topic's queue apart, once for all that held one.
+fn let_topic_go(_topic: TopicQueue) {}
+
+/// Takes a bench apart, once for all that held one.
+pub fn let_go(_bench: Bench) {}
 
 /// The delay of the message of this number.
 pub fn delay_of(number: u64) -> u64 {

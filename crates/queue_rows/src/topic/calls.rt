@@ -2,22 +2,20 @@
 
 use crate::topic::bench::Scratch;
 use crate::topic::{random, script};
-use nsq_base::Memory;
 use std::alloc::Global;
-use std::test::Fail;
+use std::process::Abort;
 
 // The name of the first row that doesn't hold.
-fn wrong(alloc: Global, scratch: &mut Scratch) -> Result<Option<&'static str>, Memory> {
-    match script::wrong(alloc, scratch)? {
-        Some(name) => Ok(Some(name)),
-        None => random::wrong(alloc, scratch),
+fn wrong(rt: &impl Abort, alloc: Global, scratch: &mut Scratch) -> Option<&'static str> {
+    match script::wrong(rt, alloc, scratch) {
+        Some(name) => Some(name),
+        None => random::wrong(rt, alloc, scratch),
     }
 }
 
 #[test]
-fn rows(rt: HostRuntime) -> Result<(), Fail> {
+fn rows(rt: HostRuntime) {
     let alloc = rt.alloc();
-    let wrong = wrong(alloc, &mut Scratch::new(alloc)?)?;
+    let wrong = wrong(&rt, alloc, &mut Scratch::new(alloc).expect(&rt, "memory"));
     assert!(rt; wrong.is_none(), "{}", wrong.unwrap_or(""));
-    Ok(())
 }

@@ -1,11 +1,11 @@
 //! A topic as a plain list of what waits in it, by the rules of the floor alone.
 
 use crate::topic::bench::delay_of;
-use nsq_base::Memory;
 use std::alloc::Global;
+use std::process::Abort;
 
 /// A message that waits: its number, its delay, and whether that may be forgotten.
-#[derive(Clone, Copy, PartialEq, Eq)]
+#[derive(Clone, Copy)]
 pub struct Waiting {
     pub number: u64,
     pub delay: u64,
@@ -36,27 +36,25 @@ impl Plain {
     }
 
     /// Puts a message in. An ephemeral topic drops it where as many wait as memory has room for.
-    pub fn put(&mut self, number: u64, delay: u64) -> Result<(), Memory> {
+    pub fn put(&mut self, rt: &impl Abort, number: u64, delay: u64) {
         let loose = self.memory <= self.waiting.len();
         if self.ephemeral && loose {
-            return Ok(());
+            return;
         }
         let waiting = Waiting {
             number,
             delay,
             loose,
         };
-        self.waiting.push(waiting)?;
+        self.waiting.push(waiting).expect(rt, "memory");
         self.count = self.count.saturating_add(1);
-        Ok(())
     }
 
     /// Puts messages in, each with the delay of its number.
-    pub fn put_all(&mut self, numbers: &[u64]) -> Result<(), Memory> {
+    pub fn put_all(&mut self, rt: &impl Abort, numbers: &[u64]) {
         for number in numbers {
-            self.put(*number, delay_of(*number))?;
+            self.put(rt, *number, delay_of(*number));
         }
-        Ok(())
     }
 
     /// Whether a message of this number waits that may have this delay. Then it waits no more.
@@ -72,11 +70,10 @@ impl Plain {
     }
 
     /// Takes a message that was drawn, which these channels are owed.
-    pub fn take(&mut self, number: u64, delay: u64, channels: &[u8]) -> Result<(), Memory> {
+    pub fn take(&mut self, rt: &impl Abort, number: u64, delay: u64, channels: &[u8]) {
         self.taken = Some((number, delay));
         self.owed.clear();
-        self.owed.extend_from_slice(channels)?;
-        Ok(())
+        self.owed.extend_from_slice(channels).expect(rt, "memory");
     }
 
     /// The channel is owed nothing. What is owed to none is taken no more.
@@ -88,14 +85,14 @@ impl Plain {
     }
 
     /// What a stop and a start leave of it: all that waited, and what was taken, without delays.
-    pub fn restart(&mut self) -> Result<(), Memory> {
+    pub fn restart(&mut self, rt: &impl Abort) {
         if let Some((number, delay)) = self.taken {
             let waiting = Waiting {
                 number,
                 delay,
                 loose: true,
             };
-            self.waiting.push(waiting)?;
+            self.waiting.push(waiting).expect(rt, "memory");
         }
         for waiting in &mut self.waiting {
             waiting.delay = 0;
@@ -103,7 +100,6 @@ impl Plain {
         self.taken = None;
         self.owed.clear();
         self.count = 0;
-        Ok(())
     }
 
     // Where the message of this number stands.

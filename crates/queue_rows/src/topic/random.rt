@@ -2,14 +2,13 @@
 
 ghost use Rattle.std.specs.Prelude.{◌≤◌};
 
-use crate::topic::bench::{Bench, Scratch};
+use crate::topic::bench::{Bench, Scratch, bench_of};
 use crate::topic::plain::Plain;
-use crate::topic::script::is_opened;
 use backlog::{Flushed, PutAll};
-use disk_queue::Emptied;
-use nsq_base::{Memory, Topic};
+use disk_queue::{Emptied, Open};
 use nsq_fakes::{Failing, FolderCall};
 use std::alloc::Global;
+use std::process::Abort;
 use topic_core::Head;
 
 // A run of random calls.
@@ -112,78 +111,82 @@ fn letters(state: &mut u64) -> &'static [u8] {
 }
 
 // So many numbers from the next one on.
-fn numbers(alloc: Global, count: u64, next: &mut u64) -> Result<Vec<u64>, Memory> {
+fn numbers(rt: &impl Abort, alloc: Global, count: u64, next: &mut u64) -> Vec<u64> {
     let mut numbers = Vec::new(alloc);
     for _ in 0..count {
-        numbers.push(*next)?;
+        numbers.push(*next).expect(rt, "memory");
         *next = next.wrapping_add(1);
     }
-    Ok(numbers)
+    numbers
 }
 
 impl Pair {
     // One random call. Whether it answers what the list says, and shows that afterwards.
-    fn step(&mut self, alloc: Global, scratch: &mut Scratch) -> Result<bool, Memory> {
+    fn step(&mut self, rt: &impl Abort, alloc: Global, scratch: &mut Scratch) -> bool {
         let right = match below(&mut self.state, 32) {
-            0..=11 => self.put(alloc, scratch)?,
-            12..=17 => self.take(alloc, scratch)?,
-            18..=19 => self.undo(alloc, scratch)?,
+            0..=11 => self.put(rt, alloc, scratch),
+            12..=17 => self.take(rt, alloc, scratch),
+            18..=19 => self.undo(rt, alloc, scratch),
             20..=27 => self.pay(),
             28..=29 => self.forget(),
             30 => self.empty(),
-            _ => self.restart(alloc, scratch)?,
+            _ => self.restart(rt, alloc, scratch),
         };
-        Ok(right && self.agrees())
+        right && self.agrees()
     }
 
     // Up to three messages are put.
-    fn put(&mut self, alloc: Global, scratch: &mut Scratch) -> Result<bool, Memory> {
+    fn put(&mut self, rt: &impl Abort, alloc: Global, scratch: &mut Scratch) -> bool {
         let count = below(&mut self.state, 4);
-        let numbers = numbers(alloc, count, &mut self.next)?;
-        match self.bench.put(alloc, scratch, &numbers)? {
+        let numbers = numbers(rt, alloc, count, &mut self.next);
+        match self
+            .bench
+            .put(alloc, scratch, &numbers)
+            .expect(rt, "memory")
+        {
             (PutAll::Done, left) => {
-                self.plain.put_all(&numbers)?;
-                Ok(left == 0)
+                self.plain.put_all(rt, &numbers);
+                left == 0
             }
-            (PutAll::Fault, left) => Ok(self.fails && left == numbers.len()),
+            (PutAll::Fault, left) => self.fails && left == numbers.len(),
         }
     }
 
     // A message is taken, where none is.
-    fn take(&mut self, alloc: Global, scratch: &mut Scratch) -> Result<bool, Memory> {
+    fn take(&mut self, rt: &impl Abort, alloc: Global, scratch: &mut Scratch) -> bool {
         let letters = letters(&mut self.state);
-        match self.bench.take(alloc, scratch, letters, true)? {
-            Some(Head::Ready) => self.took(letters),
+        let answer = self.bench.take(alloc, scratch, letters, true);
+        match answer.expect(rt, "memory") {
+            Some(Head::Ready) => self.took(rt, letters),
             other => self.draws(other),
         }
     }
 
     // The message that was taken, which these channels are owed, is taken from the list.
-    fn took(&mut self, letters: &[u8]) -> Result<bool, Memory> {
+    fn took(&mut self, rt: &impl Abort, letters: &[u8]) -> bool {
         let Some((number, delay)) = self.bench.head() else {
-            return Ok(false);
+            return false;
         };
-        self.plain.take(number, delay, letters)?;
-        Ok(self.plain.draw(number, delay))
+        self.plain.take(rt, number, delay, letters);
+        self.plain.draw(number, delay)
     }
 
     // A message is drawn, where none is taken, and put back.
-    fn undo(&mut self, alloc: Global, scratch: &mut Scratch) -> Result<bool, Memory> {
+    fn undo(&mut self, rt: &impl Abort, alloc: Global, scratch: &mut Scratch) -> bool {
         let letters = letters(&mut self.state);
-        let answer = self.bench.take(alloc, scratch, letters, false)?;
-        self.draws(answer)
+        let answer = self.bench.take(alloc, scratch, letters, false);
+        self.draws(answer.expect(rt, "memory"))
     }
 
     // Whether a message that isn't kept is drawn as the list says: none is where one is taken.
-    fn draws(&self, answer: Option<Head>) -> Result<bool, Memory> {
+    fn draws(&self, answer: Option<Head>) -> bool {
         let waits = !self.plain.waiting.is_empty();
         match answer {
-            None => Ok(self.plain.taken.is_some()),
-            Some(Head::Ready) => Ok(waits),
-            Some(Head::Empty) => Ok(!waits),
-            Some(Head::Fault) => Ok(self.fails && waits),
-            Some(Head::Damaged) => Ok(false),
-            Some(Head::Memory) => Err(Memory),
+            None => self.plain.taken.is_some(),
+            Some(Head::Ready) => waits,
+            Some(Head::Empty) => !waits,
+            Some(Head::Fault) => self.fails && waits,
+            Some(Head::Damaged | Head::Memory) => false,
         }
     }
 
@@ -215,27 +218,31 @@ impl Pair {
     }
 
     // A durable topic is flushed and opened again. Where that fails it is tried again.
-    fn restart(&mut self, alloc: Global, scratch: &mut Scratch) -> Result<bool, Memory> {
+    fn restart(&mut self, rt: &impl Abort, alloc: Global, scratch: &mut Scratch) -> bool {
         if self.bench.topic.name().ephemeral() {
-            return Ok(true);
+            return true;
         }
         for _ in 0..100 {
             match self.bench.flush(scratch) {
-                Flushed::Done => return self.reopen(alloc),
+                Flushed::Done => return self.reopen(rt, alloc),
                 Flushed::Fault => {}
             }
         }
-        Ok(false)
+        false
     }
 
-    fn reopen(&mut self, alloc: Global) -> Result<bool, Memory> {
+    fn reopen(&mut self, rt: &impl Abort, alloc: Global) -> bool {
         for _ in 0..100 {
-            if is_opened(alloc, &mut self.bench)? {
-                self.plain.restart()?;
-                return Ok(true);
+            match self.bench.open(alloc) {
+                Ok(()) => {
+                    self.plain.restart(rt);
+                    return true;
+                }
+                Err(Open::Memory) => return false,
+                Err(Open::Fault | Open::BadMeta) => {}
             }
         }
-        Ok(false)
+        false
     }
 
     // Whether the topic's queue shows what the list says.
@@ -249,36 +256,44 @@ impl Pair {
     }
 }
 
-// Whether all random calls of a run answer and show what the list says.
-fn holds(alloc: Global, scratch: &mut Scratch, run: &Run) -> Result<bool, Memory> {
-    let Some(name) = Topic::read(run.topic) else {
-        return Ok(false);
-    };
-    let mut pair = Pair {
-        bench: Bench::new(alloc, name, run.memory, run.fails)?,
-        plain: Plain::new(alloc, name.ephemeral(), run.memory as usize),
+// The pair that a run begins with.
+fn pair_of(rt: &impl Abort, alloc: Global, run: &Run) -> Pair {
+    let bench = bench_of(rt, alloc, run.topic, run.memory, run.fails);
+    let ephemeral = bench.topic.name().ephemeral();
+    Pair {
+        bench,
+        plain: Plain::new(alloc, ephemeral, run.memory as usize),
         fails: !run.fails.is_empty(),
         next: 0,
         state: run.seed,
-    };
-    all_are_right(alloc, scratch, &mut pair)
+    }
 }
 
-fn all_are_right(alloc: Global, scratch: &mut Scratch, pair: &mut Pair) -> Result<bool, Memory> {
+fn let_go(_pair: Pair) {}
+
+// Whether all random calls of a run answer and show what the list says.
+fn holds(rt: &impl Abort, alloc: Global, scratch: &mut Scratch, run: &Run) -> bool {
+    let mut pair = pair_of(rt, alloc, run);
+    let right = all_are_right(rt, alloc, scratch, &mut pair);
+    let_go(pair);
+    right
+}
+
+fn all_are_right(rt: &impl Abort, alloc: Global, scratch: &mut Scratch, pair: &mut Pair) -> bool {
     for _ in 0..CALLS {
-        if !pair.step(alloc, scratch)? {
-            return Ok(false);
+        if !pair.step(rt, alloc, scratch) {
+            return false;
         }
     }
-    Ok(true)
+    true
 }
 
 /// The name of the first run that doesn't hold.
-pub fn wrong(alloc: Global, scratch: &mut Scratch) -> Result<Option<&'static str>, Memory> {
+pub fn wrong(rt: &impl Abort, alloc: Global, scratch: &mut Scratch) -> Option<&'static str> {
     for run in &RUNS {
-        if !holds(alloc, scratch, run)? {
-            return Ok(Some(run.name));
+        if !holds(rt, alloc, scratch, run) {
+            return Some(run.name);
         }
     }
-    Ok(None)
+    None
 }

@@ -1,470 +1,278 @@
 //! Scripts of calls: what each answers, which message is the head, who is owed a copy of it, and what is left on disk.
+//!
+//! A row is a text: its name; a topic in an empty folder; how many messages find room in memory; the calls of the folder that fail, each from a
+//! number on and below another; and steps, with a `;` between them, which say their answers behind `=>`. A message's number is a letter, and
+//! its delay is that of the number, unless it lay on disk. A channel's name is a letter too.
+//!
+//! With `put` messages are put together, and so many are left with the caller. With `take` a message is taken for these channels, with `undo`
+//! it is drawn for them and put back. With `pay` a channel that is owed a copy got it, with `forget` it is gone. `pause`, `empty`, `sync` and
+//! `flush` are these calls; with `open` a topic of that name is opened in the folder, in place of this one, and with `delete` a new one is made
+//! behind the deletion. The head `is` of a letter and a delay, or none; the topic `owes` it to channels; so many messages are in memory and so
+//! many on disk where it `waits`, and it `counts` those that were put and not dropped; it is `paused`; and a file is `absent`.
 
-use crate::topic::bench::{Bench, Scratch};
-use backlog::{Depths, Flushed, PutAll};
-use disk_queue::{Emptied, Open, Sync};
-use nsq_base::{Memory, Topic};
-use nsq_fakes::{Failing, FolderCall};
+use crate::same;
+use crate::script::sync_of;
+use crate::text::{cut, cut_at, fails_of, is_done, letter, number, part};
+use crate::topic::bench::{Bench, Scratch, bench_of, let_go};
+use crate::waiting::all_put_of;
+use backlog::{Depths, Flushed};
+use disk_queue::Emptied;
 use std::alloc::Global;
+use std::process::Abort;
 use topic_core::Head;
 
-// A topic in an empty folder, and calls of it.
-struct Script {
-    name: &'static str,
-    topic: &'static [u8],
-    // How many messages find room in memory.
-    memory: u64,
-    // The calls of the folder that fail.
-    fails: &'static [Failing],
-    steps: &'static [Step],
-}
-
-// A message's number is a letter, and its delay is that of the number, unless it lay on disk. A channel's name is a letter too.
-#[derive(Clone, Copy)]
-enum Step {
-    // These are put together; and how many are left with the caller.
-    Put(&'static [u8], PutAll, usize),
-    // A message is taken for these channels.
-    Take(&'static [u8], Head),
-    // One is drawn for these channels, and put back.
-    Undo(&'static [u8], Head),
-    // The head's letter and delay.
-    Is(Option<(u8, u64)>),
-    // These channels are owed the head.
-    Owes(&'static [u8]),
-    // A channel that is owed a copy got it.
-    Pay(u8),
-    // A channel is gone.
-    Forget(u8),
-    // So many wait in memory, and so many on disk.
-    Waits(u64, u128),
-    // So many were put and not dropped.
-    Counts(u64),
-    Pause(bool),
-    IsPaused(bool),
-    Empty(Emptied),
-    Sync(Sync),
-    Flush(Flushed),
-    // A topic of that name is opened in the folder, in place of this one.
-    Open,
-    // The topic is deleted, and a new one is made in its place.
-    Delete,
-    // The folder has no such file.
-    Absent(&'static str),
-}
-
-const WRITE_FAILS: Failing = Failing {
-    call: FolderCall::WriteAt,
-    from: 0,
-    to: 1,
-};
-
-// Taking and paying.
-static TAKING_1: [Script; 3] = [
-    Script {
-        name: "a message is taken and paid in any order",
-        topic: b"t",
-        memory: 2,
-        fails: &[],
-        steps: &[
-            Step::Take(b"a", Head::Empty),
-            Step::Put(b"xy", PutAll::Done, 0),
-            Step::Take(b"abc", Head::Ready),
-            Step::Is(Some((b'x', 3))),
-            Step::Owes(b"abc"),
-            Step::Waits(1, 0),
-            Step::Pay(b'b'),
-            Step::Owes(b"ac"),
-            Step::Pay(b'c'),
-            Step::Is(Some((b'x', 3))),
-            Step::Pay(b'a'),
-            Step::Is(None),
-            Step::Owes(b""),
-            Step::Take(b"c", Head::Ready),
-            Step::Is(Some((b'y', 4))),
-            Step::Pay(b'c'),
-            Step::Take(b"c", Head::Empty),
-            Step::Counts(2),
-        ],
-    },
-    Script {
-        name: "a channel is forgotten while it is owed a copy",
-        topic: b"t",
-        memory: 2,
-        fails: &[],
-        steps: &[
-            Step::Forget(b'a'),
-            Step::Put(b"x", PutAll::Done, 0),
-            Step::Take(b"abc", Head::Ready),
-            Step::Forget(b'a'),
-            Step::Owes(b"bc"),
-            Step::Forget(b'z'),
-            Step::Owes(b"bc"),
-            Step::Pay(b'c'),
-            Step::Is(Some((b'x', 3))),
-            Step::Forget(b'b'),
-            Step::Is(None),
-        ],
-    },
-    Script {
-        name: "an undone message is the first again",
-        topic: b"t",
-        memory: 1,
-        fails: &[],
-        steps: &[
-            Step::Put(b"xy", PutAll::Done, 0),
-            Step::Waits(1, 1),
-            Step::Undo(b"ab", Head::Ready),
-            Step::Is(None),
-            Step::Owes(b""),
-            Step::Waits(1, 1),
-            Step::Take(b"a", Head::Ready),
-            Step::Is(Some((b'x', 3))),
-            Step::Pay(b'a'),
-            Step::Undo(b"ab", Head::Ready),
-            Step::Waits(0, 1),
-            Step::Take(b"a", Head::Ready),
-            Step::Is(Some((b'y', 0))),
-        ],
-    },
+static ROWS: [&'static str; 13] = [
+    // Taking and paying.
+    "a message is taken and paid in any order
+        topic: t
+        memory: 2
+        fails:
+        steps: take a => empty; put xy => done, 0 left; take abc => ready; is x 3; owes abc; waits 1 0; pay b; owes ac; pay c; is x 3;
+            pay a; is none; owes; take c => ready; is y 4; pay c; take c => empty; counts 2",
+    "a channel is forgotten while it is owed a copy
+        topic: t
+        memory: 2
+        fails:
+        steps: forget a; put x => done, 0 left; take abc => ready; forget a; owes bc; forget z; owes bc; pay c; is x 3; forget b; is none",
+    "an undone message is the first again
+        topic: t
+        memory: 1
+        fails:
+        steps: put xy => done, 0 left; waits 1 1; undo ab => ready; is none; owes; waits 1 1; take a => ready; is x 3; pay a;
+            undo ab => ready; waits 0 1; take a => ready; is y 0",
+    // What a fault and an emptying leave.
+    "a fault of the disk takes no message
+        topic: t
+        memory: 0
+        fails: ReadAt 0 1
+        steps: put x => done, 0 left; take ab => fault; is none; owes; waits 0 1; undo ab => ready; take ab => ready; is x 0; owes ab;
+            waits 0 0",
+    "emptying leaves the head
+        topic: t
+        memory: 1
+        fails:
+        steps: put xyz => done, 0 left; take ab => ready; waits 0 2; empty => done; waits 0 0; is x 3; owes ab; pay a; pay b;
+            take a => empty; counts 3",
+    "all are put or none
+        topic: t
+        memory: 1
+        fails: WriteAt 1 2
+        steps: put xyz => fault, 3 left; counts 0; waits 0 0; put xyz => done, 0 left; counts 3; waits 1 2",
+    // Topics without memory, and ephemeral ones.
+    "without memory all go by the disk
+        topic: t
+        memory: 0
+        fails:
+        steps: put xy => done, 0 left; waits 0 2; take a => ready; is x 0; pay a; sync => done; sync => not due; take a => ready; is y 0;
+            pay a; take a => empty",
+    "an ephemeral topic at its bound
+        topic: t#ephemeral
+        memory: 2
+        fails:
+        steps: put xyz => done, 0 left; waits 2 0; counts 2; take a => ready; put vw => done, 0 left; waits 2 0; counts 3;
+            sync => not due; flush => done; is x 3; pay a; take a => ready; is y 4; pay a; take a => ready; is v 1;
+            absent t#ephemeral.diskqueue.meta.dat; open; waits 0 0",
+    "an ephemeral topic without memory keeps none
+        topic: t#ephemeral
+        memory: 0
+        fails:
+        steps: put xy => done, 0 left; counts 0; take a => empty",
+    // What a stop and a deletion leave.
+    "a stop writes the head back
+        topic: t
+        memory: 2
+        fails:
+        steps: put xyzw => done, 0 left; take ab => ready; pay a; flush => done; open; waits 0 4; counts 0; take a => ready; is z 0;
+            pay a; take a => ready; is w 0; pay a; take a => ready; is y 0; pay a; take a => ready; is x 0",
+    "a stop without memory and without a head
+        topic: t
+        memory: 0
+        fails:
+        steps: put xy => done, 0 left; take a => ready; flush => done; flush => done; open; waits 0 2; take a => ready; is y 0",
+    "a stop that fails
+        topic: t
+        memory: 1
+        fails: WriteAt 0 1
+        steps: put x => done, 0 left; flush => fault; waits 1 0; flush => done",
+    "a deletion drops all
+        topic: t
+        memory: 1
+        fails:
+        steps: pause on; paused on; put xyz => done, 0 left; take a => ready; delete; paused off; is none; absent t.diskqueue.000000.dat;
+            absent t.diskqueue.meta.dat; open; waits 0 0",
 ];
 
-fn taking_1() -> &'static [Script] {
-    &TAKING_1
-}
-
-// What a fault and an emptying leave.
-static FAILING_1: [Script; 3] = [
-    Script {
-        name: "a fault of the disk takes no message",
-        topic: b"t",
-        memory: 0,
-        fails: &[Failing {
-            call: FolderCall::ReadAt,
-            from: 0,
-            to: 1,
-        }],
-        steps: &[
-            Step::Put(b"x", PutAll::Done, 0),
-            Step::Take(b"ab", Head::Fault),
-            Step::Is(None),
-            Step::Owes(b""),
-            Step::Waits(0, 1),
-            Step::Undo(b"ab", Head::Ready),
-            Step::Take(b"ab", Head::Ready),
-            Step::Is(Some((b'x', 0))),
-            Step::Owes(b"ab"),
-            Step::Waits(0, 0),
-        ],
-    },
-    Script {
-        name: "emptying leaves the head",
-        topic: b"t",
-        memory: 1,
-        fails: &[],
-        steps: &[
-            Step::Put(b"xyz", PutAll::Done, 0),
-            Step::Take(b"ab", Head::Ready),
-            Step::Waits(0, 2),
-            Step::Empty(Emptied::Done),
-            Step::Waits(0, 0),
-            Step::Is(Some((b'x', 3))),
-            Step::Owes(b"ab"),
-            Step::Pay(b'a'),
-            Step::Pay(b'b'),
-            Step::Take(b"a", Head::Empty),
-            Step::Counts(3),
-        ],
-    },
-    Script {
-        name: "all are put or none",
-        topic: b"t",
-        memory: 1,
-        fails: &[Failing {
-            call: FolderCall::WriteAt,
-            from: 1,
-            to: 2,
-        }],
-        steps: &[
-            Step::Put(b"xyz", PutAll::Fault, 3),
-            Step::Counts(0),
-            Step::Waits(0, 0),
-            Step::Put(b"xyz", PutAll::Done, 0),
-            Step::Counts(3),
-            Step::Waits(1, 2),
-        ],
-    },
-];
-
-fn failing_1() -> &'static [Script] {
-    &FAILING_1
-}
-
-// Topics without memory, and ephemeral ones.
-static BOUNDS_1: [Script; 3] = [
-    Script {
-        name: "without memory all go by the disk",
-        topic: b"t",
-        memory: 0,
-        fails: &[],
-        steps: &[
-            Step::Put(b"xy", PutAll::Done, 0),
-            Step::Waits(0, 2),
-            Step::Take(b"a", Head::Ready),
-            Step::Is(Some((b'x', 0))),
-            Step::Pay(b'a'),
-            Step::Sync(Sync::Done),
-            Step::Sync(Sync::NotDue),
-            Step::Take(b"a", Head::Ready),
-            Step::Is(Some((b'y', 0))),
-            Step::Pay(b'a'),
-            Step::Take(b"a", Head::Empty),
-        ],
-    },
-    Script {
-        name: "an ephemeral topic at its bound",
-        topic: b"t#ephemeral",
-        memory: 2,
-        fails: &[],
-        steps: &[
-            Step::Put(b"xyz", PutAll::Done, 0),
-            Step::Waits(2, 0),
-            Step::Counts(2),
-            Step::Take(b"a", Head::Ready),
-            Step::Put(b"vw", PutAll::Done, 0),
-            Step::Waits(2, 0),
-            Step::Counts(3),
-            Step::Sync(Sync::NotDue),
-            Step::Flush(Flushed::Done),
-            Step::Is(Some((b'x', 3))),
-            Step::Pay(b'a'),
-            Step::Take(b"a", Head::Ready),
-            Step::Is(Some((b'y', 4))),
-            Step::Pay(b'a'),
-            Step::Take(b"a", Head::Ready),
-            Step::Is(Some((b'v', 1))),
-            Step::Absent("t#ephemeral.diskqueue.meta.dat"),
-            Step::Open,
-            Step::Waits(0, 0),
-        ],
-    },
-    Script {
-        name: "an ephemeral topic without memory keeps none",
-        topic: b"t#ephemeral",
-        memory: 0,
-        fails: &[],
-        steps: &[
-            Step::Put(b"xy", PutAll::Done, 0),
-            Step::Counts(0),
-            Step::Take(b"a", Head::Empty),
-        ],
-    },
-];
-
-fn bounds_1() -> &'static [Script] {
-    &BOUNDS_1
-}
-
-// What a stop and a deletion leave.
-static STOPPING_1: [Script; 4] = [
-    Script {
-        name: "a stop writes the head back",
-        topic: b"t",
-        memory: 2,
-        fails: &[],
-        steps: &[
-            Step::Put(b"xyzw", PutAll::Done, 0),
-            Step::Take(b"ab", Head::Ready),
-            Step::Pay(b'a'),
-            Step::Flush(Flushed::Done),
-            Step::Open,
-            Step::Waits(0, 4),
-            Step::Counts(0),
-            Step::Take(b"a", Head::Ready),
-            Step::Is(Some((b'z', 0))),
-            Step::Pay(b'a'),
-            Step::Take(b"a", Head::Ready),
-            Step::Is(Some((b'w', 0))),
-            Step::Pay(b'a'),
-            Step::Take(b"a", Head::Ready),
-            Step::Is(Some((b'y', 0))),
-            Step::Pay(b'a'),
-            Step::Take(b"a", Head::Ready),
-            Step::Is(Some((b'x', 0))),
-        ],
-    },
-    Script {
-        name: "a stop without memory and without a head",
-        topic: b"t",
-        memory: 0,
-        fails: &[],
-        steps: &[
-            Step::Put(b"xy", PutAll::Done, 0),
-            Step::Take(b"a", Head::Ready),
-            Step::Flush(Flushed::Done),
-            Step::Flush(Flushed::Done),
-            Step::Open,
-            Step::Waits(0, 2),
-            Step::Take(b"a", Head::Ready),
-            Step::Is(Some((b'y', 0))),
-        ],
-    },
-    Script {
-        name: "a stop that fails",
-        topic: b"t",
-        memory: 1,
-        fails: &[WRITE_FAILS],
-        steps: &[
-            Step::Put(b"x", PutAll::Done, 0),
-            Step::Flush(Flushed::Fault),
-            Step::Waits(1, 0),
-            Step::Flush(Flushed::Done),
-        ],
-    },
-    Script {
-        name: "a deletion drops all",
-        topic: b"t",
-        memory: 1,
-        fails: &[],
-        steps: &[
-            Step::Pause(true),
-            Step::IsPaused(true),
-            Step::Put(b"xyz", PutAll::Done, 0),
-            Step::Take(b"a", Head::Ready),
-            Step::Delete,
-            Step::IsPaused(false),
-            Step::Is(None),
-            Step::Absent("t.diskqueue.000000.dat"),
-            Step::Absent("t.diskqueue.meta.dat"),
-            Step::Open,
-            Step::Waits(0, 0),
-        ],
-    },
-];
-
-fn stopping_1() -> &'static [Script] {
-    &STOPPING_1
+fn table() -> &'static [&'static str] {
+    &ROWS
 }
 
 // Whether each step answers what it says.
-fn holds(alloc: Global, scratch: &mut Scratch, script: &Script) -> Result<bool, Memory> {
-    let Some(name) = Topic::read(script.topic) else {
-        return Ok(false);
-    };
-    let mut bench = Bench::new(alloc, name, script.memory, script.fails)?;
-    Ok(all_hold(alloc, &mut bench, scratch, script.steps)? && bench.topic.name() == name)
+fn holds(rt: &impl Abort, alloc: Global, scratch: &mut Scratch, row: &str) -> bool {
+    let (_, rest) = part(rt, row, "topic:");
+    let (topic, rest) = part(rt, rest, "memory:");
+    let (memory, rest) = part(rt, rest, "fails:");
+    let (fails, steps) = part(rt, rest, "steps:");
+    let topic = topic.trim().as_bytes();
+    let fails = fails_of(rt, alloc, fails);
+    let mut bench = bench_of(rt, alloc, topic, number(rt, memory.trim()), &fails);
+    let held = all_hold(rt, alloc, &mut bench, scratch, steps)
+        && same(bench.topic.name().bytes(), topic);
+    let_go(bench);
+    held
 }
 
 fn all_hold(
+    rt: &impl Abort,
     alloc: Global,
     bench: &mut Bench,
     scratch: &mut Scratch,
-    steps: &[Step],
-) -> Result<bool, Memory> {
-    for step in steps {
-        if !step_holds(alloc, bench, scratch, *step)? {
-            return Ok(false);
+    steps: &str,
+) -> bool {
+    for step in steps.split(';') {
+        if !step_holds(rt, alloc, bench, scratch, step.trim()) {
+            return false;
         }
     }
-    Ok(true)
+    true
 }
 
 // Whether a step answers what it says.
 fn step_holds(
+    rt: &impl Abort,
     alloc: Global,
     bench: &mut Bench,
     scratch: &mut Scratch,
-    step: Step,
-) -> Result<bool, Memory> {
-    match step {
-        Step::Put(letters, answer, left) => puts(alloc, bench, scratch, letters, (answer, left)),
-        Step::Take(channels, answer) => takes(alloc, bench, scratch, channels, true, answer),
-        Step::Undo(channels, answer) => takes(alloc, bench, scratch, channels, false, answer),
-        Step::Is(told) => Ok(is_head(bench, told)),
-        Step::Owes(channels) => Ok(bench.owes(channels)),
-        Step::Pay(channel) => Ok(bench.pay(channel)),
-        Step::Forget(channel) => Ok(bench.forget(channel)),
-        Step::Waits(ring, disk) => Ok(bench.topic.depths() == Depths { ring, disk }),
-        Step::Counts(count) => Ok(bench.topic.message_count() == count),
-        Step::Pause(on) => {
-            bench.topic.pause(on);
-            Ok(true)
-        }
-        Step::IsPaused(on) => Ok(bench.topic.is_paused() == on),
-        Step::Empty(answer) => Ok(bench.empty() == answer),
-        Step::Sync(answer) => Ok(bench.sync() == answer),
-        Step::Flush(answer) => Ok(bench.flush(scratch) == answer),
-        Step::Open => is_opened(alloc, bench),
-        Step::Delete => bench.delete(alloc),
-        Step::Absent(name) => Ok(bench.folder.file(name).is_none()),
+    step: &str,
+) -> bool {
+    let (call, answer) = cut_at(step, " => ");
+    let (word, rest) = cut(call);
+    match word {
+        "put" => puts(rt, alloc, bench, scratch, rest, answer),
+        "take" => takes(rt, alloc, bench, scratch, rest, true, answer),
+        "undo" => takes(rt, alloc, bench, scratch, rest, false, answer),
+        "flush" => (bench.flush(scratch) == Flushed::Done) == is_done(rt, answer),
+        _ => moves(rt, alloc, bench, word, rest, answer),
     }
+}
+
+// The same of a step that no room for a message is needed for.
+fn moves(
+    rt: &impl Abort,
+    alloc: Global,
+    bench: &mut Bench,
+    word: &str,
+    rest: &str,
+    answer: &str,
+) -> bool {
+    match word {
+        "pay" => bench.pay(letter(rt, rest)),
+        "forget" => bench.forget(letter(rt, rest)),
+        "pause" => {
+            bench.topic.pause(is_on(rt, rest));
+            true
+        }
+        "empty" => (bench.empty() == Emptied::Done) == is_done(rt, answer),
+        "sync" => bench.sync() == sync_of(rt, answer),
+        "open" => bench.open(alloc).is_ok(),
+        "delete" => bench.delete(alloc).expect(rt, "memory"),
+        _ => shows(rt, bench, word, rest),
+    }
+}
+
+// Whether the topic and its folder show what a step says that calls nothing.
+fn shows(rt: &impl Abort, bench: &Bench, word: &str, rest: &str) -> bool {
+    let (one, other) = cut(rest);
+    match word {
+        "is" => is_head(rt, bench, one, other),
+        "owes" => bench.owes(rest.as_bytes()),
+        "waits" => waits(rt, bench, one, other),
+        "counts" => bench.topic.message_count() == number(rt, rest),
+        "paused" => bench.topic.is_paused() == is_on(rt, rest),
+        "absent" => bench.folder.file(rest).is_none(),
+        _ => panic!(rt; "{} is no step", word),
+    }
+}
+
+fn is_on(rt: &impl Abort, word: &str) -> bool {
+    match word {
+        "on" => true,
+        "off" => false,
+        _ => panic!(rt; "{} is not on or off", word),
+    }
+}
+
+fn head_of(rt: &impl Abort, answer: &str) -> Head {
+    match answer {
+        "ready" => Head::Ready,
+        "empty" => Head::Empty,
+        "fault" => Head::Fault,
+        _ => panic!(rt; "{} is no answer of a taking", answer),
+    }
+}
+
+// Whether so many messages wait in memory, and so many on disk.
+fn waits(rt: &impl Abort, bench: &Bench, ring: &str, disk: &str) -> bool {
+    bench.topic.depths()
+        == Depths {
+            ring: number(rt, ring),
+            disk: u128::from(number(rt, disk)),
+        }
 }
 
 // Whether the messages of these letters are put so.
 fn puts(
+    rt: &impl Abort,
     alloc: Global,
     bench: &mut Bench,
     scratch: &mut Scratch,
-    letters: &[u8],
-    answer: (PutAll, usize),
-) -> Result<bool, Memory> {
-    let numbers = numbers_of(alloc, letters)?;
-    Ok(bench.put(alloc, scratch, &numbers)? == answer)
+    letters: &str,
+    answer: &str,
+) -> bool {
+    let numbers = numbers_of(rt, alloc, letters.as_bytes());
+    let wanted = all_put_of(rt, answer);
+    bench.put(alloc, scratch, &numbers).expect(rt, "memory") == wanted
 }
 
 // Whether a message is taken so, or put back.
 fn takes(
+    rt: &impl Abort,
     alloc: Global,
     bench: &mut Bench,
     scratch: &mut Scratch,
-    channels: &[u8],
+    channels: &str,
     keeps: bool,
-    answer: Head,
-) -> Result<bool, Memory> {
-    Ok(bench.take(alloc, scratch, channels, keeps)? == Some(answer))
+    answer: &str,
+) -> bool {
+    bench
+        .take(alloc, scratch, channels.as_bytes(), keeps)
+        .expect(rt, "memory")
+        == Some(head_of(rt, answer))
 }
 
-// Whether the head has this letter and this delay.
-fn is_head(bench: &Bench, told: Option<(u8, u64)>) -> bool {
+// Whether the head has this letter and this delay; where the letter is `none`, whether there is none.
+fn is_head(rt: &impl Abort, bench: &Bench, wanted: &str, delay: &str) -> bool {
     match bench.head() {
-        Some((number, delay)) => match told {
-            Some((letter, wanted)) => number == u64::from(letter) && delay == wanted,
-            None => false,
-        },
-        None => told.is_none(),
-    }
-}
-
-/// Whether a topic of the same name is opened in the folder.
-pub fn is_opened(alloc: Global, bench: &mut Bench) -> Result<bool, Memory> {
-    match bench.open(alloc) {
-        Ok(()) => Ok(true),
-        Err(Open::Memory) => Err(Memory),
-        Err(Open::Fault | Open::BadMeta) => Ok(false),
+        Some(head) => wanted != "none"
+            && head == (u64::from(letter(rt, wanted)), number(rt, delay)),
+        None => wanted == "none",
     }
 }
 
 // The letters' numbers.
-fn numbers_of(alloc: Global, letters: &[u8]) -> Result<Vec<u64>, Memory> {
+fn numbers_of(rt: &impl Abort, alloc: Global, letters: &[u8]) -> Vec<u64> {
     let mut numbers = Vec::new(alloc);
     for letter in letters {
-        numbers.push(u64::from(*letter))?;
+        numbers.push(u64::from(*letter)).expect(rt, "memory");
     }
-    Ok(numbers)
+    numbers
 }
 
-fn tables() -> [&'static [Script]; 4] {
-    [taking_1(), failing_1(), bounds_1(), stopping_1()]
-}
-
-/// The name of the first row that doesn't hold.
-pub fn wrong(alloc: Global, scratch: &mut Scratch) -> Result<Option<&'static str>, Memory> {
-    for table in &tables() {
-        for row in *table {
-            if !holds(alloc, scratch, row)? {
-                return Ok(Some(row.name));
-            }
+/// The first row that doesn't hold.
+pub fn wrong(rt: &impl Abort, alloc: Global, scratch: &mut Scratch) -> Option<&'static str> {
+    for row in table() {
+        if !holds(rt, alloc, scratch, row) {
+            return Some(*row);
         }
     }
-    Ok(None)
+    None
 }

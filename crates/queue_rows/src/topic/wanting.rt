@@ -4,13 +4,13 @@
 //! keep its calls. So the rows hold too where one allocation fails, whichever it is: `rt try --test --fail-alloc N`.
 
 use crate::same;
-use crate::topic::bench::{Bench, Scratch};
+use crate::topic::bench::{Bench, Scratch, let_go};
 use backlog::{Depths, Flushed, PutAll};
 use disk_queue::Open;
 use nsq_base::{Memory, Topic};
 use nsq_fakes::MemFolder;
 use std::alloc::Global;
-use std::test::Fail;
+use std::process::Abort;
 use topic_core::Head;
 
 // A topic in an empty folder, into which messages of these numbers are put, of which the first is taken.
@@ -114,9 +114,20 @@ fn is_image(alloc: Global, folder: &MemFolder, bytes: &[u8]) -> Result<bool, Mem
     Ok(same(&image(alloc, folder)?, bytes))
 }
 
+// Whether a new topic with a ring that no memory has room for is refused.
+fn is_refused_anew(alloc: Global, name: Topic) -> bool {
+    match Bench::new(alloc, name, BEYOND, &[]) {
+        Ok(bench) => {
+            let_go(bench);
+            false
+        }
+        Err(Memory) => true,
+    }
+}
+
 // Whether a ring that no memory has room for is refused, and the files are as they were.
 fn is_refused(alloc: Global, bench: &mut Bench) -> Result<bool, Memory> {
-    if Bench::new(alloc, bench.topic.name(), BEYOND, &[]).is_ok() {
+    if !is_refused_anew(alloc, bench.topic.name()) {
         return Ok(false);
     }
     let before = image(alloc, &bench.folder)?;
@@ -161,7 +172,9 @@ fn holds(alloc: Global, scratch: &mut Scratch, row: &Row) -> Result<bool, Memory
         return Ok(false);
     };
     let mut bench = Bench::new(alloc, name, row.memory, &[])?;
-    all_succeed(alloc, &mut bench, scratch, row)
+    let succeed = all_succeed(alloc, &mut bench, scratch, row);
+    let_go(bench);
+    succeed
 }
 
 fn all_succeed(
@@ -180,31 +193,30 @@ fn all_succeed(
 }
 
 // The name of the first row that doesn't hold. One that ends for want of memory begins once more.
-fn wrong(alloc: Global, scratch: &mut Scratch) -> Result<Option<&'static str>, Memory> {
+fn wrong(rt: &impl Abort, alloc: Global, scratch: &mut Scratch) -> Option<&'static str> {
     for row in &ROWS {
         let holds = match holds(alloc, scratch, row) {
             Ok(holds) => holds,
-            Err(Memory) => holds(alloc, scratch, row)?,
+            Err(Memory) => holds(alloc, scratch, row).expect(rt, "memory"),
         };
         if !holds {
-            return Ok(Some(row.name));
+            return Some(row.name);
         }
     }
-    Ok(None)
+    None
 }
 
 // Room for the longest message. Where memory was wanting it is made once more.
-fn room(alloc: Global) -> Result<Scratch, Memory> {
+fn room(rt: &impl Abort, alloc: Global) -> Scratch {
     match Scratch::new(alloc) {
-        Ok(scratch) => Ok(scratch),
-        Err(Memory) => Scratch::new(alloc),
+        Ok(scratch) => scratch,
+        Err(Memory) => Scratch::new(alloc).expect(rt, "memory"),
     }
 }
 
 #[test]
-fn rows(rt: HostRuntime) -> Result<(), Fail> {
+fn rows(rt: HostRuntime) {
     let alloc = rt.alloc();
-    let wrong = wrong(alloc, &mut room(alloc)?)?;
+    let wrong = wrong(&rt, alloc, &mut room(&rt, alloc));
     assert!(rt; wrong.is_none(), "{}", wrong.unwrap_or(""));
-    Ok(())
 }

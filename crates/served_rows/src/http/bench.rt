@@ -1,11 +1,12 @@
-//! A floor in memory with its clock and its setting: the turns of clients and the daemon, and callers that are served at it.
+//! A floor in memory with its clock and its setting: the turns of clients and the daemon, and callers that are served at it. What has no memory for its
+//! turn goes otherwise than it must.
 
 ghost use Rattle.std.specs.Prelude.{◌<◌, IfOk, IfSome};
 ghost use Rattle.desk.specs.Calls.{CanCall};
 
-use crate::http::conn::SlowConn;
-use crate::http::outside::{MemFloor, floor_of};
-use crate::http::setting::{Setting, options_of};
+use crate::conn::WatchedConn;
+use crate::floor::{MemFloor, Setting, floor_of, options_of};
+use crate::served::LIMITS;
 use desk::{Call, FloorDesk, Turned, Turner};
 use http_api::serve_http;
 use http_exchange::EndedHttp;
@@ -13,21 +14,14 @@ use nsq_base::Memory;
 use std::alloc::Global;
 use std::sync::Wait;
 use std::sync::atomic::{AtomicU64, Ordering};
-use v2_frame::{Got, Limits, Reader};
-
-/// The limits of each client, those of the default options.
-const LIMITS: Limits = Limits {
-    msg: 1_048_576,
-    body: 5_242_880,
-};
+use v2_frame::{Got, Reader};
 
 // More than the messages of any client.
 const MANY: usize = 100;
 
-/// A floor in memory, its clock, and what it was opened with.
-#[derive(Drop)]
+/// A floor in memory, its clock, and what it was opened with. It's ended and not dropped.
 pub struct Bench<'a> {
-    alloc: Global,
+    pub alloc: Global,
     floor: MemFloor<'a>,
     clock: &'a AtomicU64,
     setting: Setting,
@@ -42,9 +36,8 @@ pub fn bench_of<'a>(
     setting: Setting,
     clock: &'a AtomicU64,
 ) -> Result<Bench<'a>, Memory> {
-    clock.store(setting.began, Ordering::SeqCst);
     let options = options_of(alloc, setting)?;
-    let floor = floor_of(alloc, &options, setting.fails, clock)?;
+    let floor = floor_of(alloc, setting, &options, clock)?;
     Ok(Bench {
         alloc,
         floor,
@@ -60,40 +53,42 @@ impl Bench<'_> {
         self.clock.store(moment, Ordering::SeqCst);
     }
 
-    /// Whether a call of this number is answered by something else than that it is strange.
-    pub fn turn(&mut self, number: u64, call: Call) -> Result<bool, Memory>
+    /// Whether a call of this number is answered, and by something else than that it is strange.
+    pub fn turn(&mut self, number: u64, call: Call) -> bool
         requires { CanCall call }
     {
-        match self.floor.take_turn(self.alloc, number, call) {
-            Turned::Memory => Err(Memory),
-            Turned::Strange => Ok(false),
-            _ => Ok(true),
-        }
+        !matches!(
+            self.floor.take_turn(self.alloc, number, call),
+            Turned::Memory | Turned::Strange
+        )
     }
 
     /// Whether a client may send this.
-    pub fn says(&mut self, number: u64, command: &[u8]) -> Result<bool, Memory> {
-        match call_of(self.alloc, command)? {
-            Some(call) => self.turn(number, call),
-            None => Ok(false),
+    pub fn says(&mut self, number: u64, command: &[u8]) -> bool {
+        match call_of(self.alloc, command) {
+            Ok(Some(call)) => self.turn(number, call),
+            _ => false,
         }
     }
 
     /// Sends a client all that it may get. Whether that has an end.
-    pub fn sends(&mut self, number: u64) -> Result<bool, Memory> {
+    pub fn sends(&mut self, number: u64) -> bool {
         for _ in 0..MANY {
             match self.floor.take_turn(self.alloc, number, Call::Next) {
                 Turned::Send(_) => {}
-                Turned::Memory => return Err(Memory),
-                Turned::Strange => return Ok(false),
-                _ => return Ok(true),
+                Turned::Memory | Turned::Strange => return false,
+                _ => return true,
             }
         }
-        Ok(false)
+        false
     }
 
     /// Serves a caller.
-    pub fn serve<R: Wait>(&mut self, rt: &R, conn: &mut SlowConn) -> Result<EndedHttp, Memory> {
+    pub fn serve<R: Wait>(
+        &mut self,
+        rt: &R,
+        conn: &mut WatchedConn<'_>,
+    ) -> Result<EndedHttp, Memory> {
         let options = options_of(self.alloc, self.setting)?;
         let number = self.number;
         self.number = number.saturating_add(1);
@@ -104,6 +99,18 @@ impl Bench<'_> {
             wanted: 0,
         };
         Ok(serve_http(rt, self.alloc, number, conn, &mut desk, &options, began))
+    }
+
+    /// Ends the floor, and lets go of what it stood on.
+    pub fn end(self) {
+        let Bench {
+            alloc: _,
+            floor,
+            clock: _,
+            setting: _,
+            number: _,
+        } = self;
+        let _ = floor.end();
     }
 }
 

@@ -1,7 +1,8 @@
 //! What happens at a floor, step by step.
 
-use crate::http::answers::Gets;
-use crate::http::setting::{PLAIN, Setting};
+use super::answers::Gets;
+use crate::conn::Fails;
+use crate::floor::{PLAIN, Setting};
 use http_exchange::EndedHttp;
 use session_scripts::Runs;
 
@@ -20,7 +21,9 @@ pub enum Step {
     Stop,
     /// A caller sends a request, gets this, and is answered whole.
     Asks(&'static [u8], Gets),
-    /// The same, once for each place at which the request can be cut in two, by callers one after another.
+    /// A caller asks for the statistics, gets these topics, and is answered whole.
+    Stats(&'static [u8]),
+    /// A caller sends a request and gets this, once for each place at which it can be cut in two, by callers one after another.
     AsksCut(&'static [u8], Gets),
     /// A caller of whom more is said.
     Calls(Caller),
@@ -31,9 +34,7 @@ pub enum Step {
 pub struct Caller {
     /// What comes from it at each read; where a text is empty nothing comes.
     pub sends: &'static [Runs],
-    /// The numbers of reads that fail, and those of writes, counted from 0.
-    pub reads: &'static [u64],
-    pub writes: &'static [u64],
+    pub fails: Fails,
     /// How many bytes a write takes at most.
     pub most: usize,
     pub gets: Gets,
@@ -43,8 +44,7 @@ pub struct Caller {
 /// A caller that sends nothing, and at whom nothing fails.
 pub const CALLER: Caller = Caller {
     sends: &[],
-    reads: &[],
-    writes: &[],
+    fails: Fails::Nothing,
     most: 1 << 24,
     gets: Gets::Nothing,
     ended: EndedHttp::EndOfInput,

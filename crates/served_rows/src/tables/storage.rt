@@ -1,14 +1,14 @@
 //! Topics and channels that keep no message in memory.
 
-use super::{FIRST, OK, ONE, PLAIN};
-use crate::plan::{Client, NOTHING, Step};
+use super::{ONE, PLAIN};
+use crate::plan::{Client, Gets, NOTHING, Step};
 use crate::served::Row;
 use v2_session::Ended;
 
 /// A row whose topics and channels keep no message in memory.
 const STORED: Row = Row { memory: 0, ..PLAIN };
 
-static ROWS_1: [Row; 2] = [
+static ROWS: [Row; 3] = [
     Row {
         name: "a message that waits stands in the topic's file",
         clients: &[ONE],
@@ -25,7 +25,22 @@ static ROWS_1: [Row; 2] = [
             Client {
                 steps: &[Step {
                     sends: b"  V2SUB t c\nRDY 1\n",
-                    gets: &[(OK, 1), (FIRST, 1), (b"0000010000000000a", 1)],
+                    gets: &[Gets::Ok, Gets::First(b"0000010000000000a")],
+                    ..NOTHING
+                }],
+                ended: Ended::EndOfInput,
+            },
+        ],
+        ..STORED
+    },
+    Row {
+        name: "a channel without a file has nothing to send",
+        clients: &[
+            ONE,
+            Client {
+                steps: &[Step {
+                    sends: b"  V2SUB t c#ephemeral\nRDY 1\n",
+                    gets: &[Gets::Ok],
                     ..NOTHING
                 }],
                 ended: Ended::EndOfInput,
@@ -35,26 +50,6 @@ static ROWS_1: [Row; 2] = [
     },
 ];
 
-static ROWS_2: [Row; 1] = [Row {
-    name: "a channel without a file has nothing to send",
-    clients: &[
-        ONE,
-        Client {
-            steps: &[Step {
-                sends: b"  V2SUB t c#ephemeral\nRDY 1\n",
-                gets: &[(OK, 1)],
-                ..NOTHING
-            }],
-            ended: Ended::EndOfInput,
-        },
-    ],
-    ..STORED
-}];
-
-pub fn rows_1() -> &'static [Row] {
-    &ROWS_1
-}
-
-pub fn rows_2() -> &'static [Row] {
-    &ROWS_2
+pub fn rows() -> &'static [Row] {
+    &ROWS
 }

@@ -1,21 +1,13 @@
 //! One restart to the byte: what a stop wrote of a channel, and what the next run starts from and writes first.
 
-use super::{
-    A, B, C, Finding, FoundNames, Sent, State, files_of, found, kept_names, names_text, queued,
-    start,
-};
-use crate::state::given::same;
-use nsq_base::{Memory, Options};
+use crate::folders::{files_of, listed, names_in, started};
+use crate::made::same;
+use broker_files::{FoundNames, kept_names, names_text};
+use broker_state::{State, queued};
+use nsq_base::Options;
 use queue_plain::NamedFile;
 use std::alloc::Global;
-use std::test::Fail;
-
-/// The file of names as the first run left it, and as the second writes it at its opening.
-const FIRST: &[u8] =
-    br#"{"id_epoch":1,"topics":[{"channels":[{"name":"c","paused":false}],"name":"t","paused":false}],"version":"1.0.0"}"#;
-
-const SECOND: &[u8] =
-    br#"{"id_epoch":2,"topics":[{"channels":[{"name":"c","paused":false}],"name":"t","paused":false}],"version":"1.0.0"}"#;
+use std::process::Abort;
 
 /// The channel's data file: a queued message that was never sent, and then one in flight and one deferred, each sent once.
 const DATA: &[u8] =
@@ -23,9 +15,6 @@ const DATA: &[u8] =
 
 /// Its metadata.
 const POSITIONS: &[u8] = b"3\n0,0\n0,93\n";
-
-/// The channel's queue.
-static QUEUES: [(&'static [u8], &'static [Sent]); 1] = [(b"t:c", &[C, B, A])];
 
 /// Whether a file of the folder has these bytes.
 fn has(files: &[NamedFile], name: &[u8], bytes: &[u8]) -> bool {
@@ -49,30 +38,24 @@ fn queued_first(state: &State) -> usize {
 }
 
 /// Whether the run that starts from these names has three queued copies, no used id, and the next epoch in its file of names.
-fn starts(alloc: Global, names: &FoundNames) -> Result<bool, Memory> {
-    if names.epoch >= 16_777_215 {
-        return Ok(false);
-    }
-    let options = Options::defaults(alloc)?;
-    let state = start(alloc, names, &options, 0)?;
-    let text = names_text(alloc, &kept_names(alloc, &state)?)?;
-    Ok(queued_first(&state) == 3 && state.ids_used == 0 && same(&text, SECOND))
+fn starts(rt: &impl Abort, alloc: Global, names: &FoundNames) -> bool {
+    let options = Options::defaults(alloc).expect(rt, "memory");
+    let state = started(rt, alloc, names, &options, 0);
+    let kept = kept_names(alloc, &state).expect(rt, "memory");
+    let text = names_text(alloc, &kept).expect(rt, "memory");
+    queued_first(&state) == 3 && state.ids_used == 0 && same(&text, listed(rt, "NEXT_EPOCH"))
 }
 
-fn restarts(alloc: Global) -> Result<bool, Memory> {
-    let files = files_of(alloc, FIRST, &QUEUES)?;
-    let is_written = has(&files, b"t:c.diskqueue.000000.dat", DATA)
-        && has(&files, b"t:c.diskqueue.meta.dat", POSITIONS);
-    match found(alloc, &files)? {
-        Finding::Names(names) => Ok(is_written && starts(alloc, &names)?),
-        Finding::BadData => Ok(false),
-        Finding::EpochSpent => Ok(false),
-    }
+fn restarts(rt: &impl Abort, alloc: Global) -> bool {
+    let files = files_of(rt, alloc, listed(rt, "LISTED"), "t:c c0 b1 a1");
+    let names = names_in(rt, alloc, &files);
+    has(&files, b"t:c.diskqueue.000000.dat", DATA)
+        && has(&files, b"t:c.diskqueue.meta.dat", POSITIONS)
+        && starts(rt, alloc, &names)
 }
 
 #[test]
-fn a_restart(rt: HostRuntime) -> Result<(), Fail> {
-    let restarts = restarts(rt.alloc())?;
+fn a_restart(rt: HostRuntime) {
+    let restarts = restarts(&rt, rt.alloc());
     assert!(rt; restarts);
-    Ok(())
 }

@@ -1,29 +1,32 @@
 //! The rows.
 
-use super::{A, B, C, D, Given, GivenChannel, GivenTopic, Row, Sent, holds};
+use super::{Given, GivenChannel, GivenTopic, Sent, holds};
 use broker_state::Place;
-use std::test::Fail;
+use std::process::Abort;
 
-/// The first message as it was before it was sent.
-const A_UNSENT: Sent = Sent {
+const A: Sent = Sent {
     number: 0,
-    attempts: 0,
-    body: b"a",
+    attempts: 1,
+    letter: b'a',
 };
 
-const LISTED: &[u8] =
-    br#"{"id_epoch":1,"topics":[{"channels":[{"name":"c","paused":false}],"name":"t","paused":false}],"version":"1.0.0"}"#;
+const B: Sent = Sent {
+    number: 1,
+    attempts: 1,
+    letter: b'b',
+};
 
-const LISTED_PAUSED: &[u8] =
-    br#"{"id_epoch":1,"topics":[{"channels":[{"name":"c","paused":true}],"name":"t","paused":false}],"version":"1.0.0"}"#;
+const C: Sent = Sent {
+    number: 2,
+    attempts: 0,
+    letter: b'c',
+};
 
-const TOPIC_ALONE: &[u8] =
-    br#"{"id_epoch":1,"topics":[{"channels":[],"name":"t","paused":false}],"version":"1.0.0"}"#;
-
-const NOTHING: &[u8] = br#"{"id_epoch":1,"topics":[],"version":"1.0.0"}"#;
-
-const NEXT_EPOCH: &[u8] =
-    br#"{"id_epoch":2,"topics":[{"channels":[{"name":"c","paused":false}],"name":"t","paused":false}],"version":"1.0.0"}"#;
+const D: Sent = Sent {
+    number: 3,
+    attempts: 0,
+    letter: b'd',
+};
 
 /// One copy in flight, one queued, one deferred.
 const HELD_CHANNEL: GivenChannel = GivenChannel {
@@ -72,7 +75,7 @@ const EPHEMERAL_CHANNEL: GivenChannel = GivenChannel {
     copies: &[(A, Place::Queued)],
 };
 
-const HELD: Given = Given {
+static HELD: Given = Given {
     epoch: 1,
     ids_used: 4,
     mem_queue_size: 10000,
@@ -80,7 +83,7 @@ const HELD: Given = Given {
     topics: &[HELD_TOPIC],
 };
 
-const PAUSED: Given = Given {
+static PAUSED: Given = Given {
     epoch: 1,
     ids_used: 4,
     mem_queue_size: 10000,
@@ -88,7 +91,7 @@ const PAUSED: Given = Given {
     topics: &[PAUSED_TOPIC],
 };
 
-const DONE: Given = Given {
+static DONE: Given = Given {
     epoch: 1,
     ids_used: 4,
     mem_queue_size: 10000,
@@ -96,7 +99,7 @@ const DONE: Given = Given {
     topics: &[DONE_TOPIC],
 };
 
-const TAKEN: Given = Given {
+static TAKEN: Given = Given {
     epoch: 1,
     ids_used: 4,
     mem_queue_size: 10000,
@@ -104,7 +107,7 @@ const TAKEN: Given = Given {
     topics: &[TAKEN_TOPIC],
 };
 
-const EPHEMERAL: Given = Given {
+static EPHEMERAL: Given = Given {
     epoch: 1,
     ids_used: 4,
     mem_queue_size: 10000,
@@ -166,233 +169,92 @@ const EPHEMERAL_TOPIC: GivenTopic = GivenTopic {
     channels: &[EMPTY_CHANNEL],
 };
 
-static ROWS_1: [Row; 3] = [
-    Row {
-        name: "a queued copy, one in flight and one deferred",
-        given: HELD,
-        text: LISTED,
-        queues: &[(b"t:c", &[C, B, A])],
-        left: true,
-    },
-    Row {
-        name: "the same in another order",
-        given: HELD,
-        text: LISTED,
-        queues: &[(b"t:c", &[A, B, C])],
-        left: true,
-    },
-    Row {
-        name: "a stop that forgets the copy in flight",
-        given: HELD,
-        text: LISTED,
-        queues: &[(b"t:c", &[C, A])],
-        left: false,
-    },
+static ROWS: [&'static str; 21] = [
+    "a queued copy, one in flight and one deferred
+        left: held / LISTED / t:c c0 b1 a1",
+    "the same in another order
+        left: held / LISTED / t:c a1 b1 c0",
+    "a stop that forgets the copy in flight
+        not left: held / LISTED / t:c c0 a1",
+    "a stop that forgets the deferred copy
+        not left: held / LISTED / t:c c0 b1",
+    "a stop that forgets the queued copy
+        not left: held / LISTED / t:c b1 a1",
+    "a stop that forgets attempts
+        not left: held / LISTED / t:c c0 b1 a0",
+    "a copy that is left twice
+        not left: held / LISTED / t:c c0 b1 a1 a1",
+    "a copy that is left twice in place of another
+        not left: held / LISTED / t:c c0 b1 b1",
+    "a channel that the file of names doesn't list
+        not left: held / TOPIC_ALONE / t:c c0 b1 a1",
+    "a channel's pause that is forgotten
+        not left: paused / LISTED",
+    "a channel's pause that is kept
+        left: paused / LISTED_PAUSED",
+    "another run's epoch
+        not left: held / NEXT_EPOCH / t:c c0 b1 a1",
+    "copies that are done with
+        left: done / LISTED",
+    "a copy that is done with and is left
+        not left: done / LISTED / t:c a1",
+    "a waiting message and the taken one
+        left: taken / LISTED / t d0 c0",
+    "a stop that forgets the taken message
+        not left: taken / LISTED / t d0",
+    "a stop that forgets the waiting message
+        not left: taken / LISTED / t c0",
+    "the taken message, left in the channel
+        not left: taken / LISTED / t d0 / t:c c0",
+    "what is ephemeral isn't left
+        left: ephemeral / TOPIC_ALONE / t d0",
+    "a topic that isn't listed
+        not left: ephemeral / NOTHING / t d0",
+    "files of a topic that isn't there
+        left: ephemeral / TOPIC_ALONE / t d0 / u a1",
 ];
 
-static ROWS_2: [Row; 3] = [
-    Row {
-        name: "a stop that forgets the deferred copy",
-        given: HELD,
-        text: LISTED,
-        queues: &[(b"t:c", &[C, B])],
-        left: false,
-    },
-    Row {
-        name: "a stop that forgets the queued copy",
-        given: HELD,
-        text: LISTED,
-        queues: &[(b"t:c", &[B, A])],
-        left: false,
-    },
-    Row {
-        name: "a stop that forgets attempts",
-        given: HELD,
-        text: LISTED,
-        queues: &[(b"t:c", &[C, B, A_UNSENT])],
-        left: false,
-    },
-];
-
-static ROWS_3: [Row; 3] = [
-    Row {
-        name: "a copy that is left twice",
-        given: HELD,
-        text: LISTED,
-        queues: &[(b"t:c", &[C, B, A, A])],
-        left: false,
-    },
-    Row {
-        name: "a copy that is left twice in place of another",
-        given: HELD,
-        text: LISTED,
-        queues: &[(b"t:c", &[C, B, B])],
-        left: false,
-    },
-    Row {
-        name: "a channel that the file of names doesn't list",
-        given: HELD,
-        text: TOPIC_ALONE,
-        queues: &[(b"t:c", &[C, B, A])],
-        left: false,
-    },
-];
-
-static ROWS_4: [Row; 2] = [
-    Row {
-        name: "a channel's pause that is forgotten",
-        given: PAUSED,
-        text: LISTED,
-        queues: &[],
-        left: false,
-    },
-    Row {
-        name: "a channel's pause that is kept",
-        given: PAUSED,
-        text: LISTED_PAUSED,
-        queues: &[],
-        left: true,
-    },
-];
-
-static ROWS_5: [Row; 3] = [
-    Row {
-        name: "another run's epoch",
-        given: HELD,
-        text: NEXT_EPOCH,
-        queues: &[(b"t:c", &[C, B, A])],
-        left: false,
-    },
-    Row {
-        name: "copies that are done with",
-        given: DONE,
-        text: LISTED,
-        queues: &[],
-        left: true,
-    },
-    Row {
-        name: "a copy that is done with and is left",
-        given: DONE,
-        text: LISTED,
-        queues: &[(b"t:c", &[A])],
-        left: false,
-    },
-];
-
-static ROWS_6: [Row; 3] = [
-    Row {
-        name: "a waiting message and the taken one",
-        given: TAKEN,
-        text: LISTED,
-        queues: &[(b"t", &[D, C])],
-        left: true,
-    },
-    Row {
-        name: "a stop that forgets the taken message",
-        given: TAKEN,
-        text: LISTED,
-        queues: &[(b"t", &[D])],
-        left: false,
-    },
-    Row {
-        name: "a stop that forgets the waiting message",
-        given: TAKEN,
-        text: LISTED,
-        queues: &[(b"t", &[C])],
-        left: false,
-    },
-];
-
-static ROWS_7: [Row; 2] = [
-    Row {
-        name: "the taken message, left in the channel",
-        given: TAKEN,
-        text: LISTED,
-        queues: &[(b"t", &[D]), (b"t:c", &[C])],
-        left: false,
-    },
-    Row {
-        name: "what is ephemeral isn't left",
-        given: EPHEMERAL,
-        text: TOPIC_ALONE,
-        queues: &[(b"t", &[D])],
-        left: true,
-    },
-];
-
-static ROWS_8: [Row; 1] = [Row {
-    name: "a topic that isn't listed",
-    given: EPHEMERAL,
-    text: NOTHING,
-    queues: &[(b"t", &[D])],
-    left: false,
-}];
-
-static ROWS_9: [Row; 1] = [Row {
-    name: "files of a topic that isn't there",
-    given: EPHEMERAL,
-    text: TOPIC_ALONE,
-    queues: &[(b"t", &[D]), (b"u", &[A])],
-    left: true,
-}];
-
-fn rows_1() -> &'static [Row] {
-    &ROWS_1
+fn all_rows() -> &'static [&'static str] {
+    &ROWS
 }
 
-fn rows_2() -> &'static [Row] {
-    &ROWS_2
+fn held() -> &'static Given {
+    &HELD
 }
 
-fn rows_3() -> &'static [Row] {
-    &ROWS_3
+fn paused() -> &'static Given {
+    &PAUSED
 }
 
-fn rows_4() -> &'static [Row] {
-    &ROWS_4
+fn done() -> &'static Given {
+    &DONE
 }
 
-fn rows_5() -> &'static [Row] {
-    &ROWS_5
+fn taken() -> &'static Given {
+    &TAKEN
 }
 
-fn rows_6() -> &'static [Row] {
-    &ROWS_6
+fn ephemeral() -> &'static Given {
+    &EPHEMERAL
 }
 
-fn rows_7() -> &'static [Row] {
-    &ROWS_7
-}
-
-fn rows_8() -> &'static [Row] {
-    &ROWS_8
-}
-
-fn rows_9() -> &'static [Row] {
-    &ROWS_9
-}
-
-fn rows_in_parts() -> [&'static [Row]; 9] {
-    [
-        rows_1(),
-        rows_2(),
-        rows_3(),
-        rows_4(),
-        rows_5(),
-        rows_6(),
-        rows_7(),
-        rows_8(),
-        rows_9(),
-    ]
+/// The state that a run ended in: with one copy in flight, one queued and one deferred; with a paused channel; with copies that are done with; with a
+/// waiting message and a taken one; or with what waits and what is ephemeral.
+pub fn given_of(rt: &impl Abort, word: &str) -> &'static Given {
+    match word {
+        "held" => held(),
+        "paused" => paused(),
+        "done" => done(),
+        "taken" => taken(),
+        "ephemeral" => ephemeral(),
+        _ => panic!(rt; "{} is no end of a run", word),
+    }
 }
 
 #[test]
-fn rows(rt: HostRuntime) -> Result<(), Fail> {
-    for part in &rows_in_parts() {
-        for row in *part {
-            let holds = holds(rt.alloc(), row)?;
-            assert!(rt; holds, "{}", row.name);
-        }
+fn rows(rt: HostRuntime) {
+    for row in all_rows() {
+        let holds = holds(&rt, rt.alloc(), row);
+        assert!(rt; holds, "{}", row);
     }
-    Ok(())
 }

@@ -3,4 +3,4 @@ use Rattle.backlog.specs.Seen.{FitsLimit}
 use Rattle.queue_rows.proofs.waiting.all_of.Given as goal
 
 abbrev pub invariant-loop-letter : goal.invariant-loop-letter
-invariant-loop-letter l = All FitsLimit l.messages.items
+invariant-loop-letter g l = All FitsLimit l.messages.items

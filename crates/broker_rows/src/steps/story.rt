@@ -1,0 +1,174 @@
+//! Whether a row of a table of histories holds.
+//!
+//! A row is a text: its name, behind `given` what a run starts from and a story, which is legal, behind `then` what happens then, and where it
+//! leads: `on`, where all of it is legal; `nowhere`, where that is refused; `to` a topic with channels, where it is legal and leaves so many copies
+//! of each of these queued, in flight and deferred; or `without` a topic, where it is legal and leaves none of this name.
+
+use crate::lines::{message, tell};
+use crate::made::{SECOND, channel, cut, number, part, put, topic};
+use broker_history::Entry;
+use broker_state::{
+    ChannelState, MessageCopy, Place, State, TopicState, deferred, in_flight, queued,
+};
+use broker_steps::led_to;
+use nsq_base::Options;
+use nsq_outside::End;
+use std::alloc::Global;
+use std::process::Abort;
+
+/// What a run starts from: the size of memory, the time for a message, how many ids were used, and the messages with their attempts that an
+/// opening found in the channel `c` of the topic `t`, where these aren't none.
+#[derive(Clone, Copy)]
+struct Start {
+    mem: u64,
+    msg_timeout: u64,
+    epoch: u32,
+    ids_used: u64,
+    found: &'static [(u64, u16)],
+}
+
+const EMPTY: Start = Start {
+    mem: 10_000,
+    msg_timeout: 60 * SECOND,
+    epoch: 1,
+    ids_used: 0,
+    found: &[],
+};
+
+// What a run of these words starts from.
+fn start_named(rt: &impl Abort, words: &str) -> Start {
+    match words {
+        "given" => EMPTY,
+        "given no memory" => Start { mem: 0, ..EMPTY },
+        "given memory for one" => Start { mem: 1, ..EMPTY },
+        "given a second for a message" => Start {
+            msg_timeout: SECOND,
+            ..EMPTY
+        },
+        "given no ids" => Start {
+            ids_used: 1 << 40,
+            ..EMPTY
+        },
+        "given a message twice" => Start {
+            found: &[(0, 0), (0, 0)],
+            ids_used: 1,
+            ..EMPTY
+        },
+        "given three messages in a second run" => Start {
+            epoch: 2,
+            found: &[(2, 0), (1, 1), (0, 1)],
+            ..EMPTY
+        },
+        _ => panic!(rt; "{} is nothing to start from", words),
+    }
+}
+
+/// Stops at the first of these rows that doesn't hold.
+pub fn all_hold(rt: &impl Abort, alloc: Global, rows: &[&'static str]) {
+    for row in rows {
+        let holds = holds(rt, alloc, row);
+        assert!(rt; holds, "{}", row);
+    }
+}
+
+// Whether the row's story is legal, and leads on as it says.
+fn holds(rt: &impl Abort, alloc: Global, row: &str) -> bool {
+    let (_, rest) = part(rt, row, "\n");
+    let (start, rest) = part(rt, rest, ":");
+    let (story, rest) = part(rt, rest, "then:");
+    let start = start_of(rt, alloc, start_named(rt, start.trim()));
+    let mut entries = Vec::new(alloc);
+    tell(rt, alloc, &mut entries, story);
+    is_legal(rt, alloc, &start, &entries) && leads_on(rt, alloc, &start, &mut entries, rest)
+}
+
+fn is_legal(rt: &impl Abort, alloc: Global, start: &State, entries: &[(Entry, End)]) -> bool {
+    let states = led_to(alloc, start, entries).expect(rt, "memory");
+    !states.is_empty()
+}
+
+// Whether what happens then leads where the row says.
+fn leads_on(
+    rt: &impl Abort,
+    alloc: Global,
+    start: &State,
+    entries: &mut Vec<(Entry, End)>,
+    rest: &str,
+) -> bool {
+    let (then, leads) = part(rt, rest, "leads ");
+    tell(rt, alloc, entries, then);
+    let states = led_to(alloc, start, entries).expect(rt, "memory");
+    leads_so(rt, &states, leads)
+}
+
+fn leads_so(rt: &impl Abort, states: &[State], leads: &str) -> bool {
+    let Some(state) = states.first() else {
+        return leads == "nowhere";
+    };
+    let (word, rest) = cut(leads);
+    match word {
+        "on" => true,
+        "nowhere" => false,
+        "to" => have_counts(rt, state, rest),
+        "without" => state.topic_of(&topic(rt, rest)).is_none(),
+        _ => panic!(rt; "{} is nowhere to lead to", word),
+    }
+}
+
+fn have_counts(rt: &impl Abort, state: &State, leads: &str) -> bool {
+    let (name, each) = cut(leads);
+    for counts in each.split(',') {
+        if !has_counts(rt, state, name, counts.trim()) {
+            return false;
+        }
+    }
+    true
+}
+
+fn has_counts(rt: &impl Abort, state: &State, name: &str, counts: &str) -> bool {
+    let (of, counts) = cut(counts);
+    let Some(channel) = state.channel_at(&topic(rt, name), &channel(rt, of)) else {
+        return false;
+    };
+    let (waiting, rest) = cut(counts);
+    let (flying, held) = cut(rest);
+    queued(&channel.copies) as u64 == number(rt, waiting)
+        && in_flight(&channel.copies) as u64 == number(rt, flying)
+        && deferred(&channel.copies) as u64 == number(rt, held)
+}
+
+fn start_of(rt: &impl Abort, alloc: Global, start: Start) -> State {
+    let mut options = Options::defaults(alloc).expect(rt, "memory");
+    options.mem_queue_size = start.mem;
+    options.msg_timeout = start.msg_timeout;
+    State {
+        options,
+        epoch: start.epoch % 1_000,
+        ids_used: start.ids_used,
+        moment: 0,
+        stopped: false,
+        began: Vec::new(alloc),
+        clients: Vec::new(alloc),
+        topics: found_topics(rt, alloc, start.found),
+    }
+}
+
+fn found_topics(rt: &impl Abort, alloc: Global, found: &[(u64, u16)]) -> Vec<TopicState> {
+    let mut topics = Vec::new(alloc);
+    if !found.is_empty() {
+        put(rt, &mut topics, found_topic(rt, alloc, found));
+    }
+    topics
+}
+
+fn found_topic(rt: &impl Abort, alloc: Global, found_there: &[(u64, u16)]) -> TopicState {
+    let mut found = ChannelState::new(alloc, channel(rt, "c"));
+    for (n, attempts) in found_there {
+        let message = message(rt, alloc, *n, *attempts, 0);
+        let place = Place::Queued;
+        put(rt, &mut found.copies, MessageCopy { message, place });
+    }
+    TopicState::new(alloc, topic(rt, "t"))
+        .with_channel(alloc, found)
+        .expect(rt, "memory")
+}

@@ -1,0 +1,31 @@
+//! Rows of the parts that stand by themselves: base types, the V2 stream, IDENTIFY, HTTP, the turnstile. A row has its name, what
+//! goes in and what must come out. There is nothing here but tests, so that a row is only ever proved here.
+#![tactic(auto)]
+
+#[cfg(test)]
+mod base;
+#[cfg(test)]
+mod http;
+#[cfg(test)]
+mod identify;
+#[cfg(test)]
+mod stream;
+#[cfg(test)]
+mod text;
+#[cfg(test)]
+mod turnstiles;
+
+#[cfg(test)]
+use std::process::Abort;
+
+/// Whether the bytes are the same.
+#[cfg(test)]
+pub(crate) fn same(one: &[u8], other: &[u8]) -> bool {
+    one == other
+}
+
+/// Ends the run where a row doesn't hold, and names it.
+#[cfg(test)]
+pub(crate) fn check(rt: &impl Abort, holds: bool, name: &str) {
+    assert!(rt; holds, "{}", name);
+}

@@ -1,0 +1,131 @@
+//! The words of rows that are texts.
+//!
+//! Bytes are told in pieces with a `+` between them: `40*a` is that letter 40 times, `size 40` that number in four bytes, highest first, and
+//! `zeros 3` so many bytes 0. Each other piece stands for itself, but for `/`, which is the end of a line.
+
+use nsq_fakes::{Failing, FolderCall};
+use std::alloc::Global;
+use std::process::Abort;
+
+/// What stands before a mark, and what stands behind it; the whole text and nothing where it isn't there.
+pub fn cut_at<'a>(text: &'a str, mark: &str) -> (&'a str, &'a str) {
+    match text.split_once(mark) {
+        Some(parts) => parts,
+        None => (text, ""),
+    }
+}
+
+/// The first word of a text, and what stands behind it.
+pub fn cut(text: &str) -> (&str, &str) {
+    cut_at(text, " ")
+}
+
+/// The parts of a text before and behind a mark, which is there.
+pub fn part<'a>(rt: &impl Abort, text: &'a str, mark: &str) -> (&'a str, &'a str) {
+    text.split_once(mark).expect(rt, "a mark in a row")
+}
+
+/// The number that a word says.
+pub fn number(rt: &impl Abort, word: &str) -> u64 {
+    word.parse::<u64>().expect(rt, "a number in a row")
+}
+
+/// The same of a size.
+pub fn size(rt: &impl Abort, word: &str) -> u32 {
+    word.parse::<u32>().expect(rt, "a size in a row")
+}
+
+/// The letter that a word is.
+pub fn letter(rt: &impl Abort, word: &str) -> u8 {
+    match word.as_bytes() {
+        [letter] => *letter,
+        _ => panic!(rt; "{} is no letter", word),
+    }
+}
+
+/// Whether an answer says that a call was carried out.
+pub fn is_done(rt: &impl Abort, answer: &str) -> bool {
+    match answer {
+        "done" => true,
+        "failed" | "fault" => false,
+        _ => panic!(rt; "{} is not done or failed", answer),
+    }
+}
+
+/// The bytes that a text tells.
+pub fn bytes_of(rt: &impl Abort, alloc: Global, text: &str) -> Vec<u8> {
+    let mut bytes = Vec::new(alloc);
+    for piece in text.split('+') {
+        add_piece(rt, &mut bytes, piece);
+    }
+    bytes
+}
+
+fn add_piece(rt: &impl Abort, bytes: &mut Vec<u8>, piece: &str) {
+    let (word, count) = cut(piece);
+    match word {
+        "size" => {
+            let number = size(rt, count).to_be_bytes();
+            bytes.extend_from_slice(&number).expect(rt, "memory");
+        }
+        "zeros" => add_run(rt, bytes, number(rt, count), 0),
+        _ => add_text(rt, bytes, piece),
+    }
+}
+
+// Adds a piece that is no number.
+fn add_text(rt: &impl Abort, bytes: &mut Vec<u8>, piece: &str) {
+    match piece.split_once("*") {
+        Some((times, word)) => add_run(rt, bytes, number(rt, times), letter(rt, word)),
+        None => {
+            for byte in piece.as_bytes() {
+                let byte = if *byte == b'/' { b'\n' } else { *byte };
+                bytes.push(byte).expect(rt, "memory");
+            }
+        }
+    }
+}
+
+fn add_run(rt: &impl Abort, bytes: &mut Vec<u8>, times: u64, byte: u8) {
+    for _ in 0..times {
+        bytes.push(byte).expect(rt, "memory");
+    }
+}
+
+/// The method of the folder that a word names.
+pub fn call_of(rt: &impl Abort, word: &str) -> FolderCall {
+    match word {
+        "List" => FolderCall::List,
+        "Len" => FolderCall::Len,
+        "ReadAt" => FolderCall::ReadAt,
+        "WriteAt" => FolderCall::WriteAt,
+        "Cut" => FolderCall::Cut,
+        "Sync" => FolderCall::Sync,
+        "SyncNames" => FolderCall::SyncNames,
+        "Rename" => FolderCall::Rename,
+        "Remove" => FolderCall::Remove,
+        _ => panic!(rt; "{} is no call of a folder", word),
+    }
+}
+
+/// The calls of the folder that fail: a method, and from which number on and below which.
+pub fn fails_of(rt: &impl Abort, alloc: Global, text: &str) -> Vec<Failing> {
+    let mut fails = Vec::new(alloc);
+    for call in text.split(';') {
+        let call = call.trim();
+        if !call.is_empty() {
+            fails.push(failing_of(rt, call)).expect(rt, "memory");
+        }
+    }
+    fails
+}
+
+fn failing_of(rt: &impl Abort, call: &str) -> Failing {
+    let (method, numbers) = cut(call);
+    let (from, to) = cut(numbers);
+    Failing {
+        call: call_of(rt, method),
+        from: number(rt, from),
+        to: number(rt, to),
+    }
+}

@@ -3,12 +3,15 @@
 ghost use Rattle.std.specs.Prelude.{◌≡◌, IfOk, false};
 ghost use Rattle.nsq_base.specs.Options.{IsInRange};
 
+use crate::lists::push;
+use crate::text::{cut, moment, number, part};
 use broker_floor::Floor;
 use broker_history::Entry;
 use nsq_base::{Memory, Options};
-use nsq_fakes::{Failing, MemFolder};
+use nsq_fakes::{Failing, FolderCall, MemFolder};
 use nsq_outside::{Clock, End, Journal, Kit};
 use std::alloc::Global;
+use std::process::Abort;
 use std::sync::atomic::{AtomicU64, Ordering};
 
 pub const SECOND: u64 = 1_000_000_000;
@@ -26,7 +29,8 @@ pub struct Setting {
     pub most: u32,
     /// Whether a stop is served.
     pub stops: bool,
-    pub fails: &'static [Failing],
+    /// The calls of the folder that fail, with `, ` between them: the numbers from one to before another of those of a name, as in `Rename 0 to 2`.
+    pub fails: &'static str,
 }
 
 /// The default options, an opening at moment 0, and a folder of which no call fails.
@@ -36,8 +40,34 @@ pub const PLAIN: Setting = Setting {
     timeout: 60 * SECOND,
     most: 1_048_576,
     stops: false,
-    fails: &[],
+    fails: "",
 };
+
+/// What these lines say of their floor behind `with`: the moment at which it `began`, how many messages it keeps in `memory`, a message's `timeout`, the
+/// `most` bytes of a message, `stops served`, or the calls of its folder that it `fails`.
+pub fn setting_of(rt: &impl Abort, lines: &'static str) -> Setting {
+    let mut setting = PLAIN;
+    for line in lines.split('\n') {
+        let (word, rest) = cut(line.trim());
+        if word == "with" {
+            set(rt, &mut setting, rest);
+        }
+    }
+    setting
+}
+
+// This is said of a floor.
+fn set(rt: &impl Abort, setting: &mut Setting, words: &'static str) {
+    match cut(words) {
+        ("began", at) => setting.began = moment(rt, at),
+        ("memory", count) => setting.memory = number(rt, count),
+        ("timeout", time) => setting.timeout = moment(rt, time),
+        ("most", size) => setting.most = size.parse::<u32>().expect(rt, "a number"),
+        ("stops", "served") => setting.stops = true,
+        ("fails", calls) => setting.fails = calls,
+        _ => panic!(rt; "no floor is opened with {words}"),
+    }
+}
 
 /// A clock that shows the moment that stands here.
 #[derive(Drop)]
@@ -92,6 +122,7 @@ type MemKit<'a> = Kit<MemFolder, Shown<'a>, Forgotten>;
 
 /// A floor of epoch 1 over an empty folder, opened as a setting says, with these options; its clock is this.
 pub fn floor_of<'a>(
+    rt: &impl Abort,
     alloc: Global,
     setting: Setting,
     options: &Options,
@@ -100,19 +131,49 @@ pub fn floor_of<'a>(
     requires { IsInRange options.now }
 {
     moment.store(setting.began, Ordering::SeqCst);
-    let kit = kit_of(alloc, setting.fails, moment)?;
+    let kit = kit_of(rt, alloc, setting.fails, moment)?;
     match Floor::new(alloc, kit, options, 1) {
         Ok(floor) => Ok(floor),
         Err(_) => Err(Memory),
     }
 }
 
-fn kit_of<'a>(alloc: Global, fails: &[Failing], moment: &'a AtomicU64) -> Result<MemKit<'a>, Memory>
+// The calls of a folder that fail, as a setting says.
+fn failing(rt: &impl Abort, alloc: Global, fails: &str) -> Vec<Failing> {
+    let mut failing = Vec::new(alloc);
+    for calls in fails.split_terminator(", ") {
+        let (name, numbers) = cut(calls);
+        let (from, to) = part(rt, numbers, " to ");
+        let calls = Failing {
+            call: call_of(rt, name),
+            from: number(rt, from),
+            to: number(rt, to),
+        };
+        push(rt, &mut failing, calls);
+    }
+    failing
+}
+
+// The call of a folder with this name.
+fn call_of(rt: &impl Abort, name: &str) -> FolderCall {
+    match name {
+        "WriteAt" => FolderCall::WriteAt,
+        "Rename" => FolderCall::Rename,
+        _ => panic!(rt; "{name} is no call of a folder"),
+    }
+}
+
+fn kit_of<'a>(
+    rt: &impl Abort,
+    alloc: Global,
+    fails: &str,
+    moment: &'a AtomicU64,
+) -> Result<MemKit<'a>, Memory>
     ensures { IfOk result (λ kit. kit.journal.aside ≡ false) }
 {
-    let fails = Vec::from_slice(alloc, fails)?;
+    let failing = failing(rt, alloc, fails);
     Ok(Kit {
-        folder: MemFolder::new(alloc, Vec::new(alloc), fails)?,
+        folder: MemFolder::new(alloc, Vec::new(alloc), failing)?,
         clock: Shown { moment },
         journal: Forgotten { aside: false },
     })

@@ -23,3 +23,5 @@ mod served;
 mod session;
 #[cfg(test)]
 mod tables;
+#[cfg(test)]
+mod text;

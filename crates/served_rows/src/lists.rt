@@ -1,7 +1,6 @@
 //! Lists and bytes that grow, and how they are compared. What wants memory is asked for once more where memory was wanting, so that the rows hold too where one
 //! allocation fails, whichever it is.
 
-use session_scripts::{Runs, spread};
 use std::alloc::Global;
 use std::process::Abort;
 
@@ -33,12 +32,4 @@ pub fn copied(rt: &impl Abort, alloc: Global, bytes: &[u8]) -> Vec<u8> {
     let mut copy = Vec::new(alloc);
     put(rt, &mut copy, bytes);
     copy
-}
-
-/// The bytes of a text in runs.
-pub fn spread_out(rt: &impl Abort, alloc: Global, runs: Runs) -> Vec<u8> {
-    match spread(alloc, runs) {
-        Ok(bytes) => bytes,
-        Err(_) => spread(alloc, runs).expect(rt, "memory"),
-    }
 }

@@ -1,11 +1,15 @@
 //! Clients that are served one after another at a floor in memory.
+//!
+//! A row is a text: its name, lines of its floor and of what that leaves, and behind `client, ` each the clients' texts, the first one with number 1, each
+//! served to its end before the next. Behind `with` stands what `setting_of` reads, behind `leaves` the name and the bytes of a file that is there in the end.
 
 ghost use Rattle.std.specs.Prelude.{◌<◌};
 
 use crate::conn::{Fails, Reads, Watch, WatchedConn, conn_of, let_go};
-use crate::floor::{MemFloor, PLAIN, Setting, floor_of, options_of};
+use crate::floor::{MemFloor, floor_of, options_of, setting_of};
 use crate::lists::same;
-use crate::plan::{Client, Cut, Plan, plan_of};
+use crate::plan::{Cut, Plan, plan_of};
+use crate::text::{bytes_of, cut, part};
 use desk::FloorDesk;
 use nsq_base::Memory;
 use nsq_fakes::MemFolder;
@@ -23,22 +27,8 @@ pub const LIMITS: Limits = Limits {
     body: 5_242_880,
 };
 
-/// A file and its bytes.
-pub type File = (&'static str, &'static [u8]);
-
-/// A run of clients at one floor.
-#[derive(Clone, Copy)]
-pub struct Row {
-    pub name: &'static str,
-    /// How many messages a topic or a channel keeps in memory.
-    pub memory: u64,
-    /// How long a client has for a message, in nanoseconds.
-    pub timeout: u64,
-    /// The clients, the first one with number 1, each served to its end before the next.
-    pub clients: &'static [Client],
-    /// Files that are there in the end.
-    pub leaves: &'static [File],
-}
+/// What stands before the text of each client.
+pub const CLIENT: &str = "client, ";
 
 // Serves a connection under this number.
 fn serve_at<R: Wait>(
@@ -97,7 +87,7 @@ fn is_served<R: Abort + Wait>(
 fn goes<R: Abort + Wait>(
     rt: &R,
     alloc: Global,
-    client: &Client,
+    client: &str,
     at: usize,
     cut: Cut,
     floor: &mut MemFloor<'_>,
@@ -112,13 +102,14 @@ fn goes<R: Abort + Wait>(
 fn all_go<R: Abort + Wait>(
     rt: &R,
     alloc: Global,
-    clients: &[Client],
+    row: &str,
     cut: Cut,
     floor: &mut MemFloor<'_>,
     clock: &AtomicU64,
 ) -> bool {
+    let (_, clients) = part(rt, row, CLIENT);
     let mut at = 0usize;
-    for client in clients {
+    for client in clients.split(CLIENT) {
         if !goes(rt, alloc, client, at, cut, floor, clock) {
             return false;
         }
@@ -127,35 +118,49 @@ fn all_go<R: Abort + Wait>(
     true
 }
 
-// Whether these files are there.
-fn are_there(folder: &MemFolder, files: &[File]) -> bool {
-    for (name, bytes) in files {
-        match folder.file(name) {
-            Some(found) if same(found, bytes) => {}
-            _ => return false,
+// Whether the files are there that a row leaves.
+fn are_there(rt: &impl Abort, alloc: Global, folder: &MemFolder, row: &str) -> bool {
+    let (head, _) = part(rt, row, CLIENT);
+    let (_, lines) = part(rt, head, "\n");
+    for line in lines.split('\n') {
+        match cut(line.trim()) {
+            ("with", _) | ("", "") => {}
+            ("leaves", file) if is_there(rt, alloc, folder, file) => {}
+            ("leaves", _) => return false,
+            _ => panic!(rt; "{line} says nothing of a row"),
         }
     }
     true
 }
 
+// Whether a file is there, by its name and its bytes.
+fn is_there(rt: &impl Abort, alloc: Global, folder: &MemFolder, file: &str) -> bool {
+    let (name, bytes) = cut(file);
+    match folder.file(name) {
+        Some(found) => same(found, &bytes_of(rt, alloc, bytes)),
+        None => false,
+    }
+}
+
 // A floor as a row wants it.
-fn floor_for<'a>(alloc: Global, row: &Row, clock: &'a AtomicU64) -> Result<MemFloor<'a>, Memory> {
-    let setting = Setting {
-        memory: row.memory,
-        timeout: row.timeout,
-        ..PLAIN
-    };
+fn floor_for<'a>(
+    rt: &impl Abort,
+    alloc: Global,
+    row: &'static str,
+    clock: &'a AtomicU64,
+) -> Result<MemFloor<'a>, Memory> {
+    let setting = setting_of(rt, row);
     let options = options_of(alloc, setting)?;
-    floor_of(alloc, setting, &options, clock)
+    floor_of(rt, alloc, setting, &options, clock)
 }
 
 /// Whether a row goes as it says where it is cut so. One for whose floor or for one of whose connections there is no memory doesn't.
-pub fn holds<R: Abort + Wait>(rt: &R, alloc: Global, row: &Row, cut: Cut) -> bool {
+pub fn holds<R: Abort + Wait>(rt: &R, alloc: Global, row: &'static str, cut: Cut) -> bool {
     let clock = AtomicU64::new(0);
-    let Ok(mut floor) = floor_for(alloc, row, &clock) else {
+    let Ok(mut floor) = floor_for(rt, alloc, row, &clock) else {
         return false;
     };
-    let all_go = all_go(rt, alloc, row.clients, cut, &mut floor, &clock);
+    let all_go = all_go(rt, alloc, row, cut, &mut floor, &clock);
     let left = floor.end();
-    all_go && are_there(&left.folder, row.leaves)
+    all_go && are_there(rt, alloc, &left.folder, row)
 }

@@ -1,81 +1,58 @@
 //! What a caller gets, and its bytes.
 
 use crate::lists::same;
+use crate::text::bytes_of;
 use itoa::Buffer;
+use std::alloc::Global;
+use std::process::Abort;
 
-/// What a caller gets.
-#[derive(Clone, Copy)]
-pub enum Gets {
-    Nothing,
-    /// These bytes.
-    Bytes(&'static [u8]),
-    /// 200 with OK in plain text.
-    Ok,
-    /// 200 without a body: the answer of what is done and no publish.
-    Done,
-    /// 200 with a body in JSON.
-    Json(&'static [u8]),
-    /// The statistics of a daemon that was opened at moment 0 and has these topics.
-    Topics(&'static [u8]),
-    /// 400 with a code.
-    Bad(&'static [u8]),
-    /// 413 with a code.
-    TooLarge(&'static [u8]),
-    /// What is refused with a code of its own.
-    Refused(Refusal),
-}
-
-/// Why a caller is refused, in other words than those of its request.
-#[derive(Clone, Copy)]
-pub enum Refusal {
-    NoTopic,
-    NoChannel,
-    NotFound,
-    NotAllowed,
-    NoLength,
-    DiskFault,
-    Stopping,
-}
+/// What a caller gets, by a word and by what stands behind it:
+///
+/// - `nothing`; `bytes` and these;
+/// - `OK`: 200 with OK in plain text;
+/// - `done`: 200 without a body, the answer of what is done and no publish;
+/// - `json` and a body: 200 with that;
+/// - `topics` and these: 200 with the statistics of a daemon that was opened at moment 0 and has them;
+/// - the number of another status, and a code: that status with its phrase, and the code in JSON.
+///
+/// JSON stands as it is written, other bytes with escapes.
+pub type Gets = (&'static str, &'static str);
 
 const TEXT: &[u8] = b"text/plain";
 
 const JSON: &[u8] = b"application/json";
 
 /// Whether these bytes are what a caller gets.
-pub fn is_wanted(got: &[u8], gets: Gets) -> bool {
+pub fn is_wanted(rt: &impl Abort, alloc: Global, got: &[u8], gets: Gets) -> bool {
     match gets {
-        Gets::Nothing => got.is_empty(),
-        Gets::Bytes(bytes) => same(got, bytes),
-        Gets::Ok => is_answer(got, b"200 OK", TEXT, b"", b"OK", b""),
-        Gets::Done => is_answer(got, b"200 OK", TEXT, b"", b"", b""),
-        Gets::Json(body) => is_answer(got, b"200 OK", JSON, b"", body, b""),
-        Gets::Topics(topics) => is_answer(
+        ("nothing", "") => got.is_empty(),
+        ("bytes", text) => same(got, &bytes_of(rt, alloc, text)),
+        ("OK", "") => is_answer(got, b"200 OK", TEXT, b"", b"OK", b""),
+        ("done", "") => is_answer(got, b"200 OK", TEXT, b"", b"", b""),
+        ("json", body) => is_answer(got, b"200 OK", JSON, b"", body.as_bytes(), b""),
+        ("topics", topics) => is_answer(
             got,
             b"200 OK",
             JSON,
             br#"{"health":"OK","start_time":0,"topics":["#,
-            topics,
+            topics.as_bytes(),
             br#"],"version":"1.0.0"}"#,
         ),
-        Gets::Bad(code) => is_refused(got, b"400 Bad Request", code),
-        Gets::TooLarge(code) => is_refused(got, b"413 Payload Too Large", code),
-        Gets::Refused(refusal) => {
-            let (status, code) = words_of(refusal);
-            is_refused(got, status, code)
-        }
+        (status, code) => is_refused(got, status_of(rt, status), code.as_bytes()),
     }
 }
 
-// The status with its phrase and the code of a refusal.
-fn words_of(refusal: Refusal) -> (&'static [u8], &'static [u8]) {
-    match refusal {
-        Refusal::NoTopic => (b"404 Not Found", b"TOPIC_NOT_FOUND"),
-        Refusal::NoChannel => (b"404 Not Found", b"CHANNEL_NOT_FOUND"),
-        Refusal::NotFound => (b"404 Not Found", b"NOT_FOUND"),
-        Refusal::NotAllowed => (b"405 Method Not Allowed", b"METHOD_NOT_ALLOWED"),
-        Refusal::NoLength => (b"411 Length Required", b"LENGTH_REQUIRED"),
-        Refusal::DiskFault => (b"500 Internal Server Error", b"DISK_FAULT"),
-        Refusal::Stopping => (b"503 Service Unavailable", b"STOPPING"),
+// The status of this number with its phrase.
+fn status_of(rt: &impl Abort, number: &str) -> &'static [u8] {
+    match number {
+        "400" => b"400 Bad Request",
+        "404" => b"404 Not Found",
+        "405" => b"405 Method Not Allowed",
+        "411" => b"411 Length Required",
+        "413" => b"413 Payload Too Large",
+        "500" => b"500 Internal Server Error",
+        "503" => b"503 Service Unavailable",
+        _ => panic!(rt; "no caller gets {number}"),
     }
 }
 

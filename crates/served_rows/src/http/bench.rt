@@ -12,6 +12,7 @@ use http_api::serve_http;
 use http_exchange::EndedHttp;
 use nsq_base::Memory;
 use std::alloc::Global;
+use std::process::Abort;
 use std::sync::Wait;
 use std::sync::atomic::{AtomicU64, Ordering};
 use v2_frame::{Got, Reader};
@@ -32,12 +33,13 @@ pub struct Bench<'a> {
 
 /// A floor over an empty folder, opened as a setting says; its clock is this.
 pub fn bench_of<'a>(
+    rt: &impl Abort,
     alloc: Global,
     setting: Setting,
     clock: &'a AtomicU64,
 ) -> Result<Bench<'a>, Memory> {
     let options = options_of(alloc, setting)?;
-    let floor = floor_of(alloc, setting, &options, clock)?;
+    let floor = floor_of(rt, alloc, setting, &options, clock)?;
     Ok(Bench {
         alloc,
         floor,

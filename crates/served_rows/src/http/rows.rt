@@ -1,22 +1,35 @@
 //! What goes otherwise than a row says, and the test over all tables.
+//!
+//! A row is a text of lines: its name, what its floor is opened with otherwise than the plain one, and its steps.
+//!
+//! - `with`: what stands behind it, see `setting_of`;
+//! - `at` a moment: the clock shows it from now on;
+//! - `comes` or `goes` and a number: a client begins under it, or goes;
+//! - `says`, a number and commands, each with `|` behind it: the client sends these, each in one turn, and then is sent what it may get;
+//! - `stop`: the daemon's stop is noted;
+//! - `asks` a request `=>` what its caller gets, who is answered whole;
+//! - `asks-cut` the same, once for each place at which the request can be cut in two, by callers one after another;
+//! - `stats` and topics: a caller asks for the statistics, gets these, and is answered whole;
+//! - `calls`, how a caller ends, `:`, what comes from it at each read, in runs and with `|` behind it, nothing where it is empty, `=>` what it gets. Behind a
+//!   comma may stand what fails of its connection, and behind a second one how many bytes a write takes at most.
 
 use super::answers::{Gets, is_wanted};
 use super::bench::{Bench, bench_of};
-use super::steps::{CALLER, Caller, Row, Step};
-use super::tables::{STATS, tables};
-use crate::conn::{Watch, WatchedConn, conn_of, let_go};
-use crate::lists::{copied, push, put, spread_out};
+use super::steps::{Caller, WHOLE, caller_of};
+use super::tables::tables;
+use crate::conn::{Fails, Watch, WatchedConn, conn_of, let_go};
+use crate::floor::setting_of;
+use crate::lists::{copied, push, put};
+use crate::text::{bytes_of, cut, moment, number, part, spread};
 use desk::Call;
 use http_exchange::EndedHttp;
-use nsq_fakes::Piece;
-use session_scripts::{Runs, pieces_of};
+use session_scripts::pieces_of;
 use std::alloc::Global;
 use std::process::Abort;
 use std::sync::Wait;
 use std::sync::atomic::AtomicU64;
 
-/// More than the bytes of any piece.
-const WHOLE: usize = 1 << 24;
+const STATS: &[u8] = b"GET /stats?format=json HTTP/1.1\r\n\r\n";
 
 // Adds the pieces in which bytes come, so many at a time.
 fn add_pieces(
@@ -40,11 +53,11 @@ fn add_pieces(
     }
 }
 
-// The pieces of a caller.
-fn sent_by(rt: &impl Abort, alloc: Global, sends: &[Runs], size: usize) -> Vec<Vec<u8>> {
+// The pieces of a caller, so many bytes at a time.
+fn sent_by(rt: &impl Abort, alloc: Global, sends: &str, size: usize) -> Vec<Vec<u8>> {
     let mut pieces = Vec::new(alloc);
-    for runs in sends {
-        add_pieces(rt, alloc, &mut pieces, &spread_out(rt, alloc, runs), size);
+    for text in sends.split_terminator('|') {
+        add_pieces(rt, alloc, &mut pieces, &spread(rt, alloc, text), size);
     }
     pieces
 }
@@ -88,19 +101,21 @@ fn is_served<R: Abort + Wait>(
     put(rt, got, conn.written());
     let_go(conn);
     match ended {
-        Ok(ended) => ended == caller.ended && is_wanted(got, caller.gets),
+        Ok(ended) => ended == caller.ended && is_wanted(rt, alloc, got, caller.gets),
         Err(_) => false,
     }
 }
 
-// Whether a client may send all this; then it is sent what it may get.
-fn says_all(bench: &mut Bench<'_>, number: u64, commands: &[&[u8]]) -> bool {
-    for command in commands {
-        if !bench.says(number, command) {
+// Whether a client may send all that it says; then it is sent what it may get.
+fn says(rt: &impl Abort, bench: &mut Bench<'_>, words: &str) -> bool {
+    let (client, commands) = cut(words);
+    let client = number(rt, client);
+    for command in commands.split_terminator('|') {
+        if !bench.says(client, &bytes_of(rt, bench.alloc, command)) {
             return false;
         }
     }
-    bench.sends(number)
+    bench.sends(client)
 }
 
 // Whether a request is answered as it must be where it is cut in two before the byte of this number.
@@ -113,9 +128,10 @@ fn is_answered<R: Abort + Wait>(
     got: &mut Vec<u8>,
 ) -> bool {
     let caller = Caller {
+        fails: Fails::Nothing,
+        most: WHOLE,
         gets,
         ended: EndedHttp::Answered,
-        ..CALLER
     };
     let pieces = cut_at(rt, bench.alloc, request, place, size);
     is_served(rt, bench, &caller, &pieces, got)
@@ -138,97 +154,123 @@ fn is_answered_cut<R: Abort + Wait>(
     true
 }
 
+// Whether a request is answered as the words say, or wherever it is cut in two.
+fn asks<R: Abort + Wait>(
+    rt: &R,
+    bench: &mut Bench<'_>,
+    words: &'static str,
+    is_cut: bool,
+    size: usize,
+    got: &mut Vec<u8>,
+) -> bool {
+    let (request, gets) = part(rt, words, " => ");
+    let request = bytes_of(rt, bench.alloc, request);
+    if is_cut {
+        is_answered_cut(rt, bench, &request, cut(gets), size, got)
+    } else {
+        is_answered(rt, bench, (&request, 0), cut(gets), size, got)
+    }
+}
+
 // Whether a caller gets what it must, and ends so.
 fn calls<R: Abort + Wait>(
     rt: &R,
     bench: &mut Bench<'_>,
-    caller: &Caller,
+    words: &'static str,
     size: usize,
     got: &mut Vec<u8>,
 ) -> bool {
-    let pieces = sent_by(rt, bench.alloc, caller.sends, size);
-    is_served(rt, bench, caller, &pieces, got)
+    let (label, words) = part(rt, words, ": ");
+    let (sends, gets) = part(rt, words, "=> ");
+    let caller = caller_of(rt, label, cut(gets));
+    let pieces = sent_by(rt, bench.alloc, sends.trim(), size);
+    is_served(rt, bench, &caller, &pieces, got)
 }
 
-// Whether a turn of the daemon or of a client goes as a step says.
-fn turns(bench: &mut Bench<'_>, step: &Step) -> bool {
-    match step {
-        Step::At(moment) => {
-            bench.show(*moment);
-            true
-        }
-        Step::Comes(number) => bench.turn(*number, Call::Begin),
-        Step::Says(number, commands) => says_all(bench, *number, commands),
-        Step::Goes(number) => bench.turn(*number, Call::Gone),
-        Step::Stop => bench.turn(0, Call::Stop),
-        _ => false,
-    }
-}
-
-// Whether a step goes as it says, where so many bytes come at a time. What its last caller got stands in a list.
+// Whether a step goes as its line says, where so many bytes come at a time. What its last caller got stands in a list.
 fn goes<R: Abort + Wait>(
     rt: &R,
     bench: &mut Bench<'_>,
-    step: &Step,
+    line: &'static str,
     size: usize,
     got: &mut Vec<u8>,
 ) -> bool {
-    match step {
-        Step::Asks(request, gets) => is_answered(rt, bench, (request, 0), *gets, size, got),
-        Step::AsksCut(request, gets) => is_answered_cut(rt, bench, request, *gets, size, got),
-        Step::Stats(topics) => {
-            is_answered(rt, bench, (STATS, 0), Gets::Topics(topics), size, got)
+    match cut(line) {
+        ("with", _) => true,
+        ("at", at) => {
+            bench.show(moment(rt, at));
+            true
         }
-        Step::Calls(caller) => calls(rt, bench, caller, size, got),
-        _ => turns(bench, step),
+        ("comes", client) => bench.turn(number(rt, client), Call::Begin),
+        ("says", words) => says(rt, bench, words),
+        ("goes", client) => bench.turn(number(rt, client), Call::Gone),
+        ("stop", "") => bench.turn(0, Call::Stop),
+        _ => is_called(rt, bench, line, size, got),
     }
 }
 
-// The number of the first step that goes otherwise than it says, counted from 0. What the last caller got stands in a list.
-fn wrong_step<R: Abort + Wait>(
+// The same of a step with a caller.
+fn is_called<R: Abort + Wait>(
     rt: &R,
     bench: &mut Bench<'_>,
-    steps: &[Step],
+    line: &'static str,
     size: usize,
     got: &mut Vec<u8>,
-) -> Option<usize> {
-    let mut at = 0usize;
-    for step in steps {
-        if !goes(rt, bench, step, size, got) {
-            return Some(at);
+) -> bool {
+    match cut(line) {
+        ("asks", words) => asks(rt, bench, words, false, size, got),
+        ("asks-cut", words) => asks(rt, bench, words, true, size, got),
+        ("stats", topics) => is_answered(rt, bench, (STATS, 0), ("topics", topics), size, got),
+        ("calls", words) => calls(rt, bench, words, size, got),
+        _ => panic!(rt; "{line} is no step"),
+    }
+}
+
+// The first line that goes otherwise than it says. What the last caller got stands in a list.
+fn wrong_line<R: Abort + Wait>(
+    rt: &R,
+    bench: &mut Bench<'_>,
+    lines: &'static str,
+    size: usize,
+    got: &mut Vec<u8>,
+) -> Option<&'static str> {
+    for line in lines.split('\n') {
+        let line = line.trim();
+        if !goes(rt, bench, line, size, got) {
+            return Some(line);
         }
-        at = at.saturating_add(1);
     }
     None
 }
 
-// The same for a row at a floor of its own; its first step where there is no memory for the floor.
+// The same for lines at a floor of their own; `open` where there is no memory for the floor.
 fn wrong_in<R: Abort + Wait>(
     rt: &R,
     alloc: Global,
-    row: &Row,
+    lines: &'static str,
     size: usize,
     got: &mut Vec<u8>,
-) -> Option<usize> {
+) -> Option<&'static str> {
     let clock = AtomicU64::new(0);
-    match bench_of(alloc, row.setting, &clock) {
+    match bench_of(rt, alloc, setting_of(rt, lines), &clock) {
         Ok(mut bench) => {
-            let wrong = wrong_step(rt, &mut bench, row.steps, size, got);
+            let wrong = wrong_line(rt, &mut bench, lines, size, got);
             bench.end();
             wrong
         }
-        Err(_) => Some(0),
+        Err(_) => Some("open"),
     }
 }
 
-// Ends the run where a row doesn't hold, with the number of the step that goes otherwise and what a caller got last. A row that doesn't hold begins once
+// Ends the run where a row doesn't hold, with the line that goes otherwise and what a caller got last. A row that doesn't hold begins once
 // more, so that the rows hold too where one allocation fails, whichever it is.
-fn check<R: Abort + Wait>(rt: &R, alloc: Global, row: &Row, size: usize) {
+fn check<R: Abort + Wait>(rt: &R, alloc: Global, row: &'static str, size: usize) {
+    let (name, lines) = part(rt, row, "\n");
     let mut got = Vec::new(alloc);
-    if wrong_in(rt, alloc, row, size, &mut got).is_some() {
-        if let Some(step) = wrong_in(rt, alloc, row, size, &mut got) {
+    if wrong_in(rt, alloc, lines, size, &mut got).is_some() {
+        if let Some(line) = wrong_in(rt, alloc, lines, size, &mut got) {
             let got = String::from_utf8_lossy(alloc, &got).expect(rt, "memory");
-            panic!(rt; "{}, step {}:\n{}", row.name, step, got);
+            panic!(rt; "{}, {}:\n{}", name, line, got);
         }
     }
 }

@@ -1,10 +1,11 @@
 //! Conversations that are broken off at each place: by each answer that ends one, by a stop, by reads and writes that fail.
 
 use super::letters::{first, frames, length_of, put_frame};
-use super::lines::{ANSWERS, CALLS, ENDED, SENT, Talk, column, ended_by, pieces_in, spread};
+use super::lines::{ANSWERS, CALLS, ENDED, SENT, Talk, pieces_in};
 use super::served::{Setting, Wanted, goes, plain};
 use crate::conn::Fails;
 use crate::lists::{copied, push};
+use crate::text::{column, ended_by, spread};
 use std::alloc::Global;
 use std::process::Abort;
 use std::sync::Wait;

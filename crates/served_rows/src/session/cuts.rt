@@ -1,9 +1,9 @@
 //! Every command, cut into pieces at every place, with pushes between the pieces.
 
 use super::letters::{length_of, put_frame};
-use super::lines::column;
 use super::served::{Wanted, goes, plain, serve};
 use crate::lists::{copied, push, put, same};
+use crate::text::column;
 use std::alloc::Global;
 use std::process::Abort;
 use std::sync::Wait;

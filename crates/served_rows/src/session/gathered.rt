@@ -1,8 +1,9 @@
 //! Connections whose writes are gathered until the next read, as those over TCP are: what leaves together.
 
-use super::lines::{ANSWERS, CALLS, SENT, Talk, column, pieces_in, spread};
+use super::lines::{ANSWERS, CALLS, SENT, Talk, pieces_in};
 use crate::conn::{Fails, conn_of};
 use crate::lists::same;
+use crate::text::{column, spread};
 use nsq_fakes::MemConn;
 use nsq_outside::{Conn, Faults, Read, Sink, Source, Write, get};
 use nsq_system::Outbox;

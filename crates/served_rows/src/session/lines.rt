@@ -1,10 +1,9 @@
-//! Conversations as lines in columns, and texts in runs.
+//! Conversations as lines in columns.
 
-use crate::conn::Fails;
-use crate::lists::{push, put};
+use crate::lists::push;
+use crate::text::spread;
 use std::alloc::Global;
 use std::process::Abort;
-use v2_session::Ended;
 
 /// A conversation, in columns between `|` of which the last ones may be missing: what it is, and those that are named below. Texts are in runs, with `+` between
 /// them; one behind which `*` and a number stand comes so many times.
@@ -31,31 +30,6 @@ pub const FAILS: usize = 6;
 /// Whether memory is wanting for the Gone.
 pub const WANTED: usize = 7;
 
-/// The column of this number, the first one being 0.
-pub fn column(line: &str, number: usize) -> &str {
-    line.split('|').nth(number).unwrap_or("")
-}
-
-/// The bytes of a text in runs.
-pub fn spread(rt: &impl Abort, alloc: Global, text: &str) -> Vec<u8> {
-    let mut bytes = Vec::new(alloc);
-    for run in text.split('+') {
-        let (part, times) = times_of(rt, run);
-        for _ in 0..times {
-            put(rt, &mut bytes, part.as_bytes());
-        }
-    }
-    bytes
-}
-
-// A run without its number, and how many times it comes.
-fn times_of<'a>(rt: &impl Abort, run: &'a str) -> (&'a str, usize) {
-    match run.split_once('*') {
-        Some((part, times)) => (part, times.parse().expect(rt, "a number")),
-        None => (run, 1),
-    }
-}
-
 /// The pieces of a column.
 pub fn pieces_in(rt: &impl Abort, alloc: Global, sent: &str) -> Vec<Vec<u8>> {
     let mut pieces = Vec::new(alloc);
@@ -63,25 +37,4 @@ pub fn pieces_in(rt: &impl Abort, alloc: Global, sent: &str) -> Vec<Vec<u8>> {
         push(rt, &mut pieces, spread(rt, alloc, piece));
     }
     pieces
-}
-
-/// How a conversation ends, by its word.
-pub fn ended_by(rt: &impl Abort, word: &str) -> Ended {
-    match word {
-        "end" => Ended::EndOfInput,
-        "closed" => Ended::Closed,
-        "read fault" => Ended::ReadFault,
-        "write fault" => Ended::WriteFault,
-        "memory" => Ended::Memory,
-        _ => panic!(rt; "nothing ends by {word}"),
-    }
-}
-
-/// What fails, by its words.
-pub fn failing(rt: &impl Abort, words: &str) -> Fails {
-    match words.split_once(' ') {
-        Some(("read", number)) => Fails::Read(number.parse().expect(rt, "a number")),
-        Some((_, number)) => Fails::Write(number.parse().expect(rt, "a number")),
-        None => Fails::Nothing,
-    }
 }

@@ -1,12 +1,10 @@
 //! Connections from their first byte to their end: how each ends, what is written, and the order of turns, reads and writes.
 
 use super::letters::frames;
-use super::lines::{
-    ANSWERS, CALLS, ENDED, FAILS, SENT, Talk, WANTED, WRITTEN, column, ended_by, failing,
-    pieces_in, spread,
-};
+use super::lines::{ANSWERS, CALLS, ENDED, FAILS, SENT, Talk, WANTED, WRITTEN, pieces_in};
 use super::served::{Wanted, goes, plain};
 use crate::lists::{copied, push, put};
+use crate::text::{column, ended_by, failing, spread};
 use std::alloc::Global;
 use std::process::Abort;
 use std::sync::Wait;

@@ -1,55 +1,25 @@
 //! Topics and channels that keep no message in memory.
 
-use super::{ONE, PLAIN};
-use crate::plan::{Client, Gets, NOTHING, Step};
-use crate::served::Row;
-use v2_session::Ended;
-
-/// A row whose topics and channels keep no message in memory.
-const STORED: Row = Row { memory: 0, ..PLAIN };
-
-static ROWS: [Row; 3] = [
-    Row {
-        name: "a message that waits stands in the topic's file",
-        clients: &[ONE],
-        leaves: &[(
-            "t.diskqueue.000000.dat",
-            b"\0\0\0\x1b\0\0\0\0\0\0\0\0\0\00000010000000000a",
-        )],
-        ..STORED
-    },
-    Row {
-        name: "a message is sent from the channel's file",
-        clients: &[
-            ONE,
-            Client {
-                steps: &[Step {
-                    sends: b"  V2SUB t c\nRDY 1\n",
-                    gets: &[Gets::Ok, Gets::First(b"0000010000000000a")],
-                    ..NOTHING
-                }],
-                ended: Ended::EndOfInput,
-            },
-        ],
-        ..STORED
-    },
-    Row {
-        name: "a channel without a file has nothing to send",
-        clients: &[
-            ONE,
-            Client {
-                steps: &[Step {
-                    sends: b"  V2SUB t c#ephemeral\nRDY 1\n",
-                    gets: &[Gets::Ok],
-                    ..NOTHING
-                }],
-                ended: Ended::EndOfInput,
-            },
-        ],
-        ..STORED
-    },
+static ROWS: [&'static str; 3] = [
+    r#"a message that waits stands in the topic's file
+        with memory 0
+        leaves t.diskqueue.000000.dat \0\0\0\x1b\0\0\0\0\0\0\0\0\0\00000010000000000a
+        client, end:
+            0s|  V2PUB t\n\0\0\0\x01a|OK"#,
+    r#"a message is sent from the channel's file
+        with memory 0
+        client, end:
+            0s|  V2PUB t\n\0\0\0\x01a|OK
+        client, end:
+            0s|  V2SUB t c\nRDY 1\n|OK, first 0000010000000000a"#,
+    r#"a channel without a file has nothing to send
+        with memory 0
+        client, end:
+            0s|  V2PUB t\n\0\0\0\x01a|OK
+        client, end:
+            0s|  V2SUB t c#ephemeral\nRDY 1\n|OK"#,
 ];
 
-pub fn rows() -> &'static [Row] {
+pub fn rows() -> &'static [&'static str] {
     &ROWS
 }

@@ -1,0 +1,132 @@
+//! What the rows' texts have in common: parts, numbers, moments, bytes, and what becomes of a connection.
+//!
+//! In a text that stands for bytes `\n`, `\r` and `\0` stand for the same bytes as in Rust, and `\x` with two digits for that byte. A moment is in seconds,
+//! `5s`, or one nanosecond before them, `5s-1`.
+
+use crate::conn::Fails;
+use crate::floor::SECOND;
+use crate::lists::{push, put};
+use std::alloc::Global;
+use std::process::Abort;
+use v2_session::Ended;
+
+/// The first word of a text, and what stands behind it.
+pub fn cut(text: &str) -> (&str, &str) {
+    match text.split_once(' ') {
+        Some(parts) => parts,
+        None => (text, ""),
+    }
+}
+
+/// The parts of a text before and behind a mark.
+pub fn part<'a>(rt: &impl Abort, text: &'a str, mark: &str) -> (&'a str, &'a str) {
+    text.split_once(mark).expect(rt, "a mark in a row")
+}
+
+/// The column of this number, the first one being 0.
+pub fn column(line: &str, number: usize) -> &str {
+    line.split('|').nth(number).unwrap_or("")
+}
+
+/// The number that a word says.
+pub fn number(rt: &impl Abort, word: &str) -> u64 {
+    word.parse::<u64>().expect(rt, "a number")
+}
+
+/// The moment that a word says, in nanoseconds.
+pub fn moment(rt: &impl Abort, word: &str) -> u64 {
+    let (seconds, rest) = part(rt, word, "s");
+    let moment = number(rt, seconds).saturating_mul(SECOND);
+    match rest {
+        "" => moment,
+        "-1" => moment.saturating_sub(1),
+        _ => panic!(rt; "{word} is no moment"),
+    }
+}
+
+/// Adds the bytes that a text stands for.
+pub fn put_text(rt: &impl Abort, out: &mut Vec<u8>, text: &str) {
+    let mut is_escape = false;
+    for part in text.split('\\') {
+        if is_escape {
+            put_escape(rt, out, part.as_bytes());
+        } else {
+            put(rt, out, part.as_bytes());
+        }
+        is_escape = true;
+    }
+}
+
+// Adds the byte that stands behind a backslash, and what follows it.
+fn put_escape(rt: &impl Abort, out: &mut Vec<u8>, text: &[u8]) {
+    let (byte, rest) = match text {
+        [b'n', rest @ ..] => (b'\n', rest),
+        [b'r', rest @ ..] => (b'\r', rest),
+        [b'0', rest @ ..] => (b'\0', rest),
+        [b'x', high, low, rest @ ..] => {
+            let high = digit(rt, *high).wrapping_mul(16);
+            (high.wrapping_add(digit(rt, *low)), rest)
+        }
+        _ => panic!(rt; "a backslash without its byte"),
+    };
+    push(rt, out, byte);
+    put(rt, out, rest);
+}
+
+// What a hexadecimal digit says.
+fn digit(rt: &impl Abort, digit: u8) -> u8 {
+    match digit {
+        b'0'..=b'9' => digit.wrapping_sub(b'0'),
+        b'a'..=b'f' => digit.wrapping_sub(b'a').wrapping_add(10),
+        _ => panic!(rt; "no hexadecimal digit"),
+    }
+}
+
+/// The bytes that a text stands for.
+pub fn bytes_of(rt: &impl Abort, alloc: Global, text: &str) -> Vec<u8> {
+    let mut bytes = Vec::new(alloc);
+    put_text(rt, &mut bytes, text);
+    bytes
+}
+
+/// The bytes of a text in runs, with `+` between them; one behind which `*` and a number stand comes so many times.
+pub fn spread(rt: &impl Abort, alloc: Global, text: &str) -> Vec<u8> {
+    let mut bytes = Vec::new(alloc);
+    for run in text.split('+') {
+        let (part, times) = times_of(rt, run);
+        for _ in 0..times {
+            put_text(rt, &mut bytes, part);
+        }
+    }
+    bytes
+}
+
+// A run without its number, and how many times it comes.
+fn times_of<'a>(rt: &impl Abort, run: &'a str) -> (&'a str, u64) {
+    match run.split_once('*') {
+        Some((part, times)) => (part, number(rt, times)),
+        None => (run, 1),
+    }
+}
+
+/// What fails of a connection, by its words: the read or the write of a number, or nothing.
+pub fn failing(rt: &impl Abort, words: &str) -> Fails {
+    match words.split_once(' ') {
+        Some(("read", count)) => Fails::Read(number(rt, count)),
+        Some(("write", count)) => Fails::Write(number(rt, count)),
+        None if words.is_empty() || words == "nothing" => Fails::Nothing,
+        _ => panic!(rt; "nothing fails by {words}"),
+    }
+}
+
+/// How a V2 connection ends, by its word.
+pub fn ended_by(rt: &impl Abort, word: &str) -> Ended {
+    match word {
+        "end" => Ended::EndOfInput,
+        "closed" => Ended::Closed,
+        "read fault" => Ended::ReadFault,
+        "write fault" => Ended::WriteFault,
+        "memory" => Ended::Memory,
+        _ => panic!(rt; "nothing ends by {word}"),
+    }
+}

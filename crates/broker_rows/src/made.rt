@@ -72,9 +72,16 @@ pub fn moment(rt: &impl Abort, word: &str) -> u64 {
 
 /// How many ids were used, as `no ids` or `all ids but` so many say.
 pub fn used_of(rt: &impl Abort, text: &str) -> u64 {
-    match text.split_once("all ids but ") {
-        Some((_, left)) => ALL_IDS.saturating_sub(number(rt, left)),
-        None => 0,
+    match text.trim().strip_prefix("all ids but ") {
+        Some(left) => ALL_IDS.saturating_sub(number(rt, left)),
+        None => {
+            assert!(rt;
+                same(text.trim().as_bytes(), b"no ids"),
+                "{} is no count of ids",
+                text
+            );
+            0
+        }
     }
 }
 

@@ -39,5 +39,9 @@ fn holds(rt: &impl Abort, alloc: Global, row: &str) -> bool {
     let files = files_of(rt, alloc, listed(rt, text), queues);
     let names = names_in(rt, alloc, &files);
     let left = goes_on(rt, alloc, rows::given_of(rt, ended), &names);
-    left == (label.trim() == "left")
+    match label.trim() {
+        "left" => left,
+        "not left" => !left,
+        _ => panic!(rt; "{} is no label", label),
+    }
 }

@@ -88,8 +88,9 @@ fn goes_on(
         "no history" => {
             !is_legal(rt, alloc, start, entries, "") && are_talks(rt, alloc, talks, entries)
         }
-        "no history and leaves no attempts" => {
-            !is_legal(rt, alloc, start, entries, LEFT_OTHERWISE)
+        "a history that leaves its attempts" => {
+            is_legal(rt, alloc, start, entries, "")
+                && !is_legal(rt, alloc, start, entries, LEFT_OTHERWISE)
                 && are_talks(rt, alloc, talks, entries)
         }
         "no talk" => {

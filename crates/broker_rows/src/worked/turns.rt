@@ -49,7 +49,7 @@ static ROWS: [&'static str; 11] = [
         given: 0 1 began; 0 1 idle; 0 1 pub t 0 => OK; 0 1 pub t 1 => OK; 0 1 pub t 2 => OK; 0 1 idle; 0 1 gone; 0 2 began; 0 2 idle;
             0 2 sub t c => OK; 0 0 moved t c 0 3; 0 2 rdy 2; 0 2 sent 0 1; 0 2 sent 1 1; 0 2 idle; 0 2 rdy 1; 0 2 req 0 5000; 0 2 idle
         then: 0 2 gone; 0 0 stop
-        makes no history and leaves no attempts: 1 EndOfInput: Magic PubA PubB PubC => Okay Okay Okay;
+        makes a history that leaves its attempts: 1 EndOfInput: Magic PubA PubB PubC => Okay Okay Okay;
             2 EndOfInput: Magic SubC Rdy2 / Rdy1 Req0Later => Okay GotA GotB",
     "a second run has what was left, and new ids
         given what a run left: 0 1 began; 0 1 idle; 0 1 pub t 3 => OK; 0 0 moved t c new 1; 0 1 idle; 0 1 gone

@@ -1,4 +1,5 @@
 ghost use Rattle.std.specs.Prelude.{◌≡◌, IfOk};
+ghost use Rattle.broker_history.specs.declared.entry.Act.TheVariants.{Did, Refused, Sent, Asked, Listed, Took, Copied};
 
 use crate::{Ask, Said};
 use nsq_base::{Chan, Memory, MsgId, Names, Topic};
@@ -64,31 +65,27 @@ pub struct Entry {
 
 impl Twin for Act {
     fn twin(&self, alloc: Global) -> Result<Act, Memory> {
-        Ok(match self {
-            Act::Began => Act::Began,
-            Act::Did(command, reply) => Act::Did(command.copy(alloc)?, copy_reply(alloc, reply)?),
-            Act::Refused(fault, frame) => Act::Refused(*fault, frame.copy(alloc)?),
-            Act::Sent(message) => Act::Sent(message.copy(alloc)?),
-            Act::Beat => Act::Beat,
-            Act::Idle => Act::Idle,
-            Act::Silent => Act::Silent,
-            Act::Dropped => Act::Dropped,
-            Act::Gone => Act::Gone,
-            Act::Asked(ask, said) => Act::Asked(ask.twin(alloc)?, said.twin(alloc)?),
-            Act::Listed(names) => Act::Listed(names.copy(alloc)?),
-            Act::Ticked => Act::Ticked,
-            Act::Stop => Act::Stop,
-            Act::Took(topic, message, names) => {
-                Act::Took(*topic, message.copy(alloc)?, names.copy(alloc)?)
-            }
-            Act::Copied(topic, channel, message) => {
-                Act::Copied(*topic, *channel, message.copy(alloc)?)
-            }
-            Act::TimedOut(topic, channel, id) => Act::TimedOut(*topic, *channel, *id),
-            Act::CameDue(topic, channel, id) => Act::CameDue(*topic, *channel, *id),
-            Act::HeldBack(topic, channel, id) => Act::HeldBack(*topic, *channel, *id),
-            Act::Stuck(topic, channel) => Act::Stuck(*topic, *channel),
-        })
+        match self {
+            Act::Did(command, reply) => did_twin(alloc, command, reply),
+            Act::Refused(fault, frame) => refused_twin(alloc, *fault, frame),
+            Act::Sent(message) => sent_twin(alloc, message),
+            Act::Asked(ask, said) => asked_twin(alloc, ask, said),
+            Act::Listed(names) => listed_twin(alloc, names),
+            Act::Took(topic, message, names) => took_twin(alloc, *topic, message, names),
+            Act::Copied(topic, channel, message) => copied_twin(alloc, *topic, *channel, message),
+            Act::TimedOut(topic, channel, id) => Ok(Act::TimedOut(*topic, *channel, *id)),
+            Act::CameDue(topic, channel, id) => Ok(Act::CameDue(*topic, *channel, *id)),
+            Act::HeldBack(topic, channel, id) => Ok(Act::HeldBack(*topic, *channel, *id)),
+            Act::Stuck(topic, channel) => Ok(Act::Stuck(*topic, *channel)),
+            Act::Began => Ok(Act::Began),
+            Act::Beat => Ok(Act::Beat),
+            Act::Idle => Ok(Act::Idle),
+            Act::Silent => Ok(Act::Silent),
+            Act::Dropped => Ok(Act::Dropped),
+            Act::Gone => Ok(Act::Gone),
+            Act::Ticked => Ok(Act::Ticked),
+            Act::Stop => Ok(Act::Stop),
+        }
     }
 }
 
@@ -110,4 +107,49 @@ fn copy_reply(alloc: Global, reply: &Option<Frame>) -> Result<Option<Frame>, Mem
         Some(frame) => Ok(Some(frame.copy(alloc)?)),
         None => Ok(None),
     }
+}
+
+fn did_twin(alloc: Global, command: &Command, reply: &Option<Frame>) -> Result<Act, Memory>
+    ensures { IfOk result (λ t. t ≡ Did command.now reply.now) }
+{
+    let reply = copy_reply(alloc, reply)?;
+    Ok(Act::Did(command.copy(alloc)?, reply))
+}
+
+fn refused_twin(alloc: Global, fault: Fault, frame: &Frame) -> Result<Act, Memory>
+    ensures { IfOk result (λ t. t ≡ Refused fault frame.now) }
+{
+    Ok(Act::Refused(fault, frame.copy(alloc)?))
+}
+
+fn sent_twin(alloc: Global, message: &Message) -> Result<Act, Memory>
+    ensures { IfOk result (λ t. t ≡ Sent message.now) }
+{
+    Ok(Act::Sent(message.copy(alloc)?))
+}
+
+fn asked_twin(alloc: Global, ask: &Ask, said: &Said) -> Result<Act, Memory>
+    ensures { IfOk result (λ t. t ≡ Asked ask.now said.now) }
+{
+    let said = said.twin(alloc)?;
+    Ok(Act::Asked(ask.twin(alloc)?, said))
+}
+
+fn listed_twin(alloc: Global, names: &Names) -> Result<Act, Memory>
+    ensures { IfOk result (λ t. t ≡ Listed names.now) }
+{
+    Ok(Act::Listed(names.copy(alloc)?))
+}
+
+fn took_twin(alloc: Global, topic: Topic, message: &Message, names: &Names) -> Result<Act, Memory>
+    ensures { IfOk result (λ t. t ≡ Took topic message.now names.now) }
+{
+    let names = names.copy(alloc)?;
+    Ok(Act::Took(topic, message.copy(alloc)?, names))
+}
+
+fn copied_twin(alloc: Global, topic: Topic, channel: Chan, message: &Message) -> Result<Act, Memory>
+    ensures { IfOk result (λ t. t ≡ Copied topic channel message.now) }
+{
+    Ok(Act::Copied(topic, channel, message.copy(alloc)?))
 }

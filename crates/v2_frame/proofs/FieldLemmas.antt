@@ -3,9 +3,9 @@ use Rattle.std.proofs.Common.{◌≡◌, ℕ, ◌+◌, ◌^◌, ◌<◌, ◌≤�
 use Rattle.std.specs.Int.{from_be_bytes, w32}
 use Rattle.std.specs.List.{flat_map, AllByRecursion}
 use Rattle.std.proofs.lemmas.Bool.{cases_lt}
-use Rattle.std.proofs.lemmas.List.{take-append-drop, drop-drop, get_or-take, get_or_past, flat_map_more}
+use Rattle.std.proofs.lemmas.List.{append-nil, nil_from_length, take-append-drop, drop-drop, get_or-take, get_or_past, flat_map_more}
 use Rattle.std.proofs.lemmas.Nat.{be_bytes_4}
-use Rattle.v2_frame.specs.Command.{size4, sized, heading_of, bytes_behind, IsSize, IsBody, IsWithin}
+use Rattle.v2_frame.specs.Command.{size4, sized, content_of, heading_of, bytes_behind, IsSize, IsBody, IsWithin}
 use Rattle.v2_frame.proofs.SizeLemmas.{size_long}
 use Rattle.v2_frame.specs.declared.command.Command.{Command}
 use Rattle.v2_frame.specs.declared.fault.FaultKind.{FaultKind}
@@ -48,6 +48,12 @@ module _ (most count at : ℕ) (content rest : List ℕ) (bodies : List (List �
 
   pub bytes_left : 0 < count → length bodies ≡ count → at < length content → IsBadContent most content BadBody (at + 4)
   bytes_left some all more = left_over size some read all (omega (arith, length-drop at content)) (omega arith)
+
+  -- all of them were read, and nothing is left
+  pub content_whole : length bodies ≡ count → length content ≤ at → content ≡ content_of bodies
+  content_whole all done =
+      let none : drop at content ≡ [] = nil_from_length (drop at content) (omega (arith, length-drop at content)) in
+      size.whole ∙ ap (λ (x : List ℕ). size4 count ++ x) (read.whole ∙ ap (λ (x : List ℕ). flat_map sized bodies ++ x) none ∙ append-nil (flat_map sized bodies)) ∙ ap (λ (n : ℕ). size4 n ++ flat_map sized bodies) (sym all)
 
 -- one more good body
 pub body_more : (most at size : ℕ) (content slice body : List ℕ) (bodies : List (List ℕ)) → HasBodies most (drop 4 content) bodies (drop at content) → slice ≡ drop at content → IsWholeField most slice size

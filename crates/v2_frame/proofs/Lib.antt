@@ -7,6 +7,7 @@ pub mod ScriptLemmas
 pub mod PlaceLemmas
 pub mod FieldLemmas
 pub mod FoundLemmas
+pub mod VerbLemmas
 pub mod CanonicalLemmas
 pub mod ReaderLemmas
 pub mod ReadLemmas

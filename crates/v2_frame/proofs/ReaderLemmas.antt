@@ -19,7 +19,7 @@ use Rattle.v2_frame.specs.Line.{HasNo, HasLine}
 use Rattle.v2_frame.specs.Judging.{Unfinished, Judged, good_line, open_line, endless_line, Behind, open_size, open_body, HasHeading, HasSize, IsFault, IsUnfinished, Begins}
 use Rattle.v2_frame.specs.Script.{magic, told_place, none, HasScript}
 use Rattle.v2_frame.specs.Parts.{EndsLine, TakesSome, verdict_of}
-use Rattle.v2_frame.specs.Reading.{LeftAt, ReadsMagic, Takes}
+use Rattle.v2_frame.specs.Reading.{LeftAt, ReadsMagic, Takes, Remembers}
 use Rattle.v2_frame.proofs.LineLemmas.{no_line, line_unique, line_more}
 use Rattle.v2_frame.proofs.SizeLemmas.{size_unique, size_long, size_more}
 use Rattle.v2_frame.proofs.PlaceLemmas.{cut_at, HasNo_take}
@@ -173,3 +173,17 @@ pub endless : (limits : Limits) (bytes slice : List ℕ) → slice ≡ bytes →
 endless limits bytes slice e n many =
     subst (λ (x : List ℕ). IsFault limits x LineTooLong 0) e
     (endless_line (record { whole = sym (take-append-drop 16386 slice); long = simp length-take (omega arith) }) (HasNo_take 10 16386 slice n))
+
+-- what is remembered of an unfinished command whose line ends here
+pub remembers_line : (limits : Limits) (items slice : List ℕ) (start end needed : ℕ) → slice ≡ drop start items → start ≤ length items → EndsLine slice end → IsUnfinished limits slice
+    → ((limits : Limits) → IsUnfinished limits slice → (more : List ℕ) → length (slice ++ more) < needed → IsUnfinished limits (slice ++ more)) → Remembers limits items start end needed
+remembers_line limits items slice start end needed e done line unfinished waits = record {
+  done = done;
+  scan = omega (arith, done, line.within, ap length e, length-drop start items);
+  none = subst (λ (x : List ℕ). HasNo 10 (take end x)) e line.first;
+  waits = subst (λ (x : List ℕ). (more : List ℕ) → length (x ++ more) < needed → IsUnfinished limits (x ++ more)) e (waits limits unfinished);
+}
+
+-- nothing is remembered behind a command that is done
+pub remembers_none : (limits : Limits) (items : List ℕ) (start : ℕ) → start ≤ length items → Remembers limits items start 0 0
+remembers_none limits items start done = record { done = done; scan = omega (arith, done); none = tt; waits = λ more few. absurd (omega (arith, few)) }

@@ -6,6 +6,7 @@ pub mod Script
 pub mod Written
 pub mod Laws
 pub mod Parts
+pub mod Lined
 pub mod Reading
 pub mod ReaderLaws
 pub mod Writing

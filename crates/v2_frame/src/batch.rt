@@ -1,4 +1,5 @@
-ghost use Rattle.std.specs.Prelude.{IfOk};
+ghost use Rattle.std.specs.Prelude.{◌≡◌, [], IfOk, MatchOption};
+ghost use Rattle.v2_frame.specs.declared.batch.Content.TheVariants.{Good, Bad};
 ghost use Rattle.v2_frame.specs.Parts.{IsContent};
 
 use crate::FaultKind;
@@ -19,19 +20,35 @@ pub(crate) enum Content {
 pub(crate) fn content_of(alloc: Global, most: u32, content: &[u8]) -> Result<Content, Memory>
     ensures { IfOk result (λ found. IsContent most content.now found) }
 {
+    let mut bodies = Bodies::new(alloc);
+    match read_bodies(alloc, most, content, &mut bodies)? {
+        None => Ok(Content::Good(bodies)),
+        Some((kind, at)) => Ok(Content::Bad(kind, at)),
+    }
+}
+
+/// Reads the messages of the content into the bodies, which are none before, or finds its fault and the place of that.
+fn read_bodies(
+    alloc: Global,
+    most: u32,
+    content: &[u8],
+    bodies: &mut Bodies,
+) -> Result<Option<(FaultKind, usize)>, Memory>
+    requires { bodies.old ≡ [] }
+    ensures { IfOk result (λ fault. MatchOption fault (IsContent most content.now (Good bodies.new)) (λ f. IsContent most content.now (Bad f.0 f.1))) }
+{
     let Some((count, _)) = size_of(content) else {
-        return Ok(Content::Bad(FaultKind::BadBody, 0));
+        return Ok(Some((FaultKind::BadBody, 0)));
     };
     if count == 0 {
-        return Ok(Content::Bad(FaultKind::BadBody, 0));
+        return Ok(Some((FaultKind::BadBody, 0)));
     }
     let count = count as usize;
-    let mut bodies = Bodies::new(alloc);
     let mut at = 4;
     'messages: while bodies.count() < count {
         let size = match field_of(&content[at..], most) {
-            Field::Open => return Ok(Content::Bad(FaultKind::BadBody, at + 4)),
-            Field::Bad => return Ok(Content::Bad(FaultKind::BadSize, at + 4)),
+            Field::Open => return Ok(Some((FaultKind::BadBody, at + 4))),
+            Field::Bad => return Ok(Some((FaultKind::BadSize, at + 4))),
             Field::Whole(size) => size,
         };
         let body = Body::copy(alloc, &content[at + 4..at + 4 + size])?;
@@ -39,7 +56,7 @@ pub(crate) fn content_of(alloc: Global, most: u32, content: &[u8]) -> Result<Con
         at += 4 + size;
     }
     if at < content.len() {
-        return Ok(Content::Bad(FaultKind::BadBody, at + 4));
+        return Ok(Some((FaultKind::BadBody, at + 4)));
     }
-    Ok(Content::Good(bodies))
+    Ok(None)
 }

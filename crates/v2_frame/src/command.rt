@@ -37,20 +37,23 @@ impl Command {
     pub fn copy(&self, alloc: Global) -> Result<Command, Memory>
         ensures { IfOk result (λ command. command ≡ self.now) }
     {
-        Ok(match self {
-            Command::Identify(body) => Command::Identify(Body::copy(alloc, body.bytes())?),
-            Command::Sub(topic, channel) => Command::Sub(*topic, *channel),
-            Command::Pub(topic, body) => Command::Pub(*topic, Body::copy(alloc, body.bytes())?),
-            Command::Mpub(topic, bodies) => Command::Mpub(*topic, bodies.copy(alloc)?),
-            Command::Dpub(topic, delay, body) => {
-                Command::Dpub(*topic, *delay, Body::copy(alloc, body.bytes())?)
+        match self {
+            Command::Identify(body) => Ok(Command::Identify(Body::copy(alloc, body.bytes())?)),
+            Command::Sub(topic, channel) => Ok(Command::Sub(*topic, *channel)),
+            Command::Pub(topic, body) => {
+                Ok(Command::Pub(*topic, Body::copy(alloc, body.bytes())?))
             }
-            Command::Rdy(count) => Command::Rdy(*count),
-            Command::Fin(id) => Command::Fin(*id),
-            Command::Req(id, delay) => Command::Req(*id, *delay),
-            Command::Touch(id) => Command::Touch(*id),
-            Command::Cls => Command::Cls,
-            Command::Nop => Command::Nop,
-        })
+            Command::Mpub(topic, bodies) => Ok(Command::Mpub(*topic, bodies.copy(alloc)?)),
+            Command::Dpub(topic, delay, body) => {
+                let body = Body::copy(alloc, body.bytes())?;
+                Ok(Command::Dpub(*topic, *delay, body))
+            }
+            Command::Rdy(count) => Ok(Command::Rdy(*count)),
+            Command::Fin(id) => Ok(Command::Fin(*id)),
+            Command::Req(id, delay) => Ok(Command::Req(*id, *delay)),
+            Command::Touch(id) => Ok(Command::Touch(*id)),
+            Command::Cls => Ok(Command::Cls),
+            Command::Nop => Ok(Command::Nop),
+        }
     }
 }

@@ -1,5 +1,5 @@
 /// What is wrong in a V2 stream.
-#[derive(Clone, Copy, Debug, PartialEq, Eq)]
+#[derive(Clone, Copy, PartialEq, Eq)]
 pub enum FaultKind {
     /// The stream doesn't begin with the four bytes `  V2`.
     BadMagic,
@@ -39,7 +39,7 @@ impl FaultKind {
 }
 
 /// A fault of a stream. Nothing behind it is read.
-#[derive(Clone, Copy, Debug, PartialEq, Eq)]
+#[derive(Clone, Copy, PartialEq, Eq)]
 pub struct Fault {
     /// What is wrong.
     pub kind: FaultKind,
@@ -48,7 +48,7 @@ pub struct Fault {
 }
 
 /// The greatest sizes that a stream's reader takes, in bytes.
-#[derive(Clone, Copy, Debug, PartialEq, Eq)]
+#[derive(Clone, Copy)]
 pub struct Limits {
     /// The greatest size of a message's body.
     pub msg: u32,
@@ -57,7 +57,7 @@ pub struct Limits {
 }
 
 /// What stands behind the commands of a stream.
-#[derive(Clone, Copy, Debug, PartialEq, Eq)]
+#[derive(Clone, Copy, PartialEq, Eq)]
 pub enum Rest {
     /// Nothing, or the beginning of a command in which no fault can be told yet.
     Unfinished,

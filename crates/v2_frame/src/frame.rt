@@ -4,7 +4,7 @@ use nsq_base::{Body, Memory};
 use std::alloc::Global;
 
 /// What a frame carries. On the wire it is a number of 4 bytes, most significant first.
-#[derive(Clone, Copy, Debug, PartialEq, Eq)]
+#[derive(Clone, Copy, PartialEq, Eq)]
 pub enum FrameKind {
     /// The reply to a command, or a heartbeat: type 0.
     Response,
@@ -16,7 +16,7 @@ pub enum FrameKind {
 
 /// What a daemon sends to a client (nsq.io, TCP Protocol Spec): a size of 4 bytes, a type of 4 bytes, both most significant
 /// first, and the data. The size counts the type and the data.
-#[derive(Debug, Drop)]
+#[derive(Drop)]
 pub struct Frame {
     /// The frame's type.
     pub kind: FrameKind,

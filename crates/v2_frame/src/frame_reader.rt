@@ -5,6 +5,7 @@ ghost use Rattle.v2_frame.specs.FrameReads.{IsFront, Gives, GaveOf};
 ghost use Rattle.v2_frame.specs.Script.{told_place};
 ghost use Rattle.v2_frame.specs.Written.{type_of};
 
+use crate::bytes::drop_front;
 use crate::judge::told_place;
 use crate::size::size_of;
 use crate::{Frame, FrameKind};
@@ -13,7 +14,7 @@ use std::alloc::Global;
 use std::marker::Model;
 
 /// What `FrameReader::next` answers.
-#[derive(Debug, Drop)]
+#[derive(Drop)]
 pub enum GotFrame {
     /// The next frame.
     Whole(Frame),
@@ -73,26 +74,18 @@ impl FrameReader {
         self.keep(piece)
     }
 
-    /// Keeps the piece behind what is held.
+    /// Keeps the piece behind what is held, which first goes to the front where no more bytes move than were given out since
+    /// the last time.
     fn keep(&mut self, piece: &[u8]) -> Result<(), Memory>
         ensures ok { OnOk result (self.new ≡ record self.old { bytes = self.old.bytes ++ piece.now }) }
         ensures err { OnErr result (self.new ≡ self.old) }
     {
-        self.compact();
-        self.buffer.extend_from_slice(piece)?;
-        Ok(())
-    }
-
-    /// Moves what is held to the front, where no more bytes move than were given out since the last time.
-    fn compact(&mut self)
-        ensures { self.new ≡ self.old }
-    {
-        let left = self.buffer.len() - self.start;
-        if self.start >= left {
-            self.buffer.copy_within(self.start.., 0);
-            self.buffer.truncate(left);
+        if self.start >= self.buffer.len() - self.start {
+            drop_front(&mut self.buffer, self.start);
             self.start = 0;
         }
+        self.buffer.extend_from_slice(piece)?;
+        Ok(())
     }
 
     /// The next frame, or what stands in its place.

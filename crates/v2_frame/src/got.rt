@@ -1,7 +1,7 @@
 use crate::{Command, Fault};
 
 /// What a reader gives.
-#[derive(Debug, Drop)]
+#[derive(Drop)]
 pub enum Got {
     /// The next command.
     Whole(Command),

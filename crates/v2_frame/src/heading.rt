@@ -2,6 +2,7 @@ ghost use Rattle.std.specs.Prelude.{◌≡◌, ◌≢◌, [], ◌∷◌, List, �
 ghost use Rattle.v2_frame.specs.Heading.{Says, SaysNothing};
 ghost use Rattle.v2_frame.specs.Parts.{AreWords, seen_heading, spelled, IsNoVerb};
 
+use crate::bytes::same;
 use crate::line::Words;
 use crate::number::{id_of, number_of};
 use nsq_base::MsgId;
@@ -52,20 +53,40 @@ pub(crate) enum Heading<'a> {
 fn verb_of(word: &[u8]) -> Option<Verb>
     ensures { MatchOption result (IsNoVerb word.now) (λ verb. word.now ≡ spelled verb) }
 {
-    match word {
-        b"IDENTIFY" => Some(Verb::Identify),
-        b"SUB" => Some(Verb::Sub),
-        b"PUB" => Some(Verb::Pub),
-        b"MPUB" => Some(Verb::Mpub),
-        b"DPUB" => Some(Verb::Dpub),
-        b"RDY" => Some(Verb::Rdy),
-        b"FIN" => Some(Verb::Fin),
-        b"REQ" => Some(Verb::Req),
-        b"TOUCH" => Some(Verb::Touch),
-        b"CLS" => Some(Verb::Cls),
-        b"NOP" => Some(Verb::Nop),
-        _ => None,
+    if same(word, b"IDENTIFY") {
+        return Some(Verb::Identify);
     }
+    if same(word, b"SUB") {
+        return Some(Verb::Sub);
+    }
+    if same(word, b"PUB") {
+        return Some(Verb::Pub);
+    }
+    if same(word, b"MPUB") {
+        return Some(Verb::Mpub);
+    }
+    if same(word, b"DPUB") {
+        return Some(Verb::Dpub);
+    }
+    if same(word, b"RDY") {
+        return Some(Verb::Rdy);
+    }
+    if same(word, b"FIN") {
+        return Some(Verb::Fin);
+    }
+    if same(word, b"REQ") {
+        return Some(Verb::Req);
+    }
+    if same(word, b"TOUCH") {
+        return Some(Verb::Touch);
+    }
+    if same(word, b"CLS") {
+        return Some(Verb::Cls);
+    }
+    if same(word, b"NOP") {
+        return Some(Verb::Nop);
+    }
+    None
 }
 
 /// What the words say, or None exactly where they say nothing.

@@ -1,7 +1,8 @@
-ghost use Rattle.std.specs.Prelude.{◌≡◌, ◌+◌, ◌<◌, ◌≤◌, length, min, IfOk, OnErr};
+ghost use Rattle.std.specs.Prelude.{◌≡◌, ◌+◌, ◌<◌, ◌≤◌, length, drop, min, IfOk, OnErr, MatchResult};
 ghost use Rattle.v2_frame.specs.Judging.{Behind, Judged};
 ghost use Rattle.v2_frame.specs.Script.{told_place};
 ghost use Rattle.v2_frame.specs.Line.{HasNo};
+ghost use Rattle.v2_frame.specs.Lined.{LineStarts, IsBadLine, BehindLine};
 ghost use Rattle.v2_frame.specs.declared.fault.Limits.{Limits};
 ghost use Rattle.v2_frame.specs.Parts.{verdict_of, sized_heading, EndsLine, HasSizedText, HasText, StaysWithin, TakesSome};
 
@@ -71,24 +72,47 @@ pub(crate) fn lined(
     ensures taken { IfOk result (λ found. TakesSome bytes.now found) }
     ensures memory { OnErr result (HasSizedText limits bytes.now) }
 {
-    let text = text_of(&bytes[..end]);
-    if text.len() > LONGEST_LINE {
-        return Ok(Found::Faulty(FaultKind::LineTooLong, 0));
-    }
-    let Some(heading) = heading_of(words_of(text)) else {
-        return Ok(Found::Faulty(FaultKind::BadWord, 0));
-    };
-    match start_of(heading) {
+    match line_start(&bytes[..end]) {
         Err(kind) => Ok(Found::Faulty(kind, 0)),
         Ok(Start::Alone(command)) => Ok(Found::Whole(command, end + 1)),
-        Ok(Start::Sized(start)) => {
-            let line = end + 1;
-            Ok(match behind(alloc, limits, start, &bytes[line..])? {
-                Found::Whole(command, taken) => Found::Whole(command, line + taken),
-                Found::Faulty(kind, at) => Found::Faulty(kind, line + at),
-                Found::Unfinished => Found::Unfinished,
-            })
-        }
+        Ok(Start::Sized(start)) => behind_line(alloc, limits, start, bytes, end),
+    }
+}
+
+/// What the line starts, or what is wrong with it.
+fn line_start(line: &[u8]) -> Result<Start, FaultKind>
+    ensures { MatchResult result (λ start. LineStarts line.now start) (λ kind. IsBadLine line.now kind) }
+{
+    let text = text_of(line);
+    if text.len() > LONGEST_LINE {
+        return Err(FaultKind::LineTooLong);
+    }
+    let Some(heading) = heading_of(words_of(text)) else {
+        return Err(FaultKind::BadWord);
+    };
+    start_of(heading)
+}
+
+/// What stands behind the line that ends at this place, of a command that has a size there. Places count from the
+/// command's first byte.
+fn behind_line(
+    alloc: Global,
+    limits: Limits,
+    start: Sized,
+    bytes: &[u8],
+    end: usize,
+) -> Result<Found, Memory>
+    requires { end < length bytes.now }
+    ensures verdict { IfOk result (λ found. BehindLine limits (sized_heading start) (drop (end + 1) bytes.now) (end + 1) (verdict_of bytes.now found)) }
+    ensures taken { IfOk result (λ found. TakesSome bytes.now found) }
+    ensures memory { OnErr result (HasText limits (sized_heading start) (drop (end + 1) bytes.now)) }
+{
+    let line = end + 1;
+    match behind(alloc, limits, start, &bytes[line..]) {
+        Err(_) => Err(Memory),
+        Ok(Found::Whole(command, taken)) => Ok(Found::Whole(command, line + taken)),
+        Ok(Found::Faulty(kind, at)) => Ok(Found::Faulty(kind, line + at)),
+        Ok(Found::Unfinished) => Ok(Found::Unfinished),
     }
 }
 

@@ -9,6 +9,7 @@
 
 mod append;
 mod batch;
+mod bytes;
 mod command;
 mod fault;
 mod frame;

@@ -10,7 +10,7 @@ const HEAD: usize = 26;
 
 /// A message (nsq.io, TCP Protocol Spec). On the wire and on disk it is the timestamp in 8 bytes, the attempts in 2, the id
 /// in 16, and the body; numbers have their most significant byte first. The delay isn't written.
-#[derive(Debug, Drop)]
+#[derive(Drop)]
 pub struct Message {
     /// The moment of its publishing, in nanoseconds.
     pub stamp: u64,
@@ -25,7 +25,7 @@ pub struct Message {
 }
 
 /// What bytes are as a message.
-#[derive(Debug, Drop)]
+#[derive(Drop)]
 pub enum Taken {
     /// The message that they are.
     Whole(Message),

@@ -12,10 +12,14 @@ pub(crate) fn number_of(word: &[u8]) -> Option<i64>
     ensures { MatchOption result ((z : ℤ) → IsNumber word.now z → ⊥) (λ z. IsNumber word.now z) }
 {
     if !word.is_empty() && word[0] == b'-' {
-        let size = decimal_of(&word[1..])?;
+        let Some(size) = decimal_of(&word[1..]) else {
+            return None;
+        };
         return Some(-(size as i64));
     }
-    let size = decimal_of(word)?;
+    let Some(size) = decimal_of(word) else {
+        return None;
+    };
     Some(size as i64)
 }
 

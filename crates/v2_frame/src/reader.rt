@@ -1,15 +1,17 @@
 ghost use Rattle.std.specs.Prelude.{◌≡◌, [], IsOkAnd};
 ghost use Rattle.v2_frame.specs.Judging.{IsFault};
+ghost use Rattle.v2_frame.specs.Parts.{EndsLine};
 ghost use Rattle.v2_frame.specs.Reading.{fresh, Gives, GivesNext, IsFed, IsLeft};
 ghost use Rattle.v2_frame.specs.declared.fault.Rest.TheVariants.{Faulty};
 ghost use Rattle.v2_frame.specs.declared.got.Got.TheVariants.{Fault};
 ghost use Rattle.v2_frame.specs.declared.got.Stage.TheVariants.{Opening, Commands};
 
+use crate::bytes::{drop_front, same};
 use crate::got::Stage;
 use crate::judge::{Found, MAGIC, TOO_LONG_LINE, lined, told_place};
 use crate::{Fault, FaultKind, Got, Limits};
 use nsq_base::Memory;
-use pending::{drop_front, first_line, needed_behind};
+use pending::{first_line, needed_behind};
 use std::alloc::Global;
 use std::marker::Model;
 
@@ -98,16 +100,16 @@ impl Reader {
         if pending.len() < MAGIC.len() {
             return Got::More;
         }
-        if &pending[..MAGIC.len()] != MAGIC {
-            let kind = FaultKind::BadMagic;
-            return self.fail(Fault { kind, at: 0 });
+        if same(&pending[..MAGIC.len()], MAGIC) {
+            self.stage = Stage::Commands;
+            self.place = MAGIC.len() as u64;
+            self.start += MAGIC.len();
+            self.scanned = 0;
+            self.needed = 0;
+            return self.command();
         }
-        self.stage = Stage::Commands;
-        self.place = MAGIC.len() as u64;
-        self.start += MAGIC.len();
-        self.scanned = 0;
-        self.needed = 0;
-        self.command()
+        let kind = FaultKind::BadMagic;
+        self.fail(Fault { kind, at: 0 })
     }
 
     /// Gives what is next behind the magic.
@@ -126,6 +128,16 @@ impl Reader {
             }
             return self.fail_at(FaultKind::LineTooLong, 0);
         };
+        self.at_line(end)
+    }
+
+    /// Gives the command whose line ends at this place, or what stands there.
+    fn at_line(&mut self, end: usize) -> Got
+        requires stage { self.old.stage ≡ Commands }
+        requires line { EndsLine self.old.pending end }
+        ensures { GivesNext self.old self.new result }
+    {
+        let pending = &self.bytes[self.start..];
         match lined(self.alloc, self.limits, pending, end) {
             Err(_) => Got::Memory,
             Ok(Found::Faulty(kind, at)) => self.fail_at(kind, at),

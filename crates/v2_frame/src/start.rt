@@ -1,4 +1,5 @@
 ghost use Rattle.std.specs.Prelude.{◌≡◌, MatchResult, Some};
+ghost use Rattle.v2_frame.specs.Heading.{Sub};
 ghost use Rattle.v2_frame.specs.Judging.{sizing_of};
 ghost use Rattle.v2_frame.specs.Parts.{seen_heading, sized_heading, IsStart, HasBadName};
 
@@ -33,36 +34,41 @@ pub(crate) enum Sized {
 pub(crate) fn start_of(heading: Heading<'_>) -> Result<Start, FaultKind>
     ensures { MatchResult result (λ start. IsStart (seen_heading heading.entry) start) (λ kind. HasBadName (seen_heading heading.entry) kind) }
 {
-    Ok(match heading {
-        Heading::Identify => Start::Sized(Sized::Identify),
-        Heading::Sub(topic, channel) => {
-            let Some(topic) = Topic::read(topic) else {
-                return Err(FaultKind::BadTopic);
-            };
-            let Some(channel) = Chan::read(channel) else {
-                return Err(FaultKind::BadChannel);
-            };
-            Start::Alone(Command::Sub(topic, channel))
-        }
+    match heading {
+        Heading::Identify => Ok(Start::Sized(Sized::Identify)),
+        Heading::Sub(topic, channel) => sub_of(topic, channel),
         Heading::Pub(topic) => match Topic::read(topic) {
-            Some(topic) => Start::Sized(Sized::Pub(topic)),
-            None => return Err(FaultKind::BadTopic),
+            Some(topic) => Ok(Start::Sized(Sized::Pub(topic))),
+            None => Err(FaultKind::BadTopic),
         },
         Heading::Mpub(topic) => match Topic::read(topic) {
-            Some(topic) => Start::Sized(Sized::Mpub(topic)),
-            None => return Err(FaultKind::BadTopic),
+            Some(topic) => Ok(Start::Sized(Sized::Mpub(topic))),
+            None => Err(FaultKind::BadTopic),
         },
         Heading::Dpub(topic, delay) => match Topic::read(topic) {
-            Some(topic) => Start::Sized(Sized::Dpub(topic, delay)),
-            None => return Err(FaultKind::BadTopic),
+            Some(topic) => Ok(Start::Sized(Sized::Dpub(topic, delay))),
+            None => Err(FaultKind::BadTopic),
         },
-        Heading::Rdy(count) => Start::Alone(Command::Rdy(count)),
-        Heading::Fin(id) => Start::Alone(Command::Fin(id)),
-        Heading::Req(id, delay) => Start::Alone(Command::Req(id, delay)),
-        Heading::Touch(id) => Start::Alone(Command::Touch(id)),
-        Heading::Cls => Start::Alone(Command::Cls),
-        Heading::Nop => Start::Alone(Command::Nop),
-    })
+        Heading::Rdy(count) => Ok(Start::Alone(Command::Rdy(count))),
+        Heading::Fin(id) => Ok(Start::Alone(Command::Fin(id))),
+        Heading::Req(id, delay) => Ok(Start::Alone(Command::Req(id, delay))),
+        Heading::Touch(id) => Ok(Start::Alone(Command::Touch(id))),
+        Heading::Cls => Ok(Start::Alone(Command::Cls)),
+        Heading::Nop => Ok(Start::Alone(Command::Nop)),
+    }
+}
+
+/// Judges the names of a `SUB`.
+fn sub_of(topic: &[u8], channel: &[u8]) -> Result<Start, FaultKind>
+    ensures { MatchResult result (λ start. IsStart (Sub topic.now channel.now) start) (λ kind. HasBadName (Sub topic.now channel.now) kind) }
+{
+    let Some(topic) = Topic::read(topic) else {
+        return Err(FaultKind::BadTopic);
+    };
+    let Some(channel) = Chan::read(channel) else {
+        return Err(FaultKind::BadChannel);
+    };
+    Ok(Start::Alone(Command::Sub(topic, channel)))
 }
 
 impl Sized {

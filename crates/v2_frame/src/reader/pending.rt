@@ -1,4 +1,4 @@
-ghost use Rattle.std.specs.Prelude.{◌≡◌, ◌<◌, ◌≤◌, ◌++◌, List, ℕ, length, take, drop, MatchOption};
+ghost use Rattle.std.specs.Prelude.{◌<◌, ◌≤◌, ◌++◌, List, ℕ, length, take, MatchOption};
 ghost use Rattle.v2_frame.specs.Judging.{IsUnfinished};
 ghost use Rattle.v2_frame.specs.Line.{HasNo};
 ghost use Rattle.v2_frame.specs.Parts.{EndsLine};
@@ -6,16 +6,6 @@ ghost use Rattle.v2_frame.specs.declared.fault.Limits.{Limits};
 
 use crate::size::size_of;
 use memchr::memchr;
-
-/// Drops so many bytes at the front, and moves the others there.
-pub(crate) fn drop_front(bytes: &mut Vec<u8>, count: usize)
-    requires { count ≤ length bytes.old.items }
-    ensures { bytes.new.items ≡ drop count bytes.old.items }
-{
-    let left = bytes.len() - count;
-    bytes.copy_within(count.., 0);
-    bytes.truncate(left);
-}
 
 /// The place of the first line feed, or None where there is none. So many bytes at the front are none.
 pub(crate) fn first_line(bytes: &[u8], scanned: usize) -> Option<usize>

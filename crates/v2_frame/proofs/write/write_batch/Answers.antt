@@ -1,19 +1,6 @@
-use Rattle.std.proofs.Common.{arith, ap, sym, ◌∙◌, ◌++◌, length, take, List, ℕ}
-use Rattle.std.specs.List.{flat_map}
-use Rattle.v2_frame.specs.Command.{sized}
-use Rattle.v2_frame.proofs.WritingLemmas.{batch_count, batch_fits, batch_next, batch_push, not_err}
+use Rattle.std.proofs.Common.{arith}
+use Rattle.v2_frame.proofs.WritingLemmas.{batch_count}
 use Rattle.v2_frame.proofs.write.write_batch.Goals as goal
 
 pub size_bytes-requires-2 : goal.size_bytes-requires-2
 size_bytes-requires-2 c = omega (arith, c.requires, c.count-count.ensures, batch_count c.args.bodies.now)
-
-pub size_bytes-requires-in-bodies : goal.size_bytes-requires-in-bodies
-size_bytes-requires-in-bodies c = omega (arith, c.requires, ap length c.bytes-body.ensures, batch_fits c.args.bodies.now c.bodies.i c.get.result.now c.get.ensures)
-
-pub bodies-preserved : goal.bodies-preserved
-bodies-preserved c =
-    let bodies = c.args.bodies.now in
-    let body = c.get.result.now in
-    let added = not_err c.append_all-in-bodies.result (sym c.is_err.ensures.value ∙ c.if-is_err.false) c.append_all-in-bodies.ensures.ok in
-    batch_push _ c.bodies.out.items c.append_all.new.out.items (flat_map sized (take c.bodies.i bodies)) c.size_bytes-in-bodies.result c.bytes-body.result.now body added c.bodies.invariant c.size_bytes-in-bodies.ensures c.bytes-body.ensures
-    ∙ ap (λ (x : List ℕ). c.append_all.new.out.items ++ x) (sym (batch_next bodies c.bodies.i body c.get.ensures))

@@ -2,7 +2,7 @@ use Rattle.std.proofs.Common.{◌≡◌, ◌+◌, ◌-◌, ◌≤◌, length, dr
 use Rattle.std.specs.List.{flat_map}
 use Rattle.v2_frame.specs.Command.{sized}
 use Rattle.v2_frame.specs.Judging.{HasBodies}
-use Rattle.v2_frame.proofs.batch.content_of.Given as goal
+use Rattle.v2_frame.proofs.batch.read_bodies.Given as goal
 
 -- good bodies stand behind the count, as far as the place
 abbrev pub invariant-messages : goal.invariant-messages

@@ -1,7 +1,7 @@
 use Rattle.std.proofs.Common.{◌≡◌, ◌++◌, take}
 use Rattle.std.specs.List.{flat_map}
 use Rattle.v2_frame.specs.Command.{sized}
-use Rattle.v2_frame.proofs.write.write_batch.Given as goal
+use Rattle.v2_frame.proofs.write.append_bodies.Given as goal
 
 -- the bodies so far stand behind what was there
 abbrev pub invariant-bodies : goal.invariant-bodies

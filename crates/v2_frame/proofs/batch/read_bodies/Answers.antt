@@ -3,8 +3,8 @@ use Rattle.std.specs.List.{flat_map}
 use Rattle.v2_frame.specs.Command.{sized}
 use Rattle.v2_frame.specs.Judging.{HasBodies, no_count, count_zero}
 use Rattle.v2_frame.proofs.PlaceLemmas.{behind_place}
-use Rattle.v2_frame.proofs.FieldLemmas.{message_open, message_bad, bytes_left, body_more, length_more}
-use Rattle.v2_frame.proofs.batch.content_of.Goals as goal
+use Rattle.v2_frame.proofs.FieldLemmas.{message_open, message_bad, bytes_left, content_whole, body_more, length_more}
+use Rattle.v2_frame.proofs.batch.read_bodies.Goals as goal
 
 pub returns-in_default : goal.returns-in_default
 returns-in_default c = no_count c.in_default.ensures
@@ -49,3 +49,12 @@ messages-preserved c =
       bodies = subst (λ (x : List (List ℕ)). HasBodies c.args.most (drop 4 content) x (drop (at + (4 + size)) content)) (sym pushed) (body_more c.args.most at size content _ body bodies i.bodies slice f text);
       some = omega (arith, ap length pushed, length-append bodies (body ∷ []), i.some);
     }
+
+pub returns : goal.returns
+returns c =
+    let i = c.messages.invariant in
+    let all : length c.messages.bodies ≡ c.in-Some.count = omega (arith, c.messages-test.false, i.some) in (
+      content_whole c.args.most c.in-Some.count c.messages.at c.args.content.now _ c.messages.bodies c.in-Some.ensures.0 c.in-Some.ensures.1 i.bodies i.behind all (omega (arith, c.if-at-content.false)),
+      omega (arith, all, c.if-count-eq0.false),
+      i.bodies.each,
+    )

@@ -136,6 +136,16 @@ passing_is_damage least limit bytes p size n b few is =
       unreadable = passing enough (size_in_front left size b) (omega (arith, most, few, is));
     }
 
+-- fewer bytes than the size says were read behind it
+pub few_damage : (q r : Seen) (files : Files) (into new : List ℕ) (size n : ℕ) → q ≡ r → IsSize r.options.least r.options.limit size → r.options.limit ≤ length into
+    → ReadsAt (files (data_file q.name q.positions.read_file)) (q.positions.read_at + 4) (take size into) new (Got n) → n < size
+    → BeginsWithSize (left_of r.positions (content files r.name r.positions.read_file)) size → IsDamage r.options.least r.options.limit (content files r.name) r.positions size
+few_damage q r files into new size n e taken room reads few b =
+    let here : ReadsAt (files (data_file r.name r.positions.read_file)) (r.positions.read_at + 4) (take size into) new (Got n)
+    = subst (λ (x : Seen). ReadsAt (files (data_file x.name x.positions.read_file)) (x.positions.read_at + 4) (take size into) new (Got n)) e reads in
+    let buffer : length (take size into) ≡ size = omega (arith, length-take size into, room, taken.1) in
+    passing_is_damage r.options.least r.options.limit (content files r.name) r.positions size n b few (omega (arith, here.0, buffer, few))
+
 -- the part ends behind a record that fits
 part_room : (p : Positions) (bytes : List ℕ) (n : ℕ) → IsOrdered (behind p n) → p.read_at + (4 + n) ≤ length bytes → p.read_at + (4 + n) ≤ part_end p p.read_file (length bytes)
 part_room p bytes n order fits =

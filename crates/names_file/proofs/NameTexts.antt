@@ -1,9 +1,9 @@
 -- Names need no escape in JSON, and the parts of the file of names make its text.
-use Rattle.std.proofs.Common.{◌≡◌, ℕ, suc, ◌-◌, ◌<◌, ◌≤◌, ◌+◌, Bool, true, false, nat_lt, cond, ◌||◌, decimal, Result, Ok, Err, OnOk, List, [], ◌∷◌, ◌++◌, length, take, drop, get_or, map, codes, refl, sym, ap, ap₂, ◌∙◌, subst, arith, append_assoc, append-nil, take-append-drop}
+use Rattle.std.proofs.Common.{◌≡◌, ℕ, suc, ◌-◌, ◌<◌, ◌≤◌, ◌+◌, Bool, true, false, nat_lt, cond, ◌||◌, decimal, Result, Ok, Err, OnOk, OnErr, List, [], ◌∷◌, ◌++◌, length, take, drop, get_or, map, codes, refl, sym, ap, ap₂, ◌∙◌, subst, arith, append_assoc, append-nil, take-append-drop}
 use Rattle.std.specs.List.{AllPass, AllByRecursion}
 use Rattle.std.specs.Result.{is_err}
 use Rattle.std.proofs.lemmas.Bool.Decides.{nat_tests}
-use Rattle.std.proofs.lemmas.List.{take_more, length-take-le}
+use Rattle.std.proofs.lemmas.List.{take_more, length-take-le, take_all, take_at}
 use Rattle.std.proofs.lemmas.List.Elements.{recursion_from_All}
 use Rattle.std.proofs.lemmas.Slice.Eq.{bytes_eq-Decides}
 use Rattle.json.specs.Token.{Token}
@@ -148,3 +148,22 @@ names_whole epoch topics old head mid new digits h m n is =
     (append_assoc first list last
     ∙ ap (λ (x : List ℕ). (codes "{\"id_epoch\":" ++ x) ++ (list ++ last)) (append-nil digits ∙ is)
     ∙ names_parts epoch topics)
+
+-- what was, where there was an error
+pub refused : {T E P : Type 0} (r : Result T E) → is_err r ≡ true → OnErr r P → P
+refused (Ok x) e p = cc
+refused (Err x) e p = p
+
+-- what was appended is cut off
+pub cut_back : (old now more : List ℕ) (n : ℕ) → length old ≡ n → now ≡ old ++ more → take n now ≡ old
+cut_back old now more n len is = ap (take n) is ∙ take_at old more n len
+
+-- a list behind what was there
+pub list_whole : {X : Type 0} (text : X → List ℕ) (xs : List X) (i : ℕ) (old mid now new start : List ℕ) → length xs ≤ i → mid ≡ old ++ (start ++ 91 ∷ []) → now ≡ mid ++ items_text text false (take i xs) → new ≡ now ++ 93 ∷ []
+    → new ≡ old ++ (start ++ list_text text xs)
+list_whole text xs i old mid now new start all m a n =
+    let front = start ++ 91 ∷ [] in
+    let items = items_text text false (take i xs) in
+    n ∙ ap (λ (x : List ℕ). x ++ 93 ∷ []) (then_more old mid now front items a m) ∙ append_assoc old (front ++ items) (93 ∷ [])
+    ∙ ap (λ (x : List ℕ). old ++ x) (append_assoc front items (93 ∷ []) ∙ append_assoc start (91 ∷ []) (items ++ 93 ∷ []))
+    ∙ ap (λ ys. old ++ (start ++ list_text text ys)) (take_all i xs all)

@@ -20,3 +20,7 @@ pub returns-clause-next : goal.returns-clause-next
 returns-clause-next g c = λ told.
     roll_next c.args.self.now c.args.number (g.F.Folder.files c.args.folder.now) (g.F.Folder.files c.cut.new.folder) (g.F.Folder.files c.sync.new.self) (g.F.Folder.files c.cut-2.new.folder) c.cut-2.result (omega (arith, c.requires)) (c.in-Done.ensures.others told) (c.in-Done-sync.ensures.same told)
     (rw c.cut.ensures.name at (c.cut-2.ensures.bytes told))
+
+pub returns-clause-others : goal.returns-clause-others
+returns-clause-others g c = λ told other first second.
+    (rw c.cut.ensures.name at (c.cut-2.ensures.others told)) other second ∙ c.in-Done-sync.ensures.same told other ∙ c.in-Done.ensures.others told other first

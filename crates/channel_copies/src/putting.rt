@@ -8,7 +8,7 @@ use nsq_outside::Folder;
 use v2_frame::Message;
 
 /// How a copy's moving back into a backlog ends.
-#[derive(Clone, Copy, Debug, PartialEq, Eq)]
+#[derive(Clone, Copy)]
 pub enum Back {
     /// It isn't where it was any more: the backlog has its message, or dropped it.
     Done,

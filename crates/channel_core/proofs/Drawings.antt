@@ -1,17 +1,22 @@
 -- What was drawn, as it is settled or put back.
-use Rattle.std.proofs.Common.{◌≡◌, ℕ, ◌<◌, true, List, [], ◌++◌, length, Some, IsSome, refl, sym, ap, ◌∙◌, subst}
+use Rattle.std.proofs.Common.{◌≡◌, ℕ, ◌<◌, true, List, [], ◌++◌, length, Some, IsSome, Ok, Err, refl, sym, ap, ◌∙◌, subst}
 use Rattle.v2_frame.specs.declared.message.Message.{Message}
-use Rattle.backlog.specs.Seen.{Seen as Backlog, FindsNone, no_queue, no_record}
-use Rattle.backlog.specs.Lists.{IsFirstMessage, list_with}
+use Rattle.backlog.specs.Answers.{DrawFails as BacklogFails}
+use Rattle.backlog.specs.Seen.{Seen as Backlog, DrawLends, DrawSeen, FindsNone, no_queue, no_record}
+use Rattle.backlog.specs.Lists.{DrawGives, IsFirstMessage, list_with}
+use Rattle.backlog.specs.declared.answers.Drawn.{Drawn as FromBacklog}
+use Rattle.backlog.specs.declared.answers.Drawn.TheVariants as drawing
+use Rattle.backlog.specs.declared.backlog.Lent.{Lent}
+use Rattle.backlog.specs.declared.backlog.Lent.TheVariants as lending
 use Rattle.broker_history.specs.State.{Channel, queued, raised}
 use Rattle.broker_history.specs.Channels.{has_credit, is_free}
 use Rattle.channel_copies.specs.Flights.{flights_of_id}
 use Rattle.channel_core.specs.declared.answers.Next.{Next}
 use Rattle.channel_core.specs.declared.answers.Next.TheVariants as next
 use Rattle.channel_core.specs.declared.drawn.Drawn.{Drawn}
-use Rattle.channel_core.specs.declared.drawn.Drawn.TheVariants.{ToSend, ToHold}
+use Rattle.channel_core.specs.declared.drawn.Drawn.TheVariants.{Nothing, ToSend, ToHold}
 use Rattle.channel_core.specs.Drawn.{attempts_of, held_of}
-use Rattle.channel_core.specs.Drawing.{Draws, DrawsToHold, DrawsToSend, Drew, IsDrawnFor, IsFirstDrawn, IsHeld, IsOfDrawing, NextWhere, first_drawn}
+use Rattle.channel_core.specs.Drawing.{DrawFails, Draws, DrawsToHold, DrawsToSend, Drew, IsDrawnFor, IsFirstDrawn, IsHeld, IsOfDrawing, NextLeaves, NextWhere, first_drawn, message_of}
 use Rattle.channel_core.specs.Seen.{Seen, drawn_in, queued_in, channel_with}
 use Rattle.channel_core.proofs.Copies.{queued_is}
 use Rattle.channel_core.proofs.Looking.{is_free_now, isn't_free}
@@ -80,6 +85,52 @@ waits_same disk ring is same = ap (λ (ms : List Message). ms ++ disk) same ∙ 
 
 pub drew_none : (disk ring : List Message) {v0 v : Seen} → v0 ≡ v → queued_in v0 disk ≡ [] → ring ≡ v0.backlog.ring → (queued (channel_with v (queued_in v disk)).copies ≡ 0) × (ring ++ disk ≡ queued_in v disk)
 drew_none disk ring {v0} {v} is empty same = (none_queued v disk (ap (λ (u : Seen). queued_in u disk) (sym is) ∙ empty), waits_same disk ring is same)
+
+-- the message of what a backlog drew
+pub got_is : (d : FromBacklog) (message : Message) → Ok message ≡ message_of d → d ≡ drawing.Got message
+got_is (drawing.Got m) message is = let same : m ≡ message = cc in ap drawing.Got same
+got_is drawing.Empty message is = absurd (let no : ⊥ = cc in no)
+got_is drawing.Fault message is = absurd (let no : ⊥ = cc in no)
+got_is drawing.Damaged message is = absurd (let no : ⊥ = cc in no)
+got_is drawing.Memory message is = absurd (let no : ⊥ = cc in no)
+
+-- where it drew none: it has lent nothing
+pub none_lent : (d : FromBacklog) (answer : Next) (lent : Lent) → Err answer ≡ message_of d → DrawLends lent d → lent ≡ lending.Nothing
+none_lent (drawing.Got m) answer lent is lends = absurd (let no : ⊥ = cc in no)
+none_lent drawing.Empty answer lent is lends = lends
+none_lent drawing.Fault answer lent is lends = lends
+none_lent drawing.Damaged answer lent is lends = lends
+none_lent drawing.Memory answer lent is lends = lends
+
+-- what the answer says, and what it leaves
+pub none_drawing : (d : FromBacklog) (answer : Next) → Err answer ≡ message_of d → IsOfDrawing answer
+none_drawing (drawing.Got m) answer is = absurd (let no : ⊥ = cc in no)
+none_drawing drawing.Empty answer is = let same : next.NoneQueued ≡ answer = cc in subst IsOfDrawing same tt
+none_drawing drawing.Fault answer is = let same : next.Fault ≡ answer = cc in subst IsOfDrawing same tt
+none_drawing drawing.Damaged answer is = let same : next.Damaged ≡ answer = cc in subst IsOfDrawing same tt
+none_drawing drawing.Memory answer is = let same : next.Memory ≡ answer = cc in subst IsOfDrawing same tt
+
+pub none_leaves : (client now : ℕ) (d : FromBacklog) (answer : Next) (was : Drawn) → Err answer ≡ message_of d → was ≡ Nothing → NextLeaves client now was answer
+none_leaves client now (drawing.Got m) answer was is nothing = absurd (let no : ⊥ = cc in no)
+none_leaves client now drawing.Empty answer was is nothing = let same : next.NoneQueued ≡ answer = cc in subst (NextLeaves client now was) same nothing
+none_leaves client now drawing.Fault answer was is nothing = let same : next.Fault ≡ answer = cc in subst (NextLeaves client now was) same nothing
+none_leaves client now drawing.Damaged answer was is nothing = let same : next.Damaged ≡ answer = cc in subst (NextLeaves client now was) same nothing
+none_leaves client now drawing.Memory answer was is nothing = let same : next.Memory ≡ answer = cc in subst (NextLeaves client now was) same nothing
+
+pub none_fails : (before now : ℕ) (d : FromBacklog) (answer : Next) → Err answer ≡ message_of d → BacklogFails before now d → DrawFails before now answer
+none_fails before now (drawing.Got m) answer is fails = absurd (let no : ⊥ = cc in no)
+none_fails before now drawing.Empty answer is fails = let same : next.NoneQueued ≡ answer = cc in subst (DrawFails before now) same fails
+none_fails before now drawing.Fault answer is fails = let same : next.Fault ≡ answer = cc in subst (DrawFails before now) same fails
+none_fails before now drawing.Damaged answer is fails = let same : next.Damaged ≡ answer = cc in subst (DrawFails before now) same fails
+none_fails before now drawing.Memory answer is fails = let same : next.Memory ≡ answer = cc in subst (DrawFails before now) same fails
+
+-- what waits stays
+pub none_gives : (disk : List Message) (d : FromBacklog) (answer : Next) (w : Seen) {v0 v : Seen} → v0 ≡ v → Err answer ≡ message_of d → DrawGives v0.backlog w.backlog disk d → DrawSeen v0.backlog w.backlog d → Drew v w disk answer
+none_gives disk (drawing.Got m) answer w {v0} {v} at is gives seen = absurd (let no : ⊥ = cc in no)
+none_gives disk drawing.Empty answer w {v0} {v} at is gives seen = let same : next.NoneQueued ≡ answer = cc in subst (Drew v w disk) same (drew_none disk w.backlog.ring at gives (none_ring v0.backlog w.backlog seen))
+none_gives disk drawing.Fault answer w {v0} {v} at is gives seen = let same : next.Fault ≡ answer = cc in subst (Drew v w disk) same (waits_same disk w.backlog.ring at (ap (λ (b : Backlog). b.ring) seen.is))
+none_gives disk drawing.Damaged answer w {v0} {v} at is gives seen = absurd gives
+none_gives disk drawing.Memory answer w {v0} {v} at is gives seen = let same : next.Memory ≡ answer = cc in subst (Drew v w disk) same (waits_same disk w.backlog.ring at (ap (λ (b : Backlog). b.ring) seen.peeks.is))
 
 -- what a drawing gave, after room was made for it, is given of the channel as it was before
 pub draws_all : (v0 v w : Seen) (disk : List Message) (answer : Next) → v0 ≡ record v { spare = v0.spare; deferred_spare = v0.deferred_spare } → 0 < queued (channel_with v (queued_in v disk)).copies → IsOfDrawing answer → Drew v0 w disk answer → Draws v w disk answer

@@ -1,5 +1,5 @@
 -- What every channel keeps, through a call.
-use Rattle.std.proofs.Common.{◌≡◌, ◌≢◌, ℕ, ◌+◌, ◌*◌, ◌≤◌, Bool, true, false, not, List, length, Option, Some, None, refl, sym, ◌∙◌, subst, arith}
+use Rattle.std.proofs.Common.{◌≡◌, ◌≢◌, ℕ, ◌+◌, ◌*◌, ◌≤◌, Bool, true, false, not, List, length, Option, Some, None, refl, sym, ap, ◌∙◌, subst, arith}
 use Rattle.std.specs.Prelude.{is_some, IsSome, IfSome}
 use Rattle.nsq_outside.specs.Files.{Files}
 use Rattle.v2_frame.specs.declared.message.Message.{Message}
@@ -122,3 +122,7 @@ costs_first before now {v0} {v} is a = subst (λ (u : Seen). CostsHeaps (length 
 -- what a call leaves alone of the backlog, by what is seen whole
 pub keeps_of : {tells : Bool} (files : Files) (faults : ℕ) (b : Around) {v0 v : Seen} → v0 ≡ v → KeepsDisk tells (around v0.backlog files faults) b → KeepsDisk tells (around v.backlog files faults) b
 keeps_of {tells} files faults b is k = subst (λ (u : Seen). KeepsDisk tells (around u.backlog files faults) b) is k
+
+-- what changed, where of the backlog only the queue did
+pub queue_rest : (v0 v w : Seen) → v0 ≡ v → w.backlog ≡ record v0.backlog { queue = w.backlog.queue } → w ≡ record v0 { backlog = w.backlog } → w ≡ record v { backlog = record v.backlog { queue = w.backlog.queue } }
+queue_rest v0 v w is queue rest = rest ∙ (ap (λ (b : Backlog). record v0 { backlog = b }) queue ∙ ap (λ (u : Seen). record u { backlog = record u.backlog { queue = w.backlog.queue } }) is)

@@ -1,4 +1,5 @@
 pub mod Copies
+pub mod Deleting
 pub mod Drawings
 pub mod Dues
 pub mod Joining

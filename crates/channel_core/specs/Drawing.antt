@@ -1,10 +1,12 @@
 -- What is drawn for a client.
-use Rattle.std.specs.Prelude.{◌≡◌, ℕ, ◌+◌, ◌≤◌, ◌<◌, min, true, false, List, option_map, unwrap_or}
+use Rattle.std.specs.Prelude.{◌≡◌, ℕ, ◌+◌, ◌≤◌, ◌<◌, min, true, false, List, Result, Ok, Err, option_map, unwrap_or}
 use Rattle.nsq_outside.specs.Files.{Files}
 use Rattle.nsq_outside.specs.Causes.{Rose}
 use Rattle.v2_frame.specs.declared.message.Message.{Message}
 use Rattle.backlog.specs.Seen.{FitsLimit}
 use Rattle.backlog.specs.Lists.{OnDisk, IsFirstMessage}
+use Rattle.backlog.specs.declared.answers.Drawn.{Drawn as FromBacklog}
+use Rattle.backlog.specs.declared.answers.Drawn.TheVariants as drawing
 use Rattle.broker_history.specs.State.{Channel, raised, queued, flying}
 use Rattle.broker_history.specs.Channels.{AsOften, has_credit, is_free}
 use Rattle.channel_copies.specs.Clients.{client_of}
@@ -122,3 +124,11 @@ Draws old new disk next.Memory = (0 < queued (seen_channel old disk).copies) × 
 abbrev pub DrawFails : (before now : ℕ) → Next → Type 0
 DrawFails before now next.Fault = Rose before now
 DrawFails before now answer = Unit {0}
+
+-- the message that a backlog drew, or the answer where it drew none
+abbrev pub message_of : FromBacklog → Result Message Next
+message_of (drawing.Got message) = Ok message
+message_of drawing.Empty = Err next.NoneQueued
+message_of drawing.Fault = Err next.Fault
+message_of drawing.Damaged = Err next.Damaged
+message_of drawing.Memory = Err next.Memory

@@ -55,7 +55,7 @@ pub enum Requeue {
 }
 
 /// The answer of `Channel::move_due`.
-#[derive(Clone, Copy, PartialEq, Eq)]
+#[derive(Clone, Copy)]
 pub enum Moved {
     /// A copy of this id was in flight and due, and is put back.
     TimedOut(MsgId),

@@ -1,9 +1,9 @@
 -- What an exchange of two nodes keeps of the layout.
-use Rattle.std.proofs.Common.{◌≡◌, ◌≢◌, ℕ, ◌<◌, List, length, length-set, slice_set, sym, ap, ◌∙◌, arith}
+use Rattle.std.proofs.Common.{◌≡◌, ◌≢◌, ℕ, ◌+◌, ◌<◌, ◌≤◌, List, length, length-set, slice_set, refl, sym, ap, ◌∙◌, arith}
 use Rattle.std.proofs.lemmas.List.{get_or-set_same, get_or-set_other}
 use Rattle.due_heap.specs.declared.node.Node.{Node}
-use Rattle.due_heap.specs.Layout.{no_node, node_at, place_of, node_of, Matched}
-use Rattle.due_heap.proofs.Rising.{which}
+use Rattle.due_heap.specs.Layout.{no_node, node_at, place_of, node_of, Detached, Exchanged, IsHeap, IsHeapBut, Matched, Moved}
+use Rattle.due_heap.proofs.Rising.{by, not_after_trans, which}
 
 abbrev pub nodes_set : List Node → ℕ → ℕ → List Node
 nodes_set order i j = slice_set (slice_set order i (node_at order j)) j (node_at order i)
@@ -97,3 +97,71 @@ module _ (order : List Node) (places : List ℕ) (i j : ℕ) (m : Matched order 
     place_in = λ s h. let z = new_place_in s (omega (arith, nodes_long)) in omega (arith, nodes_long);
     there = λ s h. new_there s (omega (arith, nodes_long));
   }
+
+  pub exchanged_set : Exchanged order (nodes_set order i j) i j
+  exchanged_set = record { same_length = nodes_long; at_i = node_i; at_j = node_j; others = node_other }
+
+  nodes_stay : (s : ℕ) → s < length order → node_of (nodes_set order i j) (places_set order places i j) s ≡ node_of order places s
+  nodes_stay s h = which s (node_at order i).slot
+      (λ e. same_node (place_of (places_set order places i j) s) j (ap (place_of (places_set order places i j)) e ∙ place_i) ∙ node_j ∙ sym (ap (node_at order) (ap (place_of places) e ∙ m.back i i_in)))
+      (λ u. which s (node_at order j).slot
+      (λ e. same_node (place_of (places_set order places i j) s) i (ap (place_of (places_set order places i j)) e ∙ place_j) ∙ node_i ∙ sym (ap (node_at order) (ap (place_of places) e ∙ m.back j j_in)))
+      (λ v. same_node (place_of (places_set order places i j) s) (place_of places s) (place_other s u v) ∙ node_other (place_of places s) (not_place s i h u) (not_place s j h v)))
+
+  stays_inside : (n s : ℕ) → i < n → j < n → place_of places s < n → place_of (places_set order places i j) s < n
+  stays_inside n s i_below j_below below = which s (node_at order i).slot
+      (λ e. let z = ap (place_of (places_set order places i j)) e ∙ place_i in omega arith)
+      (λ u. which s (node_at order j).slot
+      (λ e. let z = ap (place_of (places_set order places i j)) e ∙ place_j in omega arith)
+      (λ v. let z = place_other s u v in omega arith))
+
+  stays_outside : (n s : ℕ) → i < n → j < n → n ≤ place_of places s → place_of (places_set order places i j) s ≡ place_of places s
+  stays_outside n s i_below j_below above = which s (node_at order i).slot
+      (λ e. absurd (let z = ap (place_of places) e ∙ m.back i i_in in omega arith))
+      (λ u. which s (node_at order j).slot
+      (λ e. absurd (let z = ap (place_of places) e ∙ m.back j j_in in omega arith))
+      (λ v. place_other s u v))
+
+  pub moved_set : (n : ℕ) → i < n → j < n → Moved n order places (nodes_set order i j) (places_set order places i j)
+  moved_set n i_below j_below = record {
+    same_length = nodes_long;
+    nodes = nodes_stay;
+    inside = λ s h below. stays_inside n s i_below j_below below;
+    outside = λ s h above. stays_outside n s i_below j_below above;
+  }
+
+-- the last node of a heap taken out
+pub detached_last : {order : List Node} {places : List ℕ} {last place : ℕ} → Matched order places → place ≡ last → last < length order → Detached last (node_at order place).slot order places order places
+detached_last {order} {places} {last} {place} m is in_range = record {
+  same_length = refl;
+  place = let z = m.back place (omega arith) in omega arith;
+  nodes = λ s h. refl;
+  inside = λ s h u below. which (place_of places s) place (λ e. absurd (u (sym (m.there s h) ∙ ap (λ (k : ℕ). (node_at order k).slot) e))) (λ v. omega arith);
+  outside = λ s h above. refl;
+}
+
+-- a heap whose last node came to a place of another one: without it it would be a heap
+pub but_place : {order order' : List Node} {last place : ℕ} → Exchanged order order' place last → place < last → IsHeap order (last + 1) → IsHeapBut order' last place
+but_place {order} {order'} {last} {place} s below heap = record {
+  others = λ p k a b f u v. by (s.others p u (omega arith)) (s.others k v (omega arith)) (heap p k a b (omega arith));
+  across = λ p k from to a b f. by (s.others p (omega arith) (omega arith)) (s.others k (omega arith) (omega arith)) (not_after_trans (heap p place from to (omega arith)) (heap place k a b (omega arith)));
+}
+
+-- a node taken out: the last one came to its place, and then moved to where it belongs
+pub detached_moved : {order mid new : List Node} {places mid_places new_places : List ℕ} {last place : ℕ} → Matched order places → Matched mid mid_places → place < length order → last < length order → Exchanged order mid place last → Moved (last + 1) order places mid mid_places → Moved last mid mid_places new new_places
+    → Detached last (node_at order place).slot order places new new_places
+detached_moved {order} {mid} {new} {places} {mid_places} {new_places} {last} {place} m n in_range last_in s first second =
+    let slot = (node_at order place).slot in
+    let long = s.same_length in
+    let there : place_of mid_places slot ≡ last = ap (λ (x : Node). place_of mid_places x.slot) (sym s.at_j) ∙ n.back last (omega (arith, long)) in
+    let slot_in = m.slot_in place in_range in
+    record {
+      same_length = second.same_length ∙ first.same_length;
+      place = let z = second.outside slot (omega (arith, long, slot_in)) (omega (arith, there)) in omega (arith, z, there);
+      nodes = λ s h. second.nodes s (omega (arith, long, h)) ∙ first.nodes s h;
+      inside = λ k h u below.
+          let z = first.inside k h below in
+          let w : place_of mid_places k ≢ last = (λ e. u (sym (n.there k (omega (arith, long, h))) ∙ ap (λ (j : ℕ). (node_at mid j).slot) e ∙ ap (λ (x : Node). x.slot) s.at_j)) in
+          second.inside k (omega (arith, long, h)) (omega (arith, z, w));
+      outside = λ k h above. let z = first.outside k h above in second.outside k (omega (arith, long, h)) (omega (arith, z, above)) ∙ z;
+    }

@@ -8,16 +8,18 @@ use Rattle.v2_frame.specs.Written.{message_bytes}
 use Rattle.nsq_outside.specs.Files.{Files}
 use Rattle.v2_frame.specs.declared.message.Message.{Message}
 use Rattle.backlog.specs.Queues.{Seen as Queue}
-use Rattle.backlog.specs.Seen.{Seen as Backlog, with_lent, undone, ring_depth, disk_depth, lent_of_ring}
-use Rattle.backlog.specs.Lists.{OnDisk, IsFirstMessage, SettlesFirst, list_with, disk_settled}
+use Rattle.backlog.specs.Emptied.{Emptied}
+use Rattle.backlog.specs.Emptied.TheVariants as emptying
+use Rattle.backlog.specs.Seen.{Seen as Backlog, EmptySeen, with_lent, undone, ring_depth, disk_depth, lent_of_ring}
+use Rattle.backlog.specs.Lists.{OnDisk, IsFirstMessage, SettlesFirst, list_with, disk_emptied, disk_settled}
 use Rattle.backlog.specs.declared.backlog.Lent.{Lent}
 use Rattle.backlog.specs.declared.backlog.Lent.TheVariants.{Nothing, OfRing, OfDisk}
 use Rattle.broker_history.specs.State.{Taken, Topic, Channel, is_empty}
 use Rattle.broker_history.specs.Topics.{HasWaiting, without_name, still_owed, owed_no_more}
 use Rattle.broker_history.proofs.Counting.{kept_taken}
 use Rattle.topic_core.specs.Seen.{Seen, IsSettled, IsDrawn, with_owed}
-use Rattle.topic_core.specs.Rows.{IsTopicOf, Becomes, Stays, TakesHead, Took, MayTake, waiting_with, taken_where}
-use Rattle.topic_core.proofs.Waiting.{from_settled, to_settled, as_many, none_waits}
+use Rattle.topic_core.specs.Rows.{IsTopicOf, Becomes, Stays, TakesHead, Took, MayTake, emptied_where, waiting_with, taken_where}
+use Rattle.topic_core.proofs.Waiting.{from_settled, to_settled, as_many, none_waiting, none_waits}
 
 -- nothing is taken while a message is drawn, nor where there is no head
 pub drawn_taken : (lent : Lent) (head : Option Taken) → lent ≢ Nothing → taken_where lent head ≡ None
@@ -44,6 +46,23 @@ same_topic old new before after settled now only ring list t is =
       on_disk = list there.disk there.on_disk;
       waiting = subst (λ xs. HasWaiting (xs ++ there.disk) t.waiting) (sym ring) there.waiting;
     })
+
+-- none waits any more, or all wait still
+pub emptied_topic : (old new : Seen) (before after : Files) (answer : Emptied) → IsSettled old → IsSettled new → new ≡ record old { backlog = new.backlog } → EmptySeen old.backlog new.backlog answer
+    → ((disk : List Message) → OnDisk old.backlog.queue before disk → OnDisk new.backlog.queue after (disk_emptied disk answer)) → Becomes old before new after (emptied_where answer)
+emptied_topic old new before after emptying.Done settled now only seen list t is =
+    let there = from_settled old before t settled is in
+    to_settled new after (record t { waiting = [] }) now (record {
+      name = there.name ∙ sym (ap (λ (q : Seen). q.name) only);
+      paused = there.paused ∙ sym (ap (λ (q : Seen). q.paused) only);
+      message_count = there.message_count ∙ sym (ap (λ (q : Seen). q.message_count) only);
+      taken = there.taken ∙ sym (ap (λ (q : Seen). q.head) only);
+      disk = [];
+      on_disk = list there.disk there.on_disk;
+      waiting = subst (λ xs. HasWaiting (xs ++ []) []) (sym (ap (λ (b : Backlog). b.ring) seen.0)) none_waiting;
+    })
+emptied_topic old new before after emptying.Fault settled now only seen list t is =
+    same_topic old new before after settled now only (ap (λ (b : Backlog). b.ring) seen.0) list t is
 
 -- a head was drawn: it is the same topic still
 pub drawn_topic : (old new : Seen) (before after : Files) (m : Message) (owed : List (List ℕ)) → old.head ≡ None → IsDrawn new → new ≡ record old { backlog = new.backlog; head = Some (record { message = m; owed = owed }) }

@@ -1,6 +1,6 @@
 -- What is said of a topic's queue stays where its own files do.
-use Rattle.std.proofs.Common.{ℕ, ◌≡◌, ◌≢◌, Bool, true, false, List, [], map, Option, Some, None, sym, subst}
-use Rattle.std.specs.Prelude.{IfSome, MatchBool}
+use Rattle.std.proofs.Common.{ℕ, ◌≡◌, ◌≢◌, Bool, true, false, List, [], map, Option, Some, None, refl, sym, ◌∙◌, subst}
+use Rattle.std.specs.Prelude.{IfSome, MatchBool, is_some}
 use Rattle.nsq_base.specs.Name.{is_ephemeral}
 use Rattle.nsq_outside.specs.Files.{Files}
 use Rattle.queue_image.specs.Finds.{Records}
@@ -11,12 +11,14 @@ use Rattle.v2_frame.specs.declared.message.Message.{Message}
 use Rattle.v2_frame.specs.Written.{message_bytes}
 use Rattle.path_image.specs.Found.{HasMessages}
 use Rattle.backlog.specs.Queues.{Seen as Queue}
+use Rattle.backlog.specs.Seen.{Seen as Backlog, SameQueue}
+use Rattle.backlog.specs.declared.backlog.Lent.TheVariants.{Nothing}
 use Rattle.backlog.specs.Opened.{FilesOfChange}
 use Rattle.backlog.proofs.Others.{holding_keeps, standing_keeps}
 use Rattle.backlog.specs.Lists.{OnDisk, Stands, DiskChanges}
 use Rattle.broker_history.specs.State.{Topic}
 use Rattle.topic_core.specs.Seen.{Seen}
-use Rattle.topic_core.specs.Kept.{IsNamed}
+use Rattle.topic_core.specs.Kept.{IsNamed, IsSound}
 use Rattle.topic_core.specs.Rows.{IsTopicOf, FindsMessages, FindsLeft}
 use Rattle.topic_core.specs.Laws.{OwnFilesStay, DiskStays}
 
@@ -77,3 +79,23 @@ opening_stays name other old new apart change = λ file its. change file (λ of.
 pub change_stays : (name : List ℕ) (queue : Option Queue) (old new : Files) → IfSome queue (λ q. q.name ≢ name) → DiskChanges queue old new → OwnFilesStay name old new
 change_stays name None old new apart change = λ file its. change file
 change_stays name (Some q) old new apart change = λ file its. change file (λ of. apart (one_queue q.name name file (own of) (own its)))
+
+-- the backlog is the topic's still where its queue has the same name and nothing is drawn
+same_some : (q r : Option Queue) → SameQueue q r → is_some r ≡ is_some q
+same_some None None same = refl
+same_some None (Some r) same = absurd same
+same_some (Some q) None same = absurd same
+same_some (Some q) (Some r) same = refl
+
+same_name : (q r : Option Queue) (name : List ℕ) → SameQueue q r → IfSome q (λ q. q.name ≡ name) → IfSome r (λ r. r.name ≡ name)
+same_name None None name same h = h
+same_name None (Some r) name same h = absurd same
+same_name (Some q) None name same h = absurd same
+same_name (Some q) (Some r) name same h = same.name ∙ h
+
+pub still_sound : {name : List ℕ} {b : Backlog} {head : Option Message} {owed : List (List ℕ)} (b' : Backlog) → IsSound name b head owed → SameQueue b.queue b'.queue → b'.lent ≡ Nothing → IsSound name b' head owed
+still_sound {name} {b} b' s same nothing = record {
+  named = record { durable = same_some b.queue b'.queue same ∙ s.named.durable; queue = same_name b.queue b'.queue name same s.named.queue };
+  owes = s.owes;
+  drawn = λ lent. absurd (lent nothing);
+}

@@ -3,3 +3,4 @@ pub mod Putting
 pub mod Heads
 pub mod Saving
 pub mod Keeping
+pub mod Flushing

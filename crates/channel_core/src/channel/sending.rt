@@ -10,7 +10,7 @@ ghost use Rattle.channel_copies.specs.Putting.{KeepsDisk, around};
 ghost use Rattle.channel_core.specs.declared.drawn.Drawn.TheVariants as drawn;
 ghost use Rattle.channel_core.specs.Costs.{CostsDeferred, CostsFlying};
 ghost use Rattle.channel_core.specs.Seen.{HasRoom, channel_with, drawn_in, queued_in, seen_channel};
-ghost use Rattle.channel_core.specs.Drawing.{Draws, DrawFails, Drew, IsDrawnFor, IsFirstDrawn, IsHeld, IsOfDrawing, Leads, NextLeaves, NextWhere, first_drawn, ready_of, timeout_of};
+ghost use Rattle.channel_core.specs.Drawing.{Draws, DrawFails, Drew, IsDrawnFor, IsFirstDrawn, IsHeld, IsOfDrawing, Leads, NextLeaves, NextWhere, first_drawn, message_of, ready_of, timeout_of};
 
 use super::Channel;
 use crate::{Drawn, Next, Sending};
@@ -165,12 +165,9 @@ impl Channel {
         ensures disk { KeepsDisk F.tells_files (around self.old.backlog (F.files folder.old) (F.folder_faults folder.old)) (around self.new.backlog (F.files folder.new) (F.folder_faults folder.new)) }
         ensures fault { DrawFails (F.folder_faults folder.old) (F.folder_faults folder.new) result }
     {
-        let message = match self.backlog.draw(folder, scratch) {
-            FromBacklog::Got(message) => message,
-            FromBacklog::Empty => return Next::NoneQueued,
-            FromBacklog::Fault => return Next::Fault,
-            FromBacklog::Damaged => return Next::Damaged,
-            FromBacklog::Memory => return Next::Memory,
+        let message = match message_of(self.backlog.draw(folder, scratch)) {
+            Ok(message) => message,
+            Err(answer) => return answer,
         };
         let id = message.id;
         if self.flights.has(id) {
@@ -223,5 +220,18 @@ impl Channel {
         self.flights.reserve()?;
         self.deferred.reserve(most)?;
         Ok(())
+    }
+}
+
+// The message that was drawn, or the answer where none was.
+fn message_of(drawn: FromBacklog) -> Result<Message, Next>
+    ensures { result ≡ message_of drawn }
+{
+    match drawn {
+        FromBacklog::Got(message) => Ok(message),
+        FromBacklog::Empty => Err(Next::NoneQueued),
+        FromBacklog::Fault => Err(Next::Fault),
+        FromBacklog::Damaged => Err(Next::Damaged),
+        FromBacklog::Memory => Err(Next::Memory),
     }
 }

@@ -1,4 +1,4 @@
-ghost use Rattle.std.specs.Prelude.{◌≡◌, ◌^◌, ◌≤◌, List, length, true, IsTrue};
+ghost use Rattle.std.specs.Prelude.{◌≡◌, ◌^◌, ◌≤◌, List, [], length, true, IsTrue};
 ghost use Rattle.backlog.specs.QueueAnswers.{SyncFails};
 ghost use Rattle.v2_frame.specs.declared.message.Message.{Message};
 ghost use Rattle.backlog.specs.Seen.{FitsLimit, SyncSeen};
@@ -16,12 +16,13 @@ ghost use Rattle.channel_core.specs.Deleting.{Deletes, DeleteSeen, DeleteStands,
 
 use super::Channel;
 use super::making::is_ephemeral;
-use crate::{DropChannel, Offer};
+use crate::{Drawn, DropChannel, Offer};
 use backlog::{Emptied, Flushed, Gone, PutOne, Sync};
-use channel_copies::{Deferred, Flights, put_back};
+use channel_copies::{Clients, Deferred, Flights, put_back};
 use channel_storing::{write_deferred, write_flights};
 use nsq_base::Steps;
 use nsq_outside::Folder;
+use std::alloc::Global;
 use std::sync::ledger::Ledger;
 use v2_frame::Message;
 
@@ -77,8 +78,8 @@ impl Channel {
             Emptied::Done => {}
             Emptied::Fault => return Emptied::Fault,
         }
-        self.flights = Flights::new(self.alloc);
-        self.deferred = Deferred::new(self.alloc);
+        empty_flights(&mut self.flights, self.alloc);
+        empty_deferred(&mut self.deferred, self.alloc);
         Emptied::Done
     }
 
@@ -175,7 +176,10 @@ impl Channel {
             drawn,
         } = self;
         match backlog.delete(folder) {
-            Gone::Done => DropChannel::Done,
+            Gone::Done => {
+                let_go(flights, clients, deferred, drawn);
+                DropChannel::Done
+            }
             Gone::Fault(backlog) => DropChannel::Fault(Channel {
                 alloc,
                 about,
@@ -213,3 +217,20 @@ impl Channel {
         Offer::Done
     }
 }
+
+// Drops all copies in flight.
+fn empty_flights(flights: &mut Flights, alloc: Global)
+    ensures { flights.new.flights ≡ [] }
+{
+    *flights = Flights::new(alloc);
+}
+
+// Drops all deferred copies.
+fn empty_deferred(deferred: &mut Deferred, alloc: Global)
+    ensures { deferred.new.waiting ≡ [] }
+{
+    *deferred = Deferred::new(alloc);
+}
+
+// Drops what a channel has beside its backlog.
+fn let_go(_flights: Flights, _clients: Clients, _deferred: Deferred, _drawn: Drawn) {}

@@ -1,7 +1,9 @@
-use Rattle.std.proofs.Common.{◌++◌, ◌∙◌, sym, ap, subst}
+use Rattle.std.proofs.Common.{◌++◌, ◌∙◌, refl, sym, ap, subst}
 use Rattle.backlog.specs.Seen.{Seen as Backlog}
-use Rattle.backlog.specs.Lists.{OnDisk}
+use Rattle.backlog.specs.Lists.{DiskChanges, OnDisk, Stands}
 use Rattle.channel_core.specs.Seen.{Seen}
+use Rattle.channel_core.proofs.Deleting.{kept_back, same_kept}
+use Rattle.channel_core.proofs.Keeping.{nothing_lent, still_named, still_whole}
 use Rattle.channel_core.proofs.channel.Channel.delete.Goals as goal
 
 pub returns-in-Fault-clause-row : goal.returns-in-Fault-clause-row
@@ -9,3 +11,25 @@ returns-in-Fault-clause-row g c = λ told disk on. record {
   on_disk = c.in-Fault.ensures.list told disk (subst (λ (v : Seen). OnDisk v.backlog.queue (g.F.Folder.files c.args.folder.now) disk) (sym c.self.view_is) on);
   same = ap (λ (b : Backlog). b.ring ++ disk) c.in-Fault.ensures.seen.0 ∙ ap (λ (v : Seen). v.backlog.ring ++ disk) c.self.view_is;
 }
+
+pub delete-requires : goal.delete-requires
+delete-requires g c = nothing_lent (ap (λ (v : Seen). v.drawn) c.self.view_is ∙ c.requires.nothing) c.self.invariant
+
+pub invariant_of-result : goal.invariant_of-result
+invariant_of-result g c =
+    let nothing = ap (λ (v : Seen). v.drawn) c.self.view_is ∙ c.requires.nothing in
+    let seen = c.in-Fault.ensures.seen in
+    still_whole c.in-Fault.backlog c.self.inside.flights c.self.inside.deferred c.self.inside.drawn c.self.invariant
+    (still_named _ _ c.in-Fault.backlog c.self.invariant.named (same_kept _ _ seen.1) (ap (λ (b : Backlog). b.capacity) seen.0)) nothing (ap (λ (b : Backlog). b.lent) seen.0 ∙ nothing_lent nothing c.self.invariant) c.self.invariant.room
+
+pub returns-in-Fault-clause-seen : goal.returns-in-Fault-clause-seen
+returns-in-Fault-clause-seen g c = kept_back _ _ _ c.self.view_is (same_kept _ _ c.in-Fault.ensures.seen.1) c.in-Fault.ensures.seen.0 refl
+
+pub returns-in-Fault-clause-stands : goal.returns-in-Fault-clause-stands
+returns-in-Fault-clause-stands g c = λ told stands. c.in-Fault.ensures.stands told (subst (λ (v : Seen). Stands v.backlog.queue (g.F.Folder.files c.args.folder.now)) (sym c.self.view_is) stands)
+
+pub returns-in-Fault-clause-others : goal.returns-in-Fault-clause-others
+returns-in-Fault-clause-others g c = λ told. subst (λ (v : Seen). DiskChanges v.backlog.queue (g.F.Folder.files c.args.folder.now) (g.F.Folder.files c.delete.new.folder)) c.self.view_is (c.delete.ensures.others told)
+
+pub returns-in-Done-clause-others : goal.returns-in-Done-clause-others
+returns-in-Done-clause-others g c = λ told. subst (λ (v : Seen). DiskChanges v.backlog.queue (g.F.Folder.files c.args.folder.now) (g.F.Folder.files c.delete.new.folder)) c.self.view_is (c.delete.ensures.others told)

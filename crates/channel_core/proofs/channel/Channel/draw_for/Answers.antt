@@ -1,9 +1,9 @@
 use Rattle.std.proofs.Common.{◌∙◌, sym, ap, subst, refl}
-use Rattle.backlog.specs.Seen.{Seen as Backlog}
-use Rattle.backlog.specs.Lists.{OnDisk}
+use Rattle.backlog.specs.Seen.{DrawLends, DrawsShort}
+use Rattle.backlog.specs.Lists.{DrawGives, OnDisk}
 use Rattle.channel_copies.specs.Putting.{around}
 use Rattle.channel_core.specs.Seen.{HasRoom, Seen}
-use Rattle.channel_core.proofs.Drawings.{drew_none, drew_to_hold, drew_to_send, none_ring, waits_same}
+use Rattle.channel_core.proofs.Drawings.{drew_to_hold, drew_to_send, got_is, none_drawing, none_fails, none_gives, none_leaves, none_lent}
 use Rattle.channel_core.proofs.Keeping.{keeps_of, nothing_lent, ready_to_hold, ready_to_send, still_named, still_whole}
 use Rattle.channel_storing.proofs.Capacity.{draw_capacity}
 use Rattle.channel_core.proofs.Telling.{when_false, when_true}
@@ -16,95 +16,52 @@ draw-requires-clause-nothing g c = nothing_lent (ap (λ (v : Seen). v.drawn) c.s
 pub invariant_of-self : goal.invariant_of-self
 invariant_of-self g c =
     let named = still_named _ _ c.draw.new.self c.self.invariant.named c.draw.ensures.queue (draw_capacity _ _ c.draw.result c.draw.ensures.seen) in
-    still_whole c.draw.new.self c.self.inside.flights c.self.inside.deferred c.self.inside.drawn c.self.invariant named (ap (λ (v : Seen). v.drawn) c.self.view_is ∙ c.requires.nothing) c.in-Empty.ensures.lent c.self.invariant.room
-
-pub invariant_of-self-in-Fault : goal.invariant_of-self-in-Fault
-invariant_of-self-in-Fault g c =
-    let named = still_named _ _ c.draw.new.self c.self.invariant.named c.draw.ensures.queue (draw_capacity _ _ c.draw.result c.draw.ensures.seen) in
-    still_whole c.draw.new.self c.self.inside.flights c.self.inside.deferred c.self.inside.drawn c.self.invariant named (ap (λ (v : Seen). v.drawn) c.self.view_is ∙ c.requires.nothing) c.in-Fault.ensures.lent c.self.invariant.room
-
-pub invariant_of-self-in-Damaged : goal.invariant_of-self-in-Damaged
-invariant_of-self-in-Damaged g c =
-    let named = still_named _ _ c.draw.new.self c.self.invariant.named c.draw.ensures.queue (draw_capacity _ _ c.draw.result c.draw.ensures.seen) in
-    still_whole c.draw.new.self c.self.inside.flights c.self.inside.deferred c.self.inside.drawn c.self.invariant named (ap (λ (v : Seen). v.drawn) c.self.view_is ∙ c.requires.nothing) c.in-Damaged.ensures.lent c.self.invariant.room
-
-pub invariant_of-self-in-Memory : goal.invariant_of-self-in-Memory
-invariant_of-self-in-Memory g c =
-    let named = still_named _ _ c.draw.new.self c.self.invariant.named c.draw.ensures.queue (draw_capacity _ _ c.draw.result c.draw.ensures.seen) in
-    still_whole c.draw.new.self c.self.inside.flights c.self.inside.deferred c.self.inside.drawn c.self.invariant named (ap (λ (v : Seen). v.drawn) c.self.view_is ∙ c.requires.nothing) c.in-Memory.ensures.lent c.self.invariant.room
+    still_whole c.draw.new.self c.self.inside.flights c.self.inside.deferred c.self.inside.drawn c.self.invariant named (ap (λ (v : Seen). v.drawn) c.self.view_is ∙ c.requires.nothing) (none_lent c.draw.result c.in-Err.answer _ c.in-Err.ensures c.draw.ensures.lent) c.self.invariant.room
 
 pub invariant_of-self-then-has : goal.invariant_of-self-then-has
 invariant_of-self-then-has g c =
     let named = still_named _ _ c.draw.new.self c.self.invariant.named c.draw.ensures.queue (draw_capacity _ _ c.draw.result c.draw.ensures.seen) in
     let room = subst HasRoom (sym c.self.view_is) c.requires.room in
-    ready_to_hold c.draw.new.self c.in-Got.message c.args.now c.self.invariant named c.in-Got.ensures.lent (when_true _ _ c.has.result c.has.ensures c.if-has.true) c.in-Got.ensures.short room.deferred
+    let got = got_is c.draw.result c.in-Ok.message c.in-Ok.ensures in
+    ready_to_hold c.draw.new.self c.in-Ok.message c.args.now c.self.invariant named (subst (DrawLends c.draw.new.self.lent) got c.draw.ensures.lent) (when_true _ _ c.has.result c.has.ensures c.if-has.true) (subst DrawsShort got c.draw.ensures.short) room.deferred
 
 pub invariant_of-self-2 : goal.invariant_of-self-2
 invariant_of-self-2 g c =
     let named = still_named _ _ c.draw.new.self c.self.invariant.named c.draw.ensures.queue (draw_capacity _ _ c.draw.result c.draw.ensures.seen) in
     let room = subst HasRoom (sym c.self.view_is) c.requires.room in
-    ready_to_send c.draw.new.self _ c.self.invariant named c.in-Got.ensures.lent (when_false _ _ c.has.result c.has.ensures c.if-has.false) room.flying room.deferred
+    let got = got_is c.draw.result c.in-Ok.message c.in-Ok.ensures in
+    ready_to_send c.draw.new.self _ c.self.invariant named (subst (DrawLends c.draw.new.self.lent) got c.draw.ensures.lent) (when_false _ _ c.has.result c.has.ensures c.if-has.false) room.flying room.deferred
 
-pub returns-in-Empty-clause-gives : goal.returns-in-Empty-clause-gives
-returns-in-Empty-clause-gives g c = λ told disk on.
-    let there = subst (λ (v : Seen). OnDisk v.backlog.queue (g.F.Folder.files c.args.folder.now) disk) (sym c.self.view_is) on in
-    drew_none disk c.draw.new.self.ring c.self.view_is (c.in-Empty.ensures.first told disk there) (none_ring _ _ c.in-Empty.ensures.seen)
+pub returns-in-Err-clause-drawing : goal.returns-in-Err-clause-drawing
+returns-in-Err-clause-drawing g c = none_drawing c.draw.result c.in-Err.answer c.in-Err.ensures
 
-pub returns-in-Fault-clause-gives : goal.returns-in-Fault-clause-gives
-returns-in-Fault-clause-gives g c = λ told disk on. waits_same disk c.draw.new.self.ring c.self.view_is (ap (λ (b : Backlog). b.ring) c.in-Fault.ensures.seen.is)
+pub returns-in-Err-clause-drawn : goal.returns-in-Err-clause-drawn
+returns-in-Err-clause-drawn g c = none_leaves c.args.client c.args.now c.draw.result c.in-Err.answer _ c.in-Err.ensures (ap (λ (v : Seen). v.drawn) c.self.view_is ∙ c.requires.nothing)
 
-pub returns-in-Damaged-clause-gives : goal.returns-in-Damaged-clause-gives
-returns-in-Damaged-clause-gives g c = λ told disk on.
-    c.in-Damaged.ensures.first told disk (subst (λ (v : Seen). OnDisk v.backlog.queue (g.F.Folder.files c.args.folder.now) disk) (sym c.self.view_is) on)
+pub returns-in-Err-clause-gives : goal.returns-in-Err-clause-gives
+returns-in-Err-clause-gives g c = λ told disk on.
+    none_gives disk c.draw.result c.in-Err.answer _ c.self.view_is c.in-Err.ensures (c.draw.ensures.first told disk (subst (λ (v : Seen). OnDisk v.backlog.queue (g.F.Folder.files c.args.folder.now) disk) (sym c.self.view_is) on)) c.draw.ensures.seen
 
-pub returns-in-Memory-clause-gives : goal.returns-in-Memory-clause-gives
-returns-in-Memory-clause-gives g c = λ told disk on. waits_same disk c.draw.new.self.ring c.self.view_is (ap (λ (b : Backlog). b.ring) c.in-Memory.ensures.seen.peeks.is)
+pub returns-in-Err-clause-fault : goal.returns-in-Err-clause-fault
+returns-in-Err-clause-fault g c = none_fails _ _ c.draw.result c.in-Err.answer c.in-Err.ensures c.draw.ensures.cause
 
 pub returns-then-has-clause-gives : goal.returns-then-has-clause-gives
 returns-then-has-clause-gives g c = λ told disk on.
-    let first = c.in-Got.ensures.first told disk (subst (λ (v : Seen). OnDisk v.backlog.queue (g.F.Folder.files c.args.folder.now) disk) (sym c.self.view_is) on) in
-    drew_to_hold c.in-Got.message disk c.self.view_is first.0 first.1 (when_true _ _ c.has.result c.has.ensures c.if-has.true) refl
+    let there = subst (λ (v : Seen). OnDisk v.backlog.queue (g.F.Folder.files c.args.folder.now) disk) (sym c.self.view_is) on in
+    let first = subst (DrawGives c.self.inside.backlog c.draw.new.self disk) (got_is c.draw.result c.in-Ok.message c.in-Ok.ensures) (c.draw.ensures.first told disk there) in
+    drew_to_hold c.in-Ok.message disk c.self.view_is first.0 first.1 (when_true _ _ c.has.result c.has.ensures c.if-has.true) refl
 
 pub returns-clause-gives : goal.returns-clause-gives
 returns-clause-gives g c = λ told disk on.
-    let first = c.in-Got.ensures.first told disk (subst (λ (v : Seen). OnDisk v.backlog.queue (g.F.Folder.files c.args.folder.now) disk) (sym c.self.view_is) on) in
-    drew_to_send c.in-Got.message _ disk c.self.view_is first.0 first.1 (when_false _ _ c.has.result c.has.ensures c.if-has.false) (ap (λ n. record (c.in-Got.message) { attempts = n }) c.saturating_add.ensures) refl
+    let there = subst (λ (v : Seen). OnDisk v.backlog.queue (g.F.Folder.files c.args.folder.now) disk) (sym c.self.view_is) on in
+    let first = subst (DrawGives c.self.inside.backlog c.draw.new.self disk) (got_is c.draw.result c.in-Ok.message c.in-Ok.ensures) (c.draw.ensures.first told disk there) in
+    drew_to_send c.in-Ok.message _ disk c.self.view_is first.0 first.1 (when_false _ _ c.has.result c.has.ensures c.if-has.false) (ap (λ n. record (c.in-Ok.message) { attempts = n }) c.saturating_add.ensures) refl
 
-pub returns-in-Empty-clause-list : goal.returns-in-Empty-clause-list
-returns-in-Empty-clause-list g c = λ told disk on. c.draw.ensures.list told disk (subst (λ (v : Seen). OnDisk v.backlog.queue (g.F.Folder.files c.args.folder.now) disk) (sym c.self.view_is) on)
+pub returns-in-Err-clause-list : goal.returns-in-Err-clause-list
+returns-in-Err-clause-list g c = λ told disk on. c.draw.ensures.list told disk (subst (λ (v : Seen). OnDisk v.backlog.queue (g.F.Folder.files c.args.folder.now) disk) (sym c.self.view_is) on)
 
-pub returns-in-Empty-clause-disk : goal.returns-in-Empty-clause-disk
-returns-in-Empty-clause-disk g c =
-    let files = g.F.Folder.files in
-    let count = g.F.Folder.folder_faults in
-    keeps_of (files c.args.folder.now) (count c.args.folder.now) (around c.draw.new.self (files c.draw.new.folder) (count c.draw.new.folder)) c.self.view_is
-    (keeps_drawn _ _ c.draw.ensures.queue c.draw.ensures.stands c.draw.ensures.same c.draw.ensures.faults)
-
-pub returns-in-Fault-clause-list : goal.returns-in-Fault-clause-list
-returns-in-Fault-clause-list g c = λ told disk on. c.draw.ensures.list told disk (subst (λ (v : Seen). OnDisk v.backlog.queue (g.F.Folder.files c.args.folder.now) disk) (sym c.self.view_is) on)
-
-pub returns-in-Fault-clause-disk : goal.returns-in-Fault-clause-disk
-returns-in-Fault-clause-disk g c =
-    let files = g.F.Folder.files in
-    let count = g.F.Folder.folder_faults in
-    keeps_of (files c.args.folder.now) (count c.args.folder.now) (around c.draw.new.self (files c.draw.new.folder) (count c.draw.new.folder)) c.self.view_is
-    (keeps_drawn _ _ c.draw.ensures.queue c.draw.ensures.stands c.draw.ensures.same c.draw.ensures.faults)
-
-pub returns-in-Damaged-clause-list : goal.returns-in-Damaged-clause-list
-returns-in-Damaged-clause-list g c = λ told disk on. c.draw.ensures.list told disk (subst (λ (v : Seen). OnDisk v.backlog.queue (g.F.Folder.files c.args.folder.now) disk) (sym c.self.view_is) on)
-
-pub returns-in-Damaged-clause-disk : goal.returns-in-Damaged-clause-disk
-returns-in-Damaged-clause-disk g c =
-    let files = g.F.Folder.files in
-    let count = g.F.Folder.folder_faults in
-    keeps_of (files c.args.folder.now) (count c.args.folder.now) (around c.draw.new.self (files c.draw.new.folder) (count c.draw.new.folder)) c.self.view_is
-    (keeps_drawn _ _ c.draw.ensures.queue c.draw.ensures.stands c.draw.ensures.same c.draw.ensures.faults)
-
-pub returns-in-Memory-clause-list : goal.returns-in-Memory-clause-list
-returns-in-Memory-clause-list g c = λ told disk on. c.draw.ensures.list told disk (subst (λ (v : Seen). OnDisk v.backlog.queue (g.F.Folder.files c.args.folder.now) disk) (sym c.self.view_is) on)
-
-pub returns-in-Memory-clause-disk : goal.returns-in-Memory-clause-disk
-returns-in-Memory-clause-disk g c =
+pub returns-in-Err-clause-disk : goal.returns-in-Err-clause-disk
+returns-in-Err-clause-disk g c =
     let files = g.F.Folder.files in
     let count = g.F.Folder.folder_faults in
     keeps_of (files c.args.folder.now) (count c.args.folder.now) (around c.draw.new.self (files c.draw.new.folder) (count c.draw.new.folder)) c.self.view_is

@@ -1,10 +1,12 @@
 use Rattle.std.proofs.Common.{◌∙◌, length, sym, ap, arith}
+use Rattle.std.proofs.lemmas.Bool.{false≢true}
+use Rattle.broker_history.specs.State.{is_ephemeral_channel}
 use Rattle.channel_copies.specs.Putting.{around}
 use Rattle.channel_core.specs.Seen.{Seen}
 use Rattle.channel_core.proofs.Keeping.{costs_all, costs_first, durable_queue, keeps_of, nothing_lent, still_named, still_whole}
 use Rattle.channel_storing.proofs.Capacity.{flush_capacity}
 use Rattle.channel_core.proofs.Storing.{flush_empties, flush_leaves, flush_stores}
-use Rattle.channel_storing.proofs.Wrote.{keeps_joined, same_there}
+use Rattle.channel_storing.proofs.Wrote.{keeps_joined, keeps_none, same_there}
 use Rattle.channel_core.proofs.channel.Channel.flush.Goals as goal
 
 pub write_flights-requires-clause-durable : goal.write_flights-requires-clause-durable
@@ -91,3 +93,69 @@ returns-in-Fault-write_deferred-clause-steps g c = costs_all c.args.steps.now c.
 
 pub returns-clause-steps : goal.returns-clause-steps
 returns-clause-steps g c = costs_all c.args.steps.now c.write_flights.new.steps c.write_deferred.new.steps c.self.view_is c.write_flights.ensures.steps c.write_deferred.ensures.steps
+
+pub write_deferred-requires-clause-durable : goal.write_deferred-requires-clause-durable
+write_deferred-requires-clause-durable g c = same_there _ _ c.write_flights.ensures.disk.queue (durable_queue _ _ c.self.invariant.named (sym c.is_ephemeral.ensures ∙ c.if-is_ephemeral.false))
+
+pub write_deferred-requires-clause-nothing : goal.write_deferred-requires-clause-nothing
+write_deferred-requires-clause-nothing g c = c.write_flights.ensures.nothing_now
+
+pub flush-requires-clause-durable : goal.flush-requires-clause-durable
+flush-requires-clause-durable g c = same_there _ _ c.write_deferred.ensures.disk.queue (same_there _ _ c.write_flights.ensures.disk.queue (durable_queue _ _ c.self.invariant.named (sym c.is_ephemeral.ensures ∙ c.if-is_ephemeral.false)))
+
+pub flush-requires-clause-nothing : goal.flush-requires-clause-nothing
+flush-requires-clause-nothing g c = c.write_deferred.ensures.nothing_now
+
+pub returns-then-is_ephemeral-clause-found : goal.returns-then-is_ephemeral-clause-found
+returns-then-is_ephemeral-clause-found g c = λ told disk on stands durable. absurd (false≢true (sym durable ∙ (sym (ap (λ (v : Seen). is_ephemeral_channel v.about.topic v.about.name) c.self.view_is) ∙ (sym c.is_ephemeral.ensures ∙ c.if-is_ephemeral.true))))
+
+pub returns-then-is_ephemeral-clause-empties : goal.returns-then-is_ephemeral-clause-empties
+returns-then-is_ephemeral-clause-empties g c = λ durable. absurd (false≢true (sym durable ∙ (sym (ap (λ (v : Seen). is_ephemeral_channel v.about.topic v.about.name) c.self.view_is) ∙ (sym c.is_ephemeral.ensures ∙ c.if-is_ephemeral.true))))
+
+pub returns-then-is_ephemeral-clause-stores : goal.returns-then-is_ephemeral-clause-stores
+returns-then-is_ephemeral-clause-stores g c = λ told disk on durable. absurd (false≢true (sym durable ∙ (sym (ap (λ (v : Seen). is_ephemeral_channel v.about.topic v.about.name) c.self.view_is) ∙ (sym c.is_ephemeral.ensures ∙ c.if-is_ephemeral.true))))
+
+pub returns-then-is_ephemeral-clause-disk : goal.returns-then-is_ephemeral-clause-disk
+returns-then-is_ephemeral-clause-disk g c = keeps_none g.F.Folder.tells_files (around c.args.self.now.backlog (g.F.Folder.files c.args.folder.now) (g.F.Folder.folder_faults c.args.folder.now))
+
+pub returns-in-Fault-clause-disk : goal.returns-in-Fault-clause-disk
+returns-in-Fault-clause-disk g c =
+    let files = g.F.Folder.files in
+    let count = g.F.Folder.folder_faults in
+    keeps_of (files c.args.folder.now) (count c.args.folder.now) (around c.write_flights.new.backlog (files c.write_flights.new.folder) (count c.write_flights.new.folder)) c.self.view_is c.write_flights.ensures.disk
+
+pub returns-in-Fault-clause-rest : goal.returns-in-Fault-clause-rest
+returns-in-Fault-clause-rest g c = ap (λ (v : Seen). record v { backlog = c.write_flights.new.backlog; flights = c.write_flights.new.flights.flights; deferred = c.self.inside.deferred.waiting; spare = c.write_flights.new.flights.spare; deferred_spare = c.self.inside.deferred.spare }) c.self.view_is
+
+pub returns-in-Fault-clause-nothing_now : goal.returns-in-Fault-clause-nothing_now
+returns-in-Fault-clause-nothing_now g c = ap (λ (v : Seen). v.drawn) c.self.view_is ∙ c.requires.nothing
+
+pub returns-in-Fault-clause-ephemeral : goal.returns-in-Fault-clause-ephemeral
+returns-in-Fault-clause-ephemeral g c = λ ephemeral. absurd (false≢true (sym (sym c.is_ephemeral.ensures ∙ c.if-is_ephemeral.false) ∙ (ap (λ (v : Seen). is_ephemeral_channel v.about.topic v.about.name) c.self.view_is ∙ ephemeral)))
+
+pub returns-in-Fault-clause-idle : goal.returns-in-Fault-clause-idle
+returns-in-Fault-clause-idle g c = λ ephemeral. absurd (false≢true (sym (sym c.is_ephemeral.ensures ∙ c.if-is_ephemeral.false) ∙ (ap (λ (v : Seen). is_ephemeral_channel v.about.topic v.about.name) c.self.view_is ∙ ephemeral)))
+
+pub returns-in-Fault-write_deferred-clause-rest : goal.returns-in-Fault-write_deferred-clause-rest
+returns-in-Fault-write_deferred-clause-rest g c = ap (λ (v : Seen). record v { backlog = c.write_deferred.new.backlog; flights = c.write_flights.new.flights.flights; deferred = c.write_deferred.new.deferred.waiting; spare = c.write_flights.new.flights.spare; deferred_spare = c.write_deferred.new.deferred.spare }) c.self.view_is
+
+pub returns-in-Fault-write_deferred-clause-nothing_now : goal.returns-in-Fault-write_deferred-clause-nothing_now
+returns-in-Fault-write_deferred-clause-nothing_now g c = ap (λ (v : Seen). v.drawn) c.self.view_is ∙ c.requires.nothing
+
+pub returns-in-Fault-write_deferred-clause-ephemeral : goal.returns-in-Fault-write_deferred-clause-ephemeral
+returns-in-Fault-write_deferred-clause-ephemeral g c = λ ephemeral. absurd (false≢true (sym (sym c.is_ephemeral.ensures ∙ c.if-is_ephemeral.false) ∙ (ap (λ (v : Seen). is_ephemeral_channel v.about.topic v.about.name) c.self.view_is ∙ ephemeral)))
+
+pub returns-in-Fault-write_deferred-clause-idle : goal.returns-in-Fault-write_deferred-clause-idle
+returns-in-Fault-write_deferred-clause-idle g c = λ ephemeral. absurd (false≢true (sym (sym c.is_ephemeral.ensures ∙ c.if-is_ephemeral.false) ∙ (ap (λ (v : Seen). is_ephemeral_channel v.about.topic v.about.name) c.self.view_is ∙ ephemeral)))
+
+pub returns-clause-rest : goal.returns-clause-rest
+returns-clause-rest g c = ap (λ (v : Seen). record v { backlog = c.flush.new.self; flights = c.write_flights.new.flights.flights; deferred = c.write_deferred.new.deferred.waiting; spare = c.write_flights.new.flights.spare; deferred_spare = c.write_deferred.new.deferred.spare }) c.self.view_is
+
+pub returns-clause-nothing_now : goal.returns-clause-nothing_now
+returns-clause-nothing_now g c = ap (λ (v : Seen). v.drawn) c.self.view_is ∙ c.requires.nothing
+
+pub returns-clause-ephemeral : goal.returns-clause-ephemeral
+returns-clause-ephemeral g c = λ ephemeral. absurd (false≢true (sym (sym c.is_ephemeral.ensures ∙ c.if-is_ephemeral.false) ∙ (ap (λ (v : Seen). is_ephemeral_channel v.about.topic v.about.name) c.self.view_is ∙ ephemeral)))
+
+pub returns-clause-idle : goal.returns-clause-idle
+returns-clause-idle g c = λ ephemeral. absurd (false≢true (sym (sym c.is_ephemeral.ensures ∙ c.if-is_ephemeral.false) ∙ (ap (λ (v : Seen). is_ephemeral_channel v.about.topic v.about.name) c.self.view_is ∙ ephemeral)))

@@ -1,6 +1,10 @@
 use Rattle.std.proofs.Common.{◌∙◌, sym, ap, subst, refl}
-use Rattle.channel_copies.specs.Putting.{IsTaken}
-use Rattle.channel_core.proofs.Storing.{count_after, counts_so, taken_so, was_deferred, was_put}
+use Rattle.backlog.specs.Seen.{Seen as Backlog}
+use Rattle.channel_copies.specs.Putting.{IsTaken, around}
+use Rattle.channel_core.specs.Seen.{Seen}
+use Rattle.channel_core.proofs.Keeping.{keeps_of, nothing_lent, put_named, still_whole}
+use Rattle.channel_core.proofs.Storing.{count_after, counts_so, taken_so, was_deferred, was_put, was_refused}
+use Rattle.channel_storing.proofs.Wrote.{keeps_put, keeps_same}
 use Rattle.channel_core.proofs.channel.Channel.offer.Goals as goal
 
 pub returns-then-message-ne0-clause-row : goal.returns-then-message-ne0-clause-row
@@ -19,3 +23,53 @@ returns-in-Dropped-clause-row g c = λ told disk on.
     let count = g.F.Folder.folder_faults in
     was_put c.put_back.result (files c.args.folder.now) (files c.put_back.new.folder) (count c.args.folder.now) (count c.put_back.new.folder) disk c.self.view_is c.self.invariant.named told c.if-message-ne0.false (subst IsTaken (sym c.in-Dropped.is) tt) c.put_back.ensures on refl
     (sym (ap (λ a. count_after a c.self.inside.message_count) c.in-Dropped.is))
+
+pub put_back-requires-clause-nothing : goal.put_back-requires-clause-nothing
+put_back-requires-clause-nothing g c = nothing_lent (ap (λ (v : Seen). v.drawn) c.self.view_is ∙ c.requires.nothing) c.self.invariant
+
+pub invariant_of-self : goal.invariant_of-self
+invariant_of-self g c =
+    still_whole _ _ _ _ c.self.invariant (put_named _ _ c.self.invariant.named c.put_back.ensures) (ap (λ (v : Seen). v.drawn) c.self.view_is ∙ c.requires.nothing) c.put_back.ensures.nothing c.self.invariant.room
+
+pub invariant_of-self-in-Dropped : goal.invariant_of-self-in-Dropped
+invariant_of-self-in-Dropped g c =
+    still_whole _ _ _ _ c.self.invariant (put_named _ _ c.self.invariant.named c.put_back.ensures) (ap (λ (v : Seen). v.drawn) c.self.view_is ∙ c.requires.nothing) c.put_back.ensures.nothing c.self.invariant.room
+
+pub invariant_of-self-in-Fault : goal.invariant_of-self-in-Fault
+invariant_of-self-in-Fault g c =
+    still_whole _ _ _ _ c.self.invariant (put_named _ _ c.self.invariant.named c.put_back.ensures) (ap (λ (v : Seen). v.drawn) c.self.view_is ∙ c.requires.nothing) c.put_back.ensures.nothing c.self.invariant.room
+
+pub returns-in-Fault-clause-row : goal.returns-in-Fault-clause-row
+returns-in-Fault-clause-row g c = λ told disk on.
+    let files = g.F.Folder.files in
+    let count = g.F.Folder.folder_faults in
+    was_refused c.in-Fault.message (files c.args.folder.now) (files c.put_back.new.folder) (count c.args.folder.now) (count c.put_back.new.folder) disk c.self.view_is told c.in-Fault.ensures on refl
+
+pub returns-then-message-ne0-clause-disk : goal.returns-then-message-ne0-clause-disk
+returns-then-message-ne0-clause-disk g c = keeps_same g.F.Folder.tells_files (g.F.Folder.files c.args.folder.now) (g.F.Folder.folder_faults c.args.folder.now) c.args.self.now.backlog c.defer.new.self.backlog (ap (λ (v : Seen). v.backlog) c.defer.ensures.rest)
+
+pub returns-then-message-ne0-clause-rest : goal.returns-then-message-ne0-clause-rest
+returns-then-message-ne0-clause-rest g c =
+    let w = c.defer.new.self in
+    c.defer.ensures.rest ∙ ap (λ (b : Backlog). record c.args.self.now { message_count = w.message_count; backlog = b; deferred = w.deferred; deferred_spare = w.deferred_spare }) (sym (ap (λ (v : Seen). v.backlog) c.defer.ensures.rest))
+
+pub returns-in-Kept-clause-disk : goal.returns-in-Kept-clause-disk
+returns-in-Kept-clause-disk g c =
+    let files = g.F.Folder.files in
+    let count = g.F.Folder.folder_faults in
+    let after = around c.put_back.new.backlog (files c.put_back.new.folder) (count c.put_back.new.folder) in
+    keeps_of (files c.args.folder.now) (count c.args.folder.now) after c.self.view_is (keeps_put c.put_back.result (around c.self.inside.backlog (files c.args.folder.now) (count c.args.folder.now)) after c.put_back.ensures)
+
+pub returns-in-Dropped-clause-disk : goal.returns-in-Dropped-clause-disk
+returns-in-Dropped-clause-disk g c =
+    let files = g.F.Folder.files in
+    let count = g.F.Folder.folder_faults in
+    let after = around c.put_back.new.backlog (files c.put_back.new.folder) (count c.put_back.new.folder) in
+    keeps_of (files c.args.folder.now) (count c.args.folder.now) after c.self.view_is (keeps_put c.put_back.result (around c.self.inside.backlog (files c.args.folder.now) (count c.args.folder.now)) after c.put_back.ensures)
+
+pub returns-in-Fault-clause-disk : goal.returns-in-Fault-clause-disk
+returns-in-Fault-clause-disk g c =
+    let files = g.F.Folder.files in
+    let count = g.F.Folder.folder_faults in
+    let after = around c.put_back.new.backlog (files c.put_back.new.folder) (count c.put_back.new.folder) in
+    keeps_of (files c.args.folder.now) (count c.args.folder.now) after c.self.view_is (keeps_put c.put_back.result (around c.self.inside.backlog (files c.args.folder.now) (count c.args.folder.now)) after c.put_back.ensures)

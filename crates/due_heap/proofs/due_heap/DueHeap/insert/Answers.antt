@@ -1,4 +1,4 @@
-use Rattle.std.proofs.Common.{◌≡◌, ◌++◌, ◌∷◌, [], length, length-set, sym, ap, subst, ◌∙◌, refl, arith}
+use Rattle.std.proofs.Common.{◌≡◌, ◌+◌, ◌-◌, ◌^◌, ◌++◌, ◌∷◌, [], min, length, length-set, sym, ap, subst, ◌∙◌, refl, arith}
 use Rattle.due_heap.specs.declared.key.Key.{Key}
 use Rattle.due_heap.specs.declared.slots.Held.{Held}
 use Rattle.due_heap.specs.Heap.{Heap, entry_of}
@@ -114,3 +114,19 @@ pub returns-clause-steps : goal.returns-clause-steps
 returns-clause-steps g c d h =
     let n : length c.args.self.now.entries ≡ c.self.inside.count = sym (ap (λ (h : Heap g.row.T.Denot). length h.entries) c.self.view_is) ∙ c.self.invariant.counted in
     c.attach.ensures.steps d (omega arith)
+
+pub attach-requires-clause-in_range : goal.attach-requires-clause-in_range
+attach-requires-clause-in_range g c =
+    rw c.deref_mut-2.ensures.value (room_left c.self.inside.order.items c.self.inside.count c.args.self.now.spare (ap (λ (h : Heap g.row.T.Denot). h.spare) c.self.view_is) c.requires)
+
+pub returns-clause-number : goal.returns-clause-number
+returns-clause-number g c = ap (λ (h : Heap g.row.T.Denot). h.made) c.self.view_is
+
+pub returns-clause-made : goal.returns-clause-made
+returns-clause-made g c = c.saturating_add-self-inside.ensures ∙ ap (λ (h : Heap g.row.T.Denot). min (h.made + 1) (2 ^ 64 - 1)) c.self.view_is
+
+pub returns-clause-spare : goal.returns-clause-spare
+returns-clause-spare g c =
+    let long : length c.attach.new.order ≡ c.self.inside.order.len = c.attach.ensures.attached.same_length ∙ c.deref_mut-2.ensures.len in
+    let same : length c.attach.new.order ≡ length c.self.inside.order.items = c.attach.ensures.attached.same_length ∙ ap length c.deref_mut-2.ensures.value in
+    rw (written c.self.inside.order.len c.attach.new.order c.self.inside.order.items long) (omega (arith, same, ap (λ (h : Heap g.row.T.Denot). h.spare) c.self.view_is))

@@ -85,3 +85,35 @@ returns-clause-steps g c d h =
     let w = place_in_heap c.self.invariant at in
     let n : length c.args.self.now.entries ≡ c.self.inside.count = sym (ap length old) ∙ c.self.invariant.counted in
     c.detach.ensures.steps d (omega arith)
+
+pub overflow_sub-last : goal.overflow_sub-last
+overflow_sub-last g c =
+    let at = held_at c.args.key c.self.inside.slots.items c.args.self.now.entries (ap (λ (h : Heap g.row.T.Denot). h.entries) c.self.view_is) c.requires in
+    let w = place_in_heap c.self.invariant at in
+    omega arith
+
+pub detach-requires-clause-matched : goal.detach-requires-clause-matched
+detach-requires-clause-matched g c = rw (c.deref_mut-2.ensures.value, c.deref_mut-3.ensures.value) c.self.invariant.matched
+
+pub detach-requires-clause-within : goal.detach-requires-clause-within
+detach-requires-clause-within g c =
+    let at = held_at c.args.key c.self.inside.slots.items c.args.self.now.entries (ap (λ (h : Heap g.row.T.Denot). h.entries) c.self.view_is) c.requires in
+    let w = place_in_heap c.self.invariant at in
+    rw c.deref_mut-2.ensures.value (omega (arith, w, c.self.invariant.within))
+
+pub detach-requires-clause-heap : goal.detach-requires-clause-heap
+detach-requires-clause-heap g c p d a b f =
+    let at = held_at c.args.key c.self.inside.slots.items c.args.self.now.entries (ap (λ (h : Heap g.row.T.Denot). h.entries) c.self.view_is) c.requires in
+    let w = place_in_heap c.self.invariant at in
+    rw c.deref_mut-2.ensures.value (c.self.invariant.heap p d a b (omega (arith, w, f)))
+
+pub returns-clause-made : goal.returns-clause-made
+returns-clause-made g c = ap (λ (h : Heap g.row.T.Denot). h.made) c.self.view_is
+
+pub returns-clause-spare : goal.returns-clause-spare
+returns-clause-spare g c =
+    let at = held_at c.args.key c.self.inside.slots.items c.args.self.now.entries (ap (λ (h : Heap g.row.T.Denot). h.entries) c.self.view_is) c.requires in
+    let w = place_in_heap c.self.invariant at in
+    let long : length c.detach.new.order ≡ c.self.inside.order.len = c.detach.ensures.detached.same_length ∙ c.deref_mut-2.ensures.len in
+    let same : length c.detach.new.order ≡ length c.self.inside.order.items = c.detach.ensures.detached.same_length ∙ ap length c.deref_mut-2.ensures.value in
+    rw (written c.self.inside.order.len c.detach.new.order c.self.inside.order.items long) (omega (arith, same, w, c.self.invariant.within, ap (λ (h : Heap g.row.T.Denot). h.spare) c.self.view_is))

@@ -19,7 +19,6 @@ use nsq_outside::{Folder, Journal};
 use std::sync::ledger::Ledger;
 
 // How one drawing of a channel's first message ended.
-#[derive(Drop)]
 enum Round {
     // The message's id is in flight: it was held back, which was noted.
     HeldBack,

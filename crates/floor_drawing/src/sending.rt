@@ -95,8 +95,8 @@ fn announce_sent<J: Journal<Entry>>(
     (message, Ok(frame))
 }
 
-// Keeps the entry of an act of the client of this number aside, and gives the act back.
-fn lend<J: Journal<Entry>>(
+/// Keeps the entry of an act of the client of this number aside, and gives the act back: `note` appends the entry then. Want of memory is the only error.
+pub(crate) fn lend<J: Journal<Entry>>(
     journal: &mut J,
     number: u64,
     at: u64,

@@ -1,5 +1,5 @@
 -- A client joins a channel that is there, one that is made for it in its topic, or one that is made with its topic.
-use Rattle.std.proofs.Common.{◌≡◌, ◌<◌, ℕ, set, not, ◌||◌, List, [], ◌∷◌, length, get_or, Some, None, set-set, refl, sym, ap, subst, ◌∙◌}
+use Rattle.std.proofs.Common.{◌≡◌, ◌<◌, ℕ, Bool, set, not, ◌||◌, List, [], ◌∷◌, length, get_or, Some, None, set-set, refl, sym, ap, subst, ◌∙◌}
 use Rattle.std.specs.Prelude.{HoldsAt}
 use Rattle.std.specs.List.{All, Contains, slice_get}
 use Rattle.std.specs.Vec.{with_item}
@@ -315,3 +315,22 @@ module _ (h0 h1 h2 h4 : Hall) (i k : ℕ) (topic channel : List ℕ) (room : Roo
     since = last_since (joined_hall h2 k d) h4 i rest4 at4 h0.moment h0.rooms.items (came_since h0 h1 h2 topic i room rest1 rest2 rooms1 rooms2 place0 hall_named (ap (λ (r : Room). r.since) peopled.is ∙ peopled.fresh.since) hall_unmarked);
     stands = λ files s holds. stands4 files _ (seated_stands h0 new_hall (joined_hall h2 k d) i 0 k c new_bare room peopled.seated.bare peopled.stall topic channel hall_sits new_made files s holds);
   }
+
+-- what joining leaves, call by call
+abbrev pub joined_over : Hall → Hall → Hall
+joined_over h x = record x { rooms = h.rooms; clients = h.clients; pending = h.pending; unsaved_names = h.unsaved_names }
+
+pub reserved_rest : (h0 h1 : Hall) → h1 ≡ record h0 { rooms = h1.rooms; pending = h1.pending } → h1 ≡ record h0 { rooms = h1.rooms; clients = h1.clients; pending = h1.pending; unsaved_names = h1.unsaved_names }
+reserved_rest h0 h1 e = ap (joined_over h1) e
+
+pub room_rest : (h0 h1 h2 h3 : Hall) → h1 ≡ record h0 { rooms = h1.rooms; pending = h1.pending } → h2 ≡ record h1 { rooms = h2.rooms; pending = h2.pending; unsaved_names = h2.unsaved_names } → h3 ≡ record h2 { clients = h3.clients }
+    → h3 ≡ record h0 { rooms = h3.rooms; clients = h3.clients; pending = h3.pending; unsaved_names = h3.unsaved_names }
+room_rest h0 h1 h2 h3 e1 e2 e3 = ap (joined_over h3) e3 ∙ ap (joined_over h3) e2 ∙ ap (joined_over h3) e1
+
+pub hall_rest : (h0 h1 h2 h3 h4 : Hall) (unsaved : Bool) → h1 ≡ record h0 { rooms = h1.rooms; pending = h1.pending } → h2 ≡ record h1 { rooms = h2.rooms; unsaved_names = unsaved } → h3 ≡ record h2 { clients = h3.clients } → h4 ≡ record h3 { rooms = h4.rooms; pending = h4.pending }
+    → h4 ≡ record h0 { rooms = h4.rooms; clients = h4.clients; pending = h4.pending; unsaved_names = h4.unsaved_names }
+hall_rest h0 h1 h2 h3 h4 unsaved e1 e2 e3 e4 = ap (joined_over h4) e4 ∙ ap (joined_over h4) e3 ∙ ap (joined_over h4) e2 ∙ ap (joined_over h4) e1
+
+pub said_rest : (h0 h1 h2 : Hall) → h1 ≡ record h0 { rooms = h1.rooms; clients = h1.clients; pending = h1.pending; unsaved_names = h1.unsaved_names } → h2 ≡ record h1 { clients = h2.clients }
+    → h2 ≡ record h0 { rooms = h2.rooms; clients = h2.clients; pending = h2.pending; unsaved_names = h2.unsaved_names }
+said_rest h0 h1 h2 e1 e2 = ap (joined_over h2) e2 ∙ ap (joined_over h2) e1

@@ -138,7 +138,10 @@ fn seated_stall(hall: &Hall, k: usize, topic: Topic, channel: Chan) -> Result<St
     let number = hall.clients[k].number();
     let timeout = hall.clients[k].timeout();
     let mut stall = hall.free_stall(topic, channel)?;
-    seat_in(&mut stall, number, timeout)?;
+    let Ok(()) = seat_in(&mut stall, number, timeout) else {
+        drop(stall);
+        return Err(Memory);
+    };
     Ok(stall)
 }
 
@@ -148,9 +151,10 @@ fn peopled_room(hall: &Hall, k: usize, topic: Topic, channel: Chan) -> Result<Ro
     requires client { k < length hall.now.clients.items }
     ensures { IfOk result (λ r. HoldsAt (IsPeopled topic channel hall.now.options r) hall.now.clients.items k) }
 {
+    let mut stalls = Vec::new(hall.alloc);
+    stalls.reserve(1)?;
+    stalls.push_reserved(seated_stall(hall, k, topic, channel)?);
     let mut room = hall.free_room(topic)?;
-    room.stalls.reserve(1)?;
-    room.stalls
-        .push_reserved(seated_stall(hall, k, topic, channel)?);
+    room.stalls = stalls;
     Ok(room)
 }

@@ -1,5 +1,5 @@
 -- Topics that rest are listed no more: the hall is as sound, and stands for the same.
-use Rattle.std.proofs.Common.{◌≡◌, ◌≢◌, ◌<◌, ◌≤◌, ℕ, suc, zero, set, true, false, if◌then◌else◌, List, ◌∷◌, length, get_or, Some, refl, sym, ap, subst, ◌∙◌, arith}
+use Rattle.std.proofs.Common.{◌≡◌, ◌≢◌, ◌<◌, ◌≤◌, ℕ, suc, zero, set, true, false, if◌then◌else◌, List, ◌∷◌, length, get_or, Option, Some, None, is_some, refl, sym, ap, subst, ◌∙◌, arith}
 use Rattle.std.specs.Prelude.{IfSome}
 use Rattle.std.specs.List.{Contains}
 use Rattle.std.proofs.lemmas.Bool.{false≢true}
@@ -17,7 +17,7 @@ use Rattle.floor_rooms.proofs.Placing.{found_at, put_at}
 use Rattle.broker_history.proofs.Lists.{find_put, same_bytes}
 use Rattle.floor_rooms.proofs.Sounding.{KeepsRest, at_all, room_lowered, room_past, sound_at_room}
 use Rattle.floor_rooms.proofs.Holding.{holds_at_room, holds_same, room_alike}
-use Rattle.floor_moves.specs.Pending.{IsRelisted, IsUnlisted, Unlists}
+use Rattle.floor_moves.specs.Pending.{BeginsWith, IsBusyAt, IsRelisted, IsUnlisted, PendingFound, Unlists}
 use Rattle.floor_moves.proofs.PuttingBack.{some_same}
 use Rattle.floor_moves.proofs.Keeping.{keeps_from}
 use Rattle.floor_rooms.proofs.Dating.{pairs_one, pairs_then}
@@ -189,3 +189,18 @@ rested_alone old new i x = subst (Pairwise IsRelisted old) (sym x.is) (pairs_one
 -- what that leaves of a hall
 pub unlists_keep : (h h' : Hall) → Unlists h h' → Keeps h h'
 unlists_keep h h' u = keeps_from h h' u.rest (relisted_keep h.moment h.rooms.items h'.rooms.items u.rooms)
+
+-- a topic that was found has something to do
+pub busy_found : (h : Hall) (found : Option ℕ) → is_some found ≡ true → IfSome found (IsBusyAt h.rooms.items) → PendingFound h found
+busy_found h None e busy = absurd (false≢true e)
+busy_found h (Some i) e busy = busy
+
+head_same : (a b : List ℕ) (xs ys : List (List ℕ)) → a ∷ xs ≡ b ∷ ys → a ≡ b
+head_same a b xs ys e = cc
+
+-- where none was found, the topic of the first name isn't listed
+pub first_unlisted : (h h' : Hall) (found : Option ℕ) (name : List ℕ) → BeginsWith h.pending.items name → h' ≡ record h { rooms = h'.rooms } → is_some found ≡ false → (found ≡ None → IsUnlisted h' name)
+    → (first : List ℕ) (more : List (List ℕ)) → h'.pending.items ≡ first ∷ more → IsUnlisted h' first
+first_unlisted h h' None name begins rest e none first more was =
+    subst (IsUnlisted h') (head_same name first begins.more more (sym begins.is ∙ sym (ap (λ (x : Hall). x.pending.items) rest) ∙ was)) (none refl)
+first_unlisted h h' (Some i) name begins rest e none first more was = absurd (false≢true (sym e))

@@ -1,5 +1,5 @@
 /// How a move ended.
-#[derive(Clone, Copy, PartialEq, Eq)]
+#[derive(Clone, Copy)]
 pub enum Made {
     /// It was made, and noted.
     Done,

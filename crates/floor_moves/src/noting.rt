@@ -14,5 +14,10 @@ pub fn announce<J: Journal<Entry>>(journal: &mut J, at: u64, act: Act) -> Result
     ensures notes { IsTrue J.tells_notes → J.notes journal.new ≡ J.notes journal.old }
 {
     let entry = Entry { conn: 0, at, act };
-    journal.ready(&entry)
+    let ready = journal.ready(&entry);
+    let_go(entry);
+    ready
 }
+
+// The entry goes here, where nothing else is held beside it.
+fn let_go(_entry: Entry) {}

@@ -1,4 +1,5 @@
-ghost use Rattle.std.specs.Prelude.{◌≡◌, ◌≤◌, All, IfErr, IfOk, IsTrue, List, None, OnOk, [], false};
+ghost use Rattle.std.specs.Prelude.{◌≡◌, ◌<◌, ◌≤◌, All, IfErr, IfOk, IsTrue, List, None, OnOk, [], false, length, vec_capacity, vec_len};
+ghost use Rattle.std.specs.List.{insert};
 ghost use Rattle.nsq_base.specs.Name.{is_ephemeral};
 ghost use Rattle.nsq_base.specs.Names.{IsAscendingBy};
 ghost use Rattle.nsq_base.specs.Options.{IsInRange};
@@ -103,9 +104,21 @@ fn insert_stall(room: &mut Room, j: usize, stall: Stall) -> Result<(), Memory>
     ensures rest { room.new ≡ record room.old { stalls = room.new.stalls } }
     ensures ok { OnOk result (room.new.stalls.items ≡ put_stall room.old.stalls.items stall) }
 {
-    room.stalls.reserve(1)?;
-    let Ok(()) = room.stalls.insert(j, stall) else {
+    let Ok(()) = room.stalls.reserve(1) else {
+        drop(stall);
+        return Err(Memory);
+    };
+    put_in(&mut room.stalls, j, stall);
+    Ok(())
+}
+
+// Puts an item in at a place. It knows nothing of its items, so that its proof opens none. Requires that there is room for one more.
+fn put_in<T: Drop>(items: &mut Vec<T>, i: usize, item: T)
+    requires place { i ≤ length items.old.items }
+    requires space { vec_len items.old < vec_capacity items.old }
+    ensures { items.new.items ≡ insert items.old.items i item }
+{
+    let Ok(()) = items.insert(i, item) else {
         unreachable!()
     };
-    Ok(())
 }

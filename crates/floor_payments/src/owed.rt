@@ -7,7 +7,6 @@ ghost use Rattle.floor_rooms.specs.Rooms.{channel_name, stall_in};
 ghost use Rattle.floor_moves.specs.Moves.{entry_at};
 ghost use Rattle.floor_payments.specs.Copying.{copied_of, IsOwedFirst, OwesNext};
 
-use crate::lending::lend;
 use broker_history::{Act, Entry};
 use floor_moves::Place;
 use floor_rooms::Room;
@@ -84,8 +83,9 @@ pub(crate) fn announce_copy<J: Journal<Entry>>(
 {
     let message = copy_head(room, alloc)?;
     let act = Act::Copied(owed.topic, owed.channel, message);
-    let (act, ready) = lend(journal, at, act);
-    let message = message_of(act);
+    let entry = Entry { conn: 0, at, act };
+    let ready = journal.ready(&entry);
+    let message = message_of(entry);
     ready?;
     Ok(message)
 }
@@ -103,10 +103,15 @@ fn copy_head(room: &Room, alloc: Global) -> Result<Message, Memory>
 }
 
 // The message of the move.
-fn message_of(act: Act) -> Message
-    requires { IsSome (copied_of act) }
-    ensures { copied_of act ≡ Some result }
+fn message_of(entry: Entry) -> Message
+    requires { IsSome (copied_of entry.act) }
+    ensures { copied_of entry.act ≡ Some result }
 {
+    let Entry {
+        conn: _,
+        at: _,
+        act,
+    } = entry;
     let Act::Copied(_, _, message) = act else {
         unreachable!()
     };

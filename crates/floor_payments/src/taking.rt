@@ -8,7 +8,7 @@ ghost use Rattle.floor_rooms.specs.Sound.{IsSound};
 ghost use Rattle.floor_moves.specs.Moves.{entry_at, sight, Keeps};
 ghost use Rattle.floor_payments.specs.Taking.{names_of, taken_of, DrawsRoom, HasRoomAt, LeavesRoom, Sticks, TakesFirst, TakesIn, TakesNext};
 
-use crate::lending::{blank, lend};
+use crate::lending::blank;
 use crate::named::fill_names;
 use broker_history::{Act, Entry};
 use floor_moves::{Made, announce};
@@ -117,18 +117,25 @@ fn announce_taken<J: Journal<Entry>>(
     let Some(names) = room.names.take() else {
         unreachable!()
     };
-    let (act, ready) = lend(journal, at, Act::Took(room.queue.name(), message, names));
-    let (mut message, names) = parts(act);
+    let act = Act::Took(room.queue.name(), message, names);
+    let entry = Entry { conn: 0, at, act };
+    let ready = journal.ready(&entry);
+    let (mut message, names) = parts(entry);
     room.queue.swap_head(&mut message);
     room.names = Some(names);
     ready
 }
 
 // The message and the names of the move.
-fn parts(act: Act) -> (Message, Names)
-    requires { IsSome (taken_of act) }
-    ensures { taken_of act ≡ Some result }
+fn parts(entry: Entry) -> (Message, Names)
+    requires { IsSome (taken_of entry.act) }
+    ensures { taken_of entry.act ≡ Some result }
 {
+    let Entry {
+        conn: _,
+        at: _,
+        act,
+    } = entry;
     let Act::Took(_, message, names) = act else {
         unreachable!()
     };

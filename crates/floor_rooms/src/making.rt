@@ -13,6 +13,7 @@ ghost use Rattle.floor_rooms.specs.Rooms.{put_room, topic_name};
 ghost use Rattle.floor_rooms.specs.Sound.{IsSound};
 ghost use Rattle.floor_rooms.specs.Standing.{Carries, HoldsFor, IsRoomOf};
 
+use crate::room::put_in;
 use crate::{Hall, Room};
 use nsq_base::{Memory, Topic};
 use topic_core::TopicQueue;
@@ -54,9 +55,7 @@ impl Hall {
         if !room.name().ephemeral() {
             self.unsaved_names = true;
         }
-        let Ok(()) = self.rooms.insert(i, room) else {
-            unreachable!()
-        };
+        put_in(&mut self.rooms, i, room);
     }
 
     /// Makes the topic of this name, unless it is there, and answers where it stands. After Memory the hall is as before.

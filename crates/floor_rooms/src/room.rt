@@ -99,7 +99,7 @@ impl Room {
 }
 
 // Puts an item in at a place. It knows nothing of its items, so that its proof opens none. Requires that there is room for one more.
-fn put_in<T: Drop>(items: &mut Vec<T>, i: usize, item: T)
+pub(crate) fn put_in<T: Drop>(items: &mut Vec<T>, i: usize, item: T)
     requires place { i ≤ length items.old.items }
     requires space { vec_len items.old < vec_capacity items.old }
     ensures { items.new.items ≡ insert items.old.items i item }

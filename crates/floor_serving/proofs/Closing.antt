@@ -1,15 +1,14 @@
 -- Acts that are no commands and no asks, and what is said of all.
-use Rattle.std.proofs.Common.{◌≡◌, ◌==◌, ℕ, Bool, true, false, not, ◌||◌, ◌&&◌, if◌then◌else◌, Option, Some, None, is_some, Result, Ok, Err, refl, sym, ap, subst, ◌∙◌}
-use Rattle.std.specs.Prelude.{HoldsAt, IfOk, IsTrue, OnErr}
+use Rattle.std.proofs.Common.{◌≡◌, ◌==◌, ℕ, Bool, true, false, not, ◌||◌, ◌&&◌, if◌then◌else◌, Option, Some, None, is_some, Ok, Err, refl, sym, ap, subst, ◌∙◌}
+use Rattle.std.specs.Prelude.{HoldsAt, IsTrue}
 use Rattle.std.proofs.lemmas.Bool.{false≢true}
-use Rattle.nsq_outside.specs.Causes.{Rose}
 use Rattle.nsq_outside.specs.Files.{Files}
 use Rattle.nsq_outside.specs.declared.journal.End.TheVariants as end
 use Rattle.broker_history.specs.declared.entry.Act.{Act}
 use Rattle.broker_history.specs.declared.entry.Entry.{Entry}
 use Rattle.broker_history.specs.declared.entry.Act.TheVariants.{Began, Beat, Gone, Stop, Refused, Idle, Silent, Dropped, Listed, Ticked}
 use Rattle.broker_history.specs.State.{Client, State, put_client, without_client}
-use Rattle.broker_history.specs.Entries.{is_faulted, is_stop}
+use Rattle.broker_history.specs.Entries.{is_stop}
 use Rattle.broker_history.specs.Step.{DoesAct, new_client}
 use Rattle.desk.specs.Answers.{IsShortAnswer}
 use Rattle.desk.specs.declared.turned.Turned.{Turned}
@@ -23,7 +22,7 @@ use Rattle.floor_rooms.specs.Standing.{Carries}
 use Rattle.floor_rooms.proofs.Dating.{keeps_same}
 use Rattle.floor_rooms.proofs.Forming.{some_at}
 use Rattle.floor_carrying.specs.Plans.{IsShortAct}
-use Rattle.floor_drawing.specs.Acting.{ActCarries, IsNoted, LeavesClients, SameClients, StaysSet, answer_of, there_after}
+use Rattle.floor_drawing.specs.Acting.{LeavesClients, SameClients, StaysSet, answer_of, there_after}
 use Rattle.floor_drawing.proofs.Carrying.{entry_of}
 use Rattle.floor_carrying.specs.declared.carried.Carried.{Carried}
 use Rattle.floor_carrying.specs.Carrying.{Around, Basis, CarriesOut, IsLeft, basis}
@@ -155,37 +154,3 @@ act_left tells number a h f n r {E} sound is short ends answers =
     (act_done tells number a (basis h f n) (basis h f n) r.answer (around_same tells h f n sound) (λ told s holds. (s, left_does a is s h.moment number, holds)) answers
     (record { there = λ m. left_there a is number m (is_some (client_in h.clients.items m)); stopped = or_false h.stopped ∙ ap (λ b. h.stopped || b) (sym (left_stop a is)) })
     (subst IsShortAnswer (sym answers) (left_short a is h.moment short)))
-
--- what was carried out, part by part
-module _ (tells : Bool) (number : ℕ) (a : Act) (h h' : Hall) (f f' : Files) (n n' : ℕ) {E : Type 0} where
-  pub out_does : (r : Result Carried E) → CarriesOut tells number a (basis h f n) (basis h' f' n') r → IsTrue tells → IfOk r (λ c. ActCarries h f h' f' number a c.end)
-  out_does (Ok c) x = x.ends.does
-  out_does (Err e) x = λ told. tt
-
-  pub out_rests : (r : Result Carried E) → CarriesOut tells number a (basis h f n) (basis h' f' n') r → IsTrue tells → OnErr r (Carries h f h' f' (λ s t. t ≡ s))
-  out_rests (Ok c) x = λ told. tt
-  out_rests (Err e) x = x.ends.rests
-
-  pub out_answer : (r : Result Carried E) → CarriesOut tells number a (basis h f n) (basis h' f' n') r → IfOk r (λ c. c.answer ≡ answer_of h.moment a c.end)
-  out_answer (Ok c) x = x.ends.answer
-  out_answer (Err e) x = tt
-
-  pub out_noted : (r : Result Carried E) → CarriesOut tells number a (basis h f n) (basis h' f' n') r → IfOk r (λ c. IsNoted c.end)
-  out_noted (Ok c) x = x.ends.noted
-  out_noted (Err e) x = tt
-
-  pub out_short : (r : Result Carried E) → CarriesOut tells number a (basis h f n) (basis h' f' n') r → IfOk r (λ c. IsShortAnswer c.answer)
-  out_short (Ok c) x = x.ends.short
-  out_short (Err e) x = tt
-
-  pub out_cause : (r : Result Carried E) → CarriesOut tells number a (basis h f n) (basis h' f' n') r → IfOk r (λ c. is_faulted c.end ≡ true → Rose n n')
-  out_cause (Ok c) x = x.ends.cause
-  out_cause (Err e) x = tt
-
-  pub out_clients : (r : Result Carried E) → CarriesOut tells number a (basis h f n) (basis h' f' n') r → IfOk r (λ c. LeavesClients a number h h')
-  out_clients (Ok c) x = x.ends.clients
-  out_clients (Err e) x = tt
-
-  pub out_same : (r : Result Carried E) → CarriesOut tells number a (basis h f n) (basis h' f' n') r → OnErr r (SameClients h h')
-  out_same (Ok c) x = tt
-  out_same (Err e) x = x.ends.same

@@ -1,13 +1,9 @@
 ghost use Rattle.std.specs.Prelude.{◌≡◌, ◌≤◌, IsTrue, IfOk, OnErr, OnOk, Option, Some, false, true, length};
-ghost use Rattle.nsq_outside.specs.Causes.{Rose};
-ghost use Rattle.broker_history.specs.Entries.{is_faulted};
-ghost use Rattle.desk.specs.Answers.{IsShortAnswer};
 ghost use Rattle.floor_rooms.specs.Changes.{OnlyQueueFiles};
 ghost use Rattle.floor_rooms.specs.Sound.{IsSound};
-ghost use Rattle.floor_rooms.specs.Standing.{Carries};
 ghost use Rattle.floor_drawing.specs.Moves.{sight};
 ghost use Rattle.desk.specs.declared.call.Call.{Call};
-ghost use Rattle.floor_drawing.specs.Acting.{ActCarries, Acts, IsNoted, IsPlanned, IsPlannedFor, LeavesClients, SameClients, StaysSet, answer_of, conn_of};
+ghost use Rattle.floor_drawing.specs.Acting.{Acts, IsPlanned, IsPlannedFor, conn_of};
 ghost use Rattle.negotiation.specs.declared.identity.Identity.{Identity};
 ghost use Rattle.floor_carrying.specs.Carrying.{CarriesOut, IsNoCommand, basis};
 
@@ -24,36 +20,7 @@ use std::sync::ledger::Ledger;
 // Carries an act of a connection of this number out, to which a call leads in this hall: the hall stands for what the definitions make of each state that
 // it stood for. What a disk fault keeps off ends so, and nothing more of it is done than its end says. After Memory, the only error, all is as it was.
 // Requires 16,777,242 bytes of `scratch`.
-pub(crate) fn carry_out<F: Folder, L: Ledger>(
-    hall: &mut Hall,
-    number: u64,
-    planned: Planned,
-    folder: &mut F,
-    scratch: &mut [u8],
-    steps: &mut Steps<L>,
-) -> Result<Carried, Memory>
-    requires sound { IsSound hall.old }
-    requires plan { IsPlanned hall.old number planned.act planned.said }
-    requires scratch { 16777242 ≤ length scratch.old }
-    ensures does { IsTrue F.tells_files → IfOk result (λ r. ActCarries hall.old (F.files folder.old) hall.new (F.files folder.new) number planned.act r.end) }
-    ensures rests { IsTrue F.tells_files → OnErr result (Carries hall.old (F.files folder.old) hall.new (F.files folder.new) (λ s t. t ≡ s)) }
-    ensures answer { IfOk result (λ r. r.answer ≡ answer_of hall.old.moment planned.act r.end) }
-    ensures noted { IfOk result (λ r. IsNoted r.end) }
-    ensures short { IfOk result (λ r. IsShortAnswer r.answer) }
-    ensures cause { IfOk result (λ r. is_faulted r.end ≡ true → Rose (F.folder_faults folder.old) (F.folder_faults folder.new)) }
-    ensures clients { IfOk result (λ r. LeavesClients planned.act number hall.old hall.new) }
-    ensures same { OnErr result (SameClients hall.old hall.new) }
-    ensures stays { StaysSet hall.old hall.new }
-    ensures sound { IsSound hall.new }
-    ensures files { IsTrue F.tells_files → OnlyQueueFiles (F.files folder.old) (F.files folder.new) }
-    ensures faults { F.folder_faults folder.old ≤ F.folder_faults folder.new }
-{
-    let Planned { act, said } = planned;
-    carry_act(hall, number, act, said, folder, scratch, steps)
-}
-
-// The same, by act.
-fn carry_act<F: Folder, L: Ledger>(
+fn carry_out<F: Folder, L: Ledger>(
     hall: &mut Hall,
     number: u64,
     act: Act,
@@ -128,10 +95,11 @@ pub(crate) fn make_act<F: Folder, J: Journal<Entry>, L: Ledger>(
         drop(said);
         return Turned::Memory;
     };
-    match carry_out(hall, conn, Planned { act, said }, folder, scratch, steps) {
+    match carry_out(hall, conn, act, said, folder, scratch, steps) {
         Ok(carried) => {
-            journal.note(carried.end);
-            carried.answer
+            let Carried { end, answer } = carried;
+            journal.note(end);
+            answer
         }
         Err(_) => {
             journal.note(End::Skip);

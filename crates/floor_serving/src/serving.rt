@@ -46,21 +46,27 @@ pub fn turn_at<F: Folder, J: Journal<Entry>, L: Ledger>(
     ensures files { IsTrue F.tells_files → OnlyQueueFiles (F.files folder.old) (F.files folder.new) }
 {
     if is_strange(hall, number, &call) {
+        let_go(call);
         return Turned::Strange;
     }
     if is_stopped(hall, &call) {
+        let_go(call);
         return Turned::Stopping;
     }
     let stopping = is_stopping(&call);
     let ticking = is_ticking(&call);
     let paid = pay_first(hall, stopping, folder, scratch, journal, steps);
     if lacks(paid, stopping) {
+        let_go(call);
         return Turned::Memory;
     }
     let answer = serve(hall, alloc, number, call, folder, scratch, journal, steps);
     settle(hall, ticking, paid, &answer, folder);
     answer
 }
+
+// Lets go of a call that makes no act.
+fn let_go(_call: Call) {}
 
 // Whether a Stop was noted that keeps the call from all else.
 fn is_stopped(hall: &Hall, call: &Call) -> bool

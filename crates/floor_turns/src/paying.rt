@@ -16,7 +16,7 @@ use nsq_outside::{Folder, Journal};
 use std::sync::ledger::Ledger;
 
 /// How the paying of what is due ended.
-#[derive(Clone, Copy, PartialEq, Eq)]
+#[derive(Clone, Copy)]
 pub enum Paid {
     /// Nothing is due any more.
     Clear,
@@ -29,7 +29,7 @@ pub enum Paid {
 }
 
 // How one move ended.
-#[derive(Clone, Copy, PartialEq, Eq)]
+#[derive(Clone, Copy)]
 enum Moved {
     // It was made, and noted.
     Done,

@@ -5,7 +5,7 @@ use floor_clients::Client;
 use floor_rooms::Hall;
 
 /// What a client that is ready for it is to be sent.
-#[derive(Clone, Copy, PartialEq, Eq)]
+#[derive(Clone, Copy)]
 pub enum NextDue {
     /// Its channel was deleted.
     Dropped,

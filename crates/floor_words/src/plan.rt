@@ -108,17 +108,26 @@ fn plan_command(hall: &Hall, alloc: Global, number: u64, command: Command) -> Re
 {
     let client = client_of(hall, number);
     if client.is_lost() {
+        let_command_go(command);
         return Ok(Plan::Act(Planned {
             act: Act::Dropped,
             said: None,
         }));
     }
-    let replied = reply_to(hall, alloc, client, &command)?;
-    Ok(Plan::Act(Planned {
-        act: Act::Did(command, replied.reply),
-        said: replied.said,
-    }))
+    match reply_to(hall, alloc, client, &command) {
+        Ok(replied) => Ok(Plan::Act(Planned {
+            act: Act::Did(command, replied.reply),
+            said: replied.said,
+        })),
+        Err(memory) => {
+            let_command_go(command);
+            Err(memory)
+        }
+    }
 }
+
+// A command goes here, where nothing else is held beside it.
+fn let_command_go(_command: Command) {}
 
 // What a fault in a client's bytes leads to.
 fn plan_refusal(hall: &Hall, alloc: Global, number: u64, fault: Fault) -> Result<Plan, Memory>
@@ -167,12 +176,20 @@ fn plan_asked(hall: &Hall, alloc: Global, number: u64, ask: Ask) -> Result<Plan,
     ensures knows { IfOk result (KnowsPlan hall.now.options) }
     ensures short { IfOk result IsShortPlan }
 {
-    let said = said_to(hall, alloc, &ask)?;
-    Ok(Plan::Act(Planned {
-        act: Act::Asked(ask, said),
-        said: None,
-    }))
+    match said_to(hall, alloc, &ask) {
+        Ok(said) => Ok(Plan::Act(Planned {
+            act: Act::Asked(ask, said),
+            said: None,
+        })),
+        Err(memory) => {
+            let_ask_go(ask);
+            Err(memory)
+        }
+    }
 }
+
+// What was asked goes here, where nothing else is held beside it.
+fn let_ask_go(_ask: Ask) {}
 
 // What the asking for names leads to.
 fn plan_names(hall: &Hall, alloc: Global, number: u64) -> Result<Plan, Memory>

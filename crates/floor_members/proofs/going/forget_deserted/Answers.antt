@@ -1,9 +1,10 @@
-use Rattle.std.proofs.Common.{◌<◌, length, get_or, sym, subst, ◌∙◌}
+use Rattle.std.proofs.Common.{◌<◌, length, get_or, refl, sym, subst, ◌∙◌}
 use Rattle.floor_rooms.specs.declared.room.Room.{Room}
 use Rattle.floor_rooms.proofs.Forming.{some_at}
+use Rattle.floor_topics.proofs.Frames.{same_names, same_since}
 use Rattle.floor_topics.proofs.Losing.{no_channel_deleted, no_topic_deleted}
 use Rattle.floor_members.proofs.Deserted.{absent_left}
-use Rattle.floor_members.proofs.Leaving.{goes_left, stays_left, tested}
+use Rattle.floor_members.proofs.Leaving.{goes_left, none_same, stays_left, tested}
 use Rattle.floor_members.proofs.going.forget_deserted.Goals as goal
 
 pub returns-in_default-clause-told : goal.returns-in_default-clause-told
@@ -59,3 +60,57 @@ returns-clause-told g c = λ told s holds.
           (tested rooms i j room c.is_deserted.result c.in-Some.ensures.stands.in_range c.index.ensures c.is_deserted.ensures d x ∙ c.if-not-is_deserted.false) t.1,
       t.2,
     )
+
+pub returns-in_default-clause-rest : goal.returns-in_default-clause-rest
+returns-in_default-clause-rest g c = refl
+
+pub returns-in_default-clause-sound : goal.returns-in_default-clause-sound
+returns-in_default-clause-sound g c = c.requires
+
+pub returns-in_default-clause-names : goal.returns-in_default-clause-names
+returns-in_default-clause-names g c = same_names c.args.hall.now
+
+pub returns-in_default-clause-comes : goal.returns-in_default-clause-comes
+returns-in_default-clause-comes g c = none_same c.args.hall.now.rooms.items
+
+pub returns-in_default-clause-since : goal.returns-in_default-clause-since
+returns-in_default-clause-since g c = same_since c.args.hall.now
+
+pub returns-in_default-clause-files : goal.returns-in_default-clause-files
+returns-in_default-clause-files g c = λ told file others. refl
+
+pub returns-in_default-stall_place-clause-rest : goal.returns-in_default-stall_place-clause-rest
+returns-in_default-stall_place-clause-rest g c = refl
+
+pub returns-in_default-stall_place-clause-sound : goal.returns-in_default-stall_place-clause-sound
+returns-in_default-stall_place-clause-sound g c = c.requires
+
+pub returns-in_default-stall_place-clause-names : goal.returns-in_default-stall_place-clause-names
+returns-in_default-stall_place-clause-names g c = same_names c.args.hall.now
+
+pub returns-in_default-stall_place-clause-comes : goal.returns-in_default-stall_place-clause-comes
+returns-in_default-stall_place-clause-comes g c = none_same c.args.hall.now.rooms.items
+
+pub returns-in_default-stall_place-clause-since : goal.returns-in_default-stall_place-clause-since
+returns-in_default-stall_place-clause-since g c = same_since c.args.hall.now
+
+pub returns-in_default-stall_place-clause-files : goal.returns-in_default-stall_place-clause-files
+returns-in_default-stall_place-clause-files g c = λ told file others. refl
+
+pub returns-then-not-is_deserted-clause-rest : goal.returns-then-not-is_deserted-clause-rest
+returns-then-not-is_deserted-clause-rest g c = refl
+
+pub returns-then-not-is_deserted-clause-sound : goal.returns-then-not-is_deserted-clause-sound
+returns-then-not-is_deserted-clause-sound g c = c.requires
+
+pub returns-then-not-is_deserted-clause-names : goal.returns-then-not-is_deserted-clause-names
+returns-then-not-is_deserted-clause-names g c = same_names c.args.hall.now
+
+pub returns-then-not-is_deserted-clause-comes : goal.returns-then-not-is_deserted-clause-comes
+returns-then-not-is_deserted-clause-comes g c = none_same c.args.hall.now.rooms.items
+
+pub returns-then-not-is_deserted-clause-since : goal.returns-then-not-is_deserted-clause-since
+returns-then-not-is_deserted-clause-since g c = same_since c.args.hall.now
+
+pub returns-then-not-is_deserted-clause-files : goal.returns-then-not-is_deserted-clause-files
+returns-then-not-is_deserted-clause-files g c = λ told file others. refl

@@ -1,5 +1,6 @@
-use Rattle.std.proofs.Common.{◌≡◌, ◌∙◌, ◌<◌, List, Some, length, get_or, sym, ap, subst, arith}
+use Rattle.std.proofs.Common.{◌≡◌, ◌∙◌, ◌<◌, List, Some, length, get_or, refl, sym, ap, subst, arith}
 use Rattle.std.specs.List.{slice_get}
+use Rattle.std.specs.Vec.{with_item}
 use Rattle.std.proofs.lemmas.Option.{slice_get-get_or, slice_get_within}
 use Rattle.nsq_base.specs.Places.{BelongsAt}
 use Rattle.broker_history.specs.State.{Client}
@@ -10,7 +11,7 @@ use Rattle.floor_rooms.specs.Rooms.{topic_name}
 use Rattle.floor_topics.proofs.LostPlaces.{read_same}
 use Rattle.floor_topics.proofs.SeatPlaces.{on_err}
 use Rattle.floor_members.specs.Subscribing.{IsPeopled}
-use Rattle.floor_members.proofs.Joining.{joins_hall, peopled_place, remains_alike}
+use Rattle.floor_members.proofs.Joining.{hall_rest, joins_hall, peopled_place, remains_alike, reserved_rest}
 use Rattle.floor_members.proofs.Exchanged.{put_there}
 use Rattle.floor_members.proofs.subscribing.join_hall.Goals as goal
 
@@ -59,3 +60,14 @@ returns-clause-joins c = λ d.
     joins_hall h0 h1 h2 c.list_room.new.self c.args.i k c.args.topic c.args.channel c.in_ok-room.room client c.subscribe.new.self (c.reserve_room.ensures.sound c.requires.sound) c.reserve_room.ensures.stands c.reserve_room.ensures.rest c.reserve_room.ensures.rooms c.add_room.ensures.rest
     c.add_room.ensures.rooms c.requires.place (subst (λ (cs : List Client). IsPeopled c.args.topic c.args.channel h1.options c.in_ok-room.room (get_or cs k d)) now (c.in_ok-room.ensures d)) has (c.requires.free d) (c.subscribe.ensures ∙ ap (subscribed c.args.topic c.args.channel) same) c.list_room.ensures.rest
     c.list_room.ensures.room c.list_room.ensures.sound c.list_room.ensures.stands
+
+pub returns-in_err-reserve_room-clause-rest : goal.returns-in_err-reserve_room-clause-rest
+returns-in_err-reserve_room-clause-rest c = reserved_rest c.args.hall.now c.reserve_room.new.self c.reserve_room.ensures.rest
+
+pub returns-in_err-room-clause-rest : goal.returns-in_err-room-clause-rest
+returns-in_err-room-clause-rest c = reserved_rest c.args.hall.now c.reserve_room.new.self c.reserve_room.ensures.rest
+
+pub returns-clause-rest : goal.returns-clause-rest
+returns-clause-rest c =
+    let h = c.add_room.new.self in
+    hall_rest c.args.hall.now c.reserve_room.new.self h (record h { clients = with_item h.clients c.args.k c.subscribe.new.self }) c.list_room.new.self _ c.reserve_room.ensures.rest c.add_room.ensures.rest refl c.list_room.ensures.rest

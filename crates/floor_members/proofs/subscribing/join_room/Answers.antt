@@ -1,6 +1,7 @@
-use Rattle.std.proofs.Common.{◌≡◌, ◌∙◌, ◌<◌, ℕ, List, Some, length, get_or, sym, ap, subst, arith}
+use Rattle.std.proofs.Common.{◌≡◌, ◌∙◌, ◌<◌, ℕ, List, Some, length, get_or, refl, sym, ap, subst, arith}
 use Rattle.std.specs.Prelude.{HoldsAt}
 use Rattle.std.specs.List.{slice_get}
+use Rattle.std.specs.Vec.{with_item}
 use Rattle.std.proofs.lemmas.Option.{slice_get-get_or}
 use Rattle.nsq_base.specs.Places.{BelongsAt}
 use Rattle.broker_history.specs.State.{Client}
@@ -12,7 +13,7 @@ use Rattle.floor_rooms.proofs.Growing.{reserved_place}
 use Rattle.floor_topics.proofs.LostPlaces.{read_same}
 use Rattle.floor_topics.proofs.SeatPlaces.{on_err}
 use Rattle.floor_members.specs.Subscribing.{IsSeated}
-use Rattle.floor_members.proofs.Joining.{joins_room, remains_reserved, seated_named}
+use Rattle.floor_members.proofs.Joining.{joins_room, remains_reserved, reserved_rest, room_rest, seated_named}
 use Rattle.floor_members.proofs.subscribing.join_room.Goals as goal
 
 pub seated_stall-requires-clause-client : goal.seated_stall-requires-clause-client
@@ -52,3 +53,14 @@ returns-clause-joins c = λ d.
     joins_room h0 h1 h2 c.args.i c.args.j k c.args.topic c.args.channel c.in_ok-stall.stall client c.subscribe.new.self (c.reserve_stall.ensures.sound c.requires.sound) c.reserve_stall.ensures.stands c.reserve_stall.ensures.rest c.reserve_stall.ensures.room
     c.add_stall.ensures.rest c.add_stall.ensures.room c.add_stall.ensures.unsaved c.requires.there c.requires.place (subst (λ (cs : List Client). IsSeated c.args.topic c.args.channel h1.options c.in_ok-stall.stall (get_or cs k d)) now (c.in_ok-stall.ensures d)) has (c.requires.free d)
     (c.subscribe.ensures ∙ ap (subscribed c.args.topic c.args.channel) same)
+
+pub returns-in_err-reserve_stall-clause-rest : goal.returns-in_err-reserve_stall-clause-rest
+returns-in_err-reserve_stall-clause-rest c = reserved_rest c.args.hall.now c.reserve_stall.new.self c.reserve_stall.ensures.rest
+
+pub returns-in_err-stall-clause-rest : goal.returns-in_err-stall-clause-rest
+returns-in_err-stall-clause-rest c = reserved_rest c.args.hall.now c.reserve_stall.new.self c.reserve_stall.ensures.rest
+
+pub returns-clause-rest : goal.returns-clause-rest
+returns-clause-rest c =
+    let h = c.add_stall.new.self in
+    room_rest c.args.hall.now c.reserve_stall.new.self h (record h { clients = with_item h.clients c.args.k c.subscribe.new.self }) c.reserve_stall.ensures.rest c.add_stall.ensures.rest refl

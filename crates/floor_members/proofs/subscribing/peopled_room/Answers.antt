@@ -9,6 +9,6 @@ returns c = λ d. record {
   is_topic = c.in_ok-room.ensures.stands;
   is = refl;
   stall = c.in_ok-seated_stall.field-0;
-  stalls = c.push_reserved.ensures.items ∙ ap (λ (xs : List Stall). xs ++ c.in_ok-seated_stall.field-0 ∷ []) (c.reserve.ensures.items ∙ c.in_ok-room.ensures.room.stalls);
+  stalls = c.push_reserved.ensures.items ∙ ap (λ (xs : List Stall). xs ++ c.in_ok-seated_stall.field-0 ∷ []) (c.reserve.ensures.items ∙ c.new-stalls.ensures.items);
   seated = c.in_ok-seated_stall.ensures d;
 }

@@ -30,5 +30,5 @@ returns c =
       fresh = c.in_ok-stall.ensures.stall;
       is_channel = c.in_ok-stall.ensures.stands;
       seats = subst (λ (n : ℕ). Seats n (Some (record { timeout = client.timeout; ready = 0 })) c.in_ok-stall.stall c.seat_in.new.stall) c.number-number.ensures
-          (subst (λ (t : ℕ). Seats c.number-number.result (Some (record { timeout = t; ready = 0 })) c.in_ok-stall.stall c.seat_in.new.stall) timeout c.in_ok-seat_in.ensures.seats);
+          (subst (λ (t : ℕ). Seats c.number-number.result (Some (record { timeout = t; ready = 0 })) c.in_ok-stall.stall c.seat_in.new.stall) timeout c.in-Ok.ensures.seats);
     })

@@ -1,5 +1,6 @@
 use Rattle.v2_frame.specs.declared.command.Command.TheVariants.{Nop}
 use Rattle.floor_topics.proofs.SeatPlaces.{on_err}
+use Rattle.floor_members.proofs.Joining.{said_rest}
 use Rattle.floor_members.proofs.Speaking.{joined_range, joined_sound, not_joined_names, not_joined_since, not_joined_stands, said_clients, said_listed, said_names, said_since, said_told}
 use Rattle.floor_members.proofs.subscribing.subscribe.Goals as goal
 
@@ -40,3 +41,9 @@ returns-in_err-join-clause-names c = not_joined_names c.args.hall.now c.join.new
 
 pub returns-in_err-join-clause-since : goal.returns-in_err-join-clause-since
 returns-in_err-join-clause-since c = not_joined_since c.args.hall.now c.join.new.hall c.in_err-join.ensures.remains
+
+pub returns-clause-rest : goal.returns-clause-rest
+returns-clause-rest c = said_rest c.args.hall.now c.join.new.hall c.speak.new.hall c.join.ensures.rest c.speak.ensures.rest
+
+pub returns-in_err-join-clause-rest : goal.returns-in_err-join-clause-rest
+returns-in_err-join-clause-rest c = c.join.ensures.rest

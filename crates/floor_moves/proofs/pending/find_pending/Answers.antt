@@ -1,6 +1,6 @@
-use Rattle.std.proofs.Common.{ap, ◌∙◌}
+use Rattle.std.proofs.Common.{ap, sym, ◌∙◌}
 use Rattle.floor_rooms.specs.declared.hall.Hall.{Hall}
-use Rattle.floor_moves.proofs.Unlisting.{unlists_keep, unlists_more, unlists_on, unlists_same}
+use Rattle.floor_moves.proofs.Unlisting.{busy_found, first_unlisted, unlists_keep, unlists_more, unlists_on, unlists_same}
 use Rattle.floor_moves.proofs.pending.find_pending.Goals as goal
 
 pub loop-name-init : goal.loop-name-init
@@ -31,3 +31,10 @@ drop_first-requires-clause-sound c = c.unlist-found.ensures.sound
 
 pub returns-clause-unlists : goal.returns-clause-unlists
 returns-clause-unlists c = c.loop-name.invariant
+
+pub returns-then-is_some-clause-found : goal.returns-then-is_some-clause-found
+returns-then-is_some-clause-found c = busy_found c.unlist-found.new.hall c.unlist-found.result (sym c.is_some.ensures ∙ c.if-is_some.true) c.unlist-found.ensures.busy
+
+pub drop_first-requires-clause-unlisted : goal.drop_first-requires-clause-unlisted
+drop_first-requires-clause-unlisted c =
+    first_unlisted c.loop-name.hall c.unlist-found.new.hall c.unlist-found.result c.in-Some.name c.in-Some.ensures c.unlist-found.ensures.rest (sym c.is_some.ensures ∙ c.if-is_some.false) c.unlist-found.ensures.none

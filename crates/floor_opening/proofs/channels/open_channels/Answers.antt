@@ -1,4 +1,5 @@
-use Rattle.std.proofs.Common.{◌∙◌, ℕ, inr, take, sym, ap, subst}
+use Rattle.std.proofs.Common.{◌∙◌, ℕ, inr, take, sym, ap, subst, arith}
+use Rattle.std.proofs.lemmas.List.{take_all}
 use Rattle.nsq_base.specs.Name.{IsName}
 use Rattle.channel_core.specs.Seen.{queue_name}
 use Rattle.floor_rooms.specs.Rooms.{stall_in}
@@ -67,3 +68,28 @@ channels-init g c = (opened_none g.F.Folder.tells_files c.args.hall.now.options 
 
 pub returns-clause-theirs : goal.returns-clause-theirs
 returns-clause-theirs g c = λ told. only_some c.args.topic c.args.channels.now c.channels.item-index (g.F.Folder.files c.args.folder.now) (g.F.Folder.files c.channels.folder) (c.channels.invariant.1 told).only
+
+pub returns-clause-opened : goal.returns-clause-opened
+returns-clause-opened g c =
+    subst (λ done. HasOpened g.F.Folder.tells_files c.args.hall.now.options c.args.topic done (g.F.Folder.files c.args.folder.now) (g.F.Folder.files c.channels.folder) (g.F.Folder.folder_faults c.args.folder.now) (g.F.Folder.folder_faults c.channels.folder) c.args.room.now c.channels.room) (take_all c.channels.item-index c.args.channels.now c.channels-test.false) c.channels.invariant.0
+
+pub returns-clause-leaves : goal.returns-clause-leaves
+returns-clause-leaves g c = λ told. subst (λ done. LeavesFound c.args.topic done (g.F.Folder.files c.args.folder.now) (g.F.Folder.files c.channels.folder)) (take_all c.channels.item-index c.args.channels.now c.channels-test.false) (c.channels.invariant.1 told)
+
+pub returns-clause-again : goal.returns-clause-again
+returns-clause-again g c = λ told. (c.channels.invariant.1 told).again
+
+pub returns-clause-files : goal.returns-clause-files
+returns-clause-files g c = c.channels.invariant.0.only
+
+pub returns-in_err-stall-clause-faults : goal.returns-in_err-stall-clause-faults
+returns-in_err-stall-clause-faults g c =
+    let before = c.channels.invariant.0.faults in
+    let after = c.open_stall.ensures.faults in
+    omega (arith, before, after)
+
+pub returns-in_err-put_stall-clause-faults : goal.returns-in_err-put_stall-clause-faults
+returns-in_err-put_stall-clause-faults g c =
+    let before = c.channels.invariant.0.faults in
+    let after = c.open_stall.ensures.faults in
+    omega (arith, before, after)

@@ -1,5 +1,6 @@
-use Rattle.std.proofs.Common.{◌≡◌, ◌∙◌, List, inr, refl, ap, subst}
+use Rattle.std.proofs.Common.{◌≡◌, ◌∙◌, List, inr, refl, sym, ap, subst}
 use Rattle.std.specs.List.{All}
+use Rattle.nsq_base.specs.Options.{IsInRange}
 use Rattle.nsq_base.specs.declared.options.Options.{Options}
 use Rattle.topic_core.specs.Rows.{found_topic, paused_in}
 use Rattle.floor_rooms.specs.declared.hall.Hall.{Hall}
@@ -94,3 +95,33 @@ returns-clause-theirs g c = λ told file no_topic no_channel. c.open_channels.en
 
 pub returns-in_err-reserve_room-clause-again : goal.returns-in_err-reserve_room-clause-again
 returns-in_err-reserve_room-clause-again g c = λ told. lists_same (g.F.Folder.files c.args.folder.now)
+
+pub open_channels-requires-clause-options : goal.open_channels-requires-clause-options
+open_channels-requires-clause-options g c = subst (λ (x : Hall). IsInRange x.options) (sym c.reserve_room.ensures.rest) c.requires.sound.options
+
+pub open_channels-requires-clause-named : goal.open_channels-requires-clause-named
+open_channels-requires-clause-named g c = c.in_ok-room.ensures.room.backlog
+
+pub open_channels-requires-clause-empty : goal.open_channels-requires-clause-empty
+open_channels-requires-clause-empty g c = c.in_ok-room.ensures.empty
+
+pub put_room-requires-clause-sound : goal.put_room-requires-clause-sound
+put_room-requires-clause-sound g c = c.reserve_room.ensures.sound c.requires.sound
+
+pub put_room-requires-clause-new : goal.put_room-requires-clause-new
+put_room-requires-clause-new g c =
+    let options = c.reserve_room.new.self.options in
+    let opened = opened_with options c.args.topic c.args.paused c.in_ok-room.room c.open_channels.new.room c.in_ok-open_channels.ensures.opened.rest c.in_ok-room.ensures.room in
+    ap (room_in c.reserve_room.new.self.rooms.items) opened.name ∙ ap (λ (xs : List Room). room_in xs c.args.topic) c.reserve_room.ensures.rooms ∙ c.requires.new
+
+pub returns-clause-rest : goal.returns-clause-rest
+returns-clause-rest g c = rest_both c.args.hall.now c.reserve_room.new.self c.put_room.new.hall c.reserve_room.ensures.rest c.put_room.ensures.rest
+
+pub returns-in_err-reserve_room-clause-sound : goal.returns-in_err-reserve_room-clause-sound
+returns-in_err-reserve_room-clause-sound g c = c.reserve_room.ensures.sound c.requires.sound
+
+pub returns-in_err-room-clause-sound : goal.returns-in_err-room-clause-sound
+returns-in_err-room-clause-sound g c = c.reserve_room.ensures.sound c.requires.sound
+
+pub returns-in_err-open_channels-clause-sound : goal.returns-in_err-open_channels-clause-sound
+returns-in_err-open_channels-clause-sound g c = c.reserve_room.ensures.sound c.requires.sound

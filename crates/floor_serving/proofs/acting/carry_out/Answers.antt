@@ -1,38 +1,18 @@
-use Rattle.floor_serving.proofs.Closing.{out_answer, out_cause, out_clients, out_does, out_noted, out_rests, out_same, out_short}
+use Rattle.std.proofs.Common.{subst, sym}
+use Rattle.broker_history.specs.declared.entry.Act.{Act}
+use Rattle.floor_drawing.specs.Acting.{IsPlanned}
+use Rattle.floor_carrying.specs.Carrying.{CarriesOut, basis}
+use Rattle.floor_carrying.proofs.Planning.{no_command, planned_most}
 use Rattle.floor_serving.proofs.acting.carry_out.Goals as goal
 
-pub returns-clause-does : goal.returns-clause-does
-returns-clause-does g c = out_does g.F.Folder.tells_files c.args.number c.args.planned.act c.args.hall.now c.carry_act.new.hall (g.F.Folder.files c.args.folder.now) (g.F.Folder.files c.carry_act.new.folder) (g.F.Folder.folder_faults c.args.folder.now) (g.F.Folder.folder_faults c.carry_act.new.folder) c.carry_act.result c.carry_act.ensures
+pub carry_command-requires-clause-plan : goal.carry_command-requires-clause-plan
+carry_command-requires-clause-plan g c = (subst (λ (a : Act). IsPlanned c.args.hall.now c.args.number a c.args.said) c.in-Did.is c.requires.plan)
 
-pub returns-clause-rests : goal.returns-clause-rests
-returns-clause-rests g c = out_rests g.F.Folder.tells_files c.args.number c.args.planned.act c.args.hall.now c.carry_act.new.hall (g.F.Folder.files c.args.folder.now) (g.F.Folder.files c.carry_act.new.folder) (g.F.Folder.folder_faults c.args.folder.now) (g.F.Folder.folder_faults c.carry_act.new.folder) c.carry_act.result c.carry_act.ensures
+pub returns-in-Did : goal.returns-in-Did
+returns-in-Did g c = subst (λ (a : Act). CarriesOut g.F.Folder.tells_files c.args.number a (basis c.args.hall.now (g.F.Folder.files c.args.folder.now) (g.F.Folder.folder_faults c.args.folder.now)) (basis c.carry_command.new.hall (g.F.Folder.files c.carry_command.new.folder) (g.F.Folder.folder_faults c.carry_command.new.folder)) c.carry_command.result) (sym c.in-Did.is) c.carry_command.ensures
 
-pub returns-clause-answer : goal.returns-clause-answer
-returns-clause-answer g c = out_answer g.F.Folder.tells_files c.args.number c.args.planned.act c.args.hall.now c.carry_act.new.hall (g.F.Folder.files c.args.folder.now) (g.F.Folder.files c.carry_act.new.folder) (g.F.Folder.folder_faults c.args.folder.now) (g.F.Folder.folder_faults c.carry_act.new.folder) c.carry_act.result c.carry_act.ensures
+pub carry_other-requires-clause-plan : goal.carry_other-requires-clause-plan
+carry_other-requires-clause-plan g c = (c.args.said, c.requires.plan)
 
-pub returns-clause-noted : goal.returns-clause-noted
-returns-clause-noted g c = out_noted g.F.Folder.tells_files c.args.number c.args.planned.act c.args.hall.now c.carry_act.new.hall (g.F.Folder.files c.args.folder.now) (g.F.Folder.files c.carry_act.new.folder) (g.F.Folder.folder_faults c.args.folder.now) (g.F.Folder.folder_faults c.carry_act.new.folder) c.carry_act.result c.carry_act.ensures
-
-pub returns-clause-short : goal.returns-clause-short
-returns-clause-short g c = out_short g.F.Folder.tells_files c.args.number c.args.planned.act c.args.hall.now c.carry_act.new.hall (g.F.Folder.files c.args.folder.now) (g.F.Folder.files c.carry_act.new.folder) (g.F.Folder.folder_faults c.args.folder.now) (g.F.Folder.folder_faults c.carry_act.new.folder) c.carry_act.result c.carry_act.ensures
-
-pub returns-clause-cause : goal.returns-clause-cause
-returns-clause-cause g c = out_cause g.F.Folder.tells_files c.args.number c.args.planned.act c.args.hall.now c.carry_act.new.hall (g.F.Folder.files c.args.folder.now) (g.F.Folder.files c.carry_act.new.folder) (g.F.Folder.folder_faults c.args.folder.now) (g.F.Folder.folder_faults c.carry_act.new.folder) c.carry_act.result c.carry_act.ensures
-
-pub returns-clause-clients : goal.returns-clause-clients
-returns-clause-clients g c = out_clients g.F.Folder.tells_files c.args.number c.args.planned.act c.args.hall.now c.carry_act.new.hall (g.F.Folder.files c.args.folder.now) (g.F.Folder.files c.carry_act.new.folder) (g.F.Folder.folder_faults c.args.folder.now) (g.F.Folder.folder_faults c.carry_act.new.folder) c.carry_act.result c.carry_act.ensures
-
-pub returns-clause-same : goal.returns-clause-same
-returns-clause-same g c = out_same g.F.Folder.tells_files c.args.number c.args.planned.act c.args.hall.now c.carry_act.new.hall (g.F.Folder.files c.args.folder.now) (g.F.Folder.files c.carry_act.new.folder) (g.F.Folder.folder_faults c.args.folder.now) (g.F.Folder.folder_faults c.carry_act.new.folder) c.carry_act.result c.carry_act.ensures
-
-pub returns-clause-stays : goal.returns-clause-stays
-returns-clause-stays g c = c.carry_act.ensures.around.stays
-
-pub returns-clause-sound : goal.returns-clause-sound
-returns-clause-sound g c = c.carry_act.ensures.around.sound
-
-pub returns-clause-files : goal.returns-clause-files
-returns-clause-files g c = c.carry_act.ensures.around.files
-
-pub returns-clause-faults : goal.returns-clause-faults
-returns-clause-faults g c = c.carry_act.ensures.around.faults
+pub carry_other-requires-clause-other : goal.carry_other-requires-clause-other
+carry_other-requires-clause-other g c = no_command c.args.act (planned_most c.args.hall.now c.args.number c.args.act c.args.said c.requires.plan) c.in_default.not-Did

@@ -22,16 +22,28 @@ returns-in-Ok-carry_out-clause-acts g c =
     let same = c.in-Ok.ensures.same in
     let conn : c.conn_of-conn.result ≡ conn_of c.in-Ok.act c.args.number = c.conn_of-conn.ensures ∙ ap (λ a. conn_of a c.args.number) (sym same) in
     acts_made g.J.Journal.tells_notes g.F.Folder.tells_files c.args.number d c.args.hall.now c.carry_out.new.hall (g.J.Journal.notes c.args.journal.now) (g.J.Journal.notes c.note.new.self) (g.F.Folder.files c.args.folder.now) (g.F.Folder.files c.carry_out.new.folder) (g.F.Folder.folder_faults c.args.folder.now) (g.F.Folder.folder_faults c.carry_out.new.folder)
-    c.requires.sound c.carry_out.ensures.stays c.carry_out.ensures.faults c.in-Ok.act c.in-Ok-carry_out.carried.end c.in-Ok-carry_out.carried.answer (subst (λ a. IsPlannedFor c.args.hall.now c.args.number d a) (sym same) planned) c.in-Ok-carry_out.ensures.noted c.in-Ok-carry_out.ensures.answer c.in-Ok-carry_out.ensures.short
-    (noted_act g.J.Journal.tells_notes (g.J.Journal.notes c.args.journal.now) (g.J.Journal.notes c.announce_act.new.journal) (g.J.Journal.notes c.note.new.self) (g.J.Journal.kept c.announce_act.new.journal) (entry_of (conn_of c.in-Ok.act c.args.number) c.args.hall.now.moment c.in-Ok.act) c.in-Ok-carry_out.carried.end c.in-Ok-carry_out.ensures.noted
+    c.requires.sound c.carry_out.ensures.around.stays c.carry_out.ensures.around.faults c.in-Ok.act c.in-Ok-carry_out.carried.end c.in-Ok-carry_out.carried.answer (subst (λ a. IsPlannedFor c.args.hall.now c.args.number d a) (sym same) planned) c.in-Ok-carry_out.ensures.ends.noted c.in-Ok-carry_out.ensures.ends.answer c.in-Ok-carry_out.ensures.ends.short
+    (noted_act g.J.Journal.tells_notes (g.J.Journal.notes c.args.journal.now) (g.J.Journal.notes c.announce_act.new.journal) (g.J.Journal.notes c.note.new.self) (g.J.Journal.kept c.announce_act.new.journal) (entry_of (conn_of c.in-Ok.act c.args.number) c.args.hall.now.moment c.in-Ok.act) c.in-Ok-carry_out.carried.end c.in-Ok-carry_out.ensures.ends.noted
     (kept_so g.J.Journal.tells_notes (g.J.Journal.kept c.announce_act.new.journal) c.conn_of-conn.result (conn_of c.in-Ok.act c.args.number) c.args.hall.now.moment c.args.planned.act c.in-Ok.act c.in-Ok.ensures.kept same conn) c.announce_act.ensures.notes c.note.ensures.notes)
-    (λ told. subst (λ m. ActCarries c.args.hall.now (g.F.Folder.files c.args.folder.now) c.carry_out.new.hall (g.F.Folder.files c.carry_out.new.folder) m c.in-Ok.act c.in-Ok-carry_out.carried.end) conn (c.in-Ok-carry_out.ensures.does told))
-    c.in-Ok-carry_out.ensures.cause (subst (λ m. LeavesClients c.in-Ok.act m c.args.hall.now c.carry_out.new.hall) conn c.in-Ok-carry_out.ensures.clients)
+    (λ told. subst (λ m. ActCarries c.args.hall.now (g.F.Folder.files c.args.folder.now) c.carry_out.new.hall (g.F.Folder.files c.carry_out.new.folder) m c.in-Ok.act c.in-Ok-carry_out.carried.end) conn (c.in-Ok-carry_out.ensures.ends.does told))
+    c.in-Ok-carry_out.ensures.ends.cause (subst (λ m. LeavesClients c.in-Ok.act m c.args.hall.now c.carry_out.new.hall) conn c.in-Ok-carry_out.ensures.ends.clients)
 
 pub returns-in-Err-clause-acts : goal.returns-in-Err-clause-acts
 returns-in-Err-clause-acts g c =
     λ d planned.
     acts_none g.J.Journal.tells_notes g.F.Folder.tells_files c.args.number d c.args.hall.now c.carry_out.new.hall (g.J.Journal.notes c.args.journal.now) (g.J.Journal.notes c.note-in-Err.new.self) (g.F.Folder.files c.args.folder.now) (g.F.Folder.files c.carry_out.new.folder) (g.F.Folder.folder_faults c.args.folder.now) (g.F.Folder.folder_faults c.carry_out.new.folder)
-    c.requires.sound c.carry_out.ensures.stays c.carry_out.ensures.faults
+    c.requires.sound c.carry_out.ensures.around.stays c.carry_out.ensures.around.faults
     (noted_none g.J.Journal.tells_notes (g.J.Journal.notes c.args.journal.now) (g.J.Journal.notes c.announce_act.new.journal) (g.J.Journal.notes c.note-in-Err.new.self) (g.J.Journal.kept c.announce_act.new.journal) (entry_of c.conn_of-conn.result c.args.hall.now.moment c.args.planned.act) c.in-Ok.ensures.kept c.announce_act.ensures.notes c.note-in-Err.ensures.notes)
-    c.in-Err.ensures.rests c.in-Err.ensures.same
+    c.in-Err.ensures.ends.rests c.in-Err.ensures.ends.same
+
+pub returns-in-Ok-carry_out-clause-sound : goal.returns-in-Ok-carry_out-clause-sound
+returns-in-Ok-carry_out-clause-sound g c = c.carry_out.ensures.around.sound
+
+pub returns-in-Ok-carry_out-clause-files : goal.returns-in-Ok-carry_out-clause-files
+returns-in-Ok-carry_out-clause-files g c = c.carry_out.ensures.around.files
+
+pub returns-in-Err-clause-sound : goal.returns-in-Err-clause-sound
+returns-in-Err-clause-sound g c = c.carry_out.ensures.around.sound
+
+pub returns-in-Err-clause-files : goal.returns-in-Err-clause-files
+returns-in-Err-clause-files g c = c.carry_out.ensures.around.files

@@ -1,6 +1,6 @@
 use Rattle.std.proofs.Common.{sym, ◌∙◌}
 use Rattle.floor_drawing.specs.Moves.{sight}
-use Rattle.floor_drawing.proofs.Whole.{turn_strange, turn_stopped, turn_wants, turn_served, serves_here, not_false}
+use Rattle.floor_drawing.proofs.Whole.{turn_strange, turn_stopped, turn_wants, turn_served, serves_here, serves_then, stop_once, not_false}
 use Rattle.floor_serving.proofs.serving.turn_at.Goals as goal
 
 pub returns-then-is_strange-clause-turn : goal.returns-then-is_strange-clause-turn
@@ -20,3 +20,10 @@ returns-clause-turn g c =
 
 pub returns-clause-files : goal.returns-clause-files
 returns-clause-files g c = λ told file other. c.settle.ensures.files told file other ∙ c.serve-answer.ensures.files told file other ∙ c.pay_first-paid.ensures.files told file other
+
+pub pay_first-paid-requires-clause-once : goal.pay_first-paid-requires-clause-once
+pay_first-paid-requires-clause-once g c = stop_once c.args.hall.now c.args.call c.is_stopping-stopping.result c.is_stopping-stopping.ensures (sym c.is_stopped.ensures ∙ c.if-is_stopped.false)
+
+pub serve-answer-requires-clause-serves : goal.serve-answer-requires-clause-serves
+serve-answer-requires-clause-serves g c =
+    serves_then c.args.hall.now c.pay_first-paid.new.hall c.args.number c.args.call c.pay_first-paid.ensures.keeps.clients c.pay_first-paid.ensures.keeps.stopped (serves_here c.args.hall.now c.args.number c.args.call (sym c.is_strange.ensures ∙ c.if-is_strange.false) (sym c.is_stopped.ensures ∙ c.if-is_stopped.false))

@@ -1,4 +1,4 @@
-use Rattle.std.proofs.Common.{ap}
+use Rattle.std.proofs.Common.{◌≡◌, false, sym, ap, subst, arith}
 use Rattle.floor_rooms.specs.declared.hall.Hall.{Hall}
 use Rattle.floor_payments.proofs.Keeping.{keeps_on, keeps_quiet}
 use Rattle.floor_turns.proofs.Owing.{moved_on, next_on}
@@ -19,3 +19,15 @@ returns-in-None-clause-moves g c =
 
 pub returns-in-None-clause-keeps : goal.returns-in-None-clause-keeps
 returns-in-None-clause-keeps g c = keeps_on c.args.hall.now c.due_place.new.hall c.next_owed.new.hall (keeps_quiet c.args.hall.now c.due_place.new.hall c.due_place.new.hall.quiet_until c.due_place.ensures.rest) c.next_owed.ensures.keeps
+
+pub move_due-requires-clause-running : goal.move_due-requires-clause-running
+move_due-requires-clause-running g c = subst (λ (x : Hall). x.stopped ≡ false) (sym c.due_place.ensures.rest) c.requires.running
+
+pub next_owed-requires-clause-running : goal.next_owed-requires-clause-running
+next_owed-requires-clause-running g c = subst (λ (x : Hall). x.stopped ≡ false) (sym c.due_place.ensures.rest) c.requires.running
+
+pub next_owed-requires-clause-quiet : goal.next_owed-requires-clause-quiet
+next_owed-requires-clause-quiet g c =
+    let moment : c.due_place.new.hall.moment ≡ c.args.hall.now.moment = ap (λ (x : Hall). x.moment) c.due_place.ensures.rest in
+    let later = c.in-None.ensures.found in
+    omega (arith, moment, later)

@@ -1,7 +1,7 @@
 use Rattle.std.proofs.Common.{◌∙◌, arith}
 use Rattle.floor_payments.specs.Moves.{sight}
 use Rattle.floor_payments.proofs.Keeping.{keeps_on}
-use Rattle.floor_turns.proofs.Owing.{pays_none, pays_one, pays_clear, pays_wants, pays_stuck}
+use Rattle.floor_turns.proofs.Owing.{pays_none, pays_one, pays_clear, pays_most, pays_wants, pays_stuck}
 use Rattle.floor_turns.proofs.paying.pay.Goals as goal
 
 pub loop-init : goal.loop-init
@@ -48,3 +48,6 @@ returns-in-Nothing-clause-keeps g c = keeps_on c.args.hall.now c.loop.hall c.nex
 
 pub returns-in-Nothing-clause-files : goal.returns-in-Nothing-clause-files
 returns-in-Nothing-clause-files g c = λ told file other. c.next_move.ensures.files told file other ∙ c.loop.invariant.0.files told file other
+
+pub returns-clause-pays : goal.returns-clause-pays
+returns-clause-pays g c = pays_most g.J.Journal.tells_notes g.F.Folder.tells_files c.loop.counter c.args.most (sight c.args.hall.now (g.J.Journal.notes c.args.journal.now) (g.F.Folder.files c.args.folder.now) (g.F.Folder.folder_faults c.args.folder.now)) (sight c.loop.hall (g.J.Journal.notes c.loop.journal) (g.F.Folder.files c.loop.folder) (g.F.Folder.folder_faults c.loop.folder)) c.loop.invariant.0 (omega arith)

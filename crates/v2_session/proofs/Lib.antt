@@ -5,3 +5,4 @@ pub mod Talking
 pub mod Turning
 pub mod Ending
 pub mod Warning
+pub mod Causing

@@ -87,6 +87,9 @@ fn send<R: Wait, K: Conn>(
     }
 }
 
+/// Lets an answer go that nothing is written for.
+pub(crate) fn let_go(_turned: Turned) {}
+
 /// Writes what the answer to a command or to a fault says to the client. Unless the connection goes on, it says how it ends.
 pub(crate) fn answer<R: Wait, K: Conn>(
     rt: &R,
@@ -111,7 +114,10 @@ pub(crate) fn answer<R: Wait, K: Conn>(
             None => if closing { Some(Ended::Closed) } else { None },
         },
         Turned::Memory => Some(give_up(rt, conn)),
-        _ => Some(Ended::Closed),
+        other => {
+            let_go(other);
+            Some(Ended::Closed)
+        }
     }
 }
 
@@ -139,6 +145,9 @@ pub(crate) fn deliver<R: Wait, K: Conn>(
         },
         Turned::Idle => Delivered::Rest,
         Turned::Memory => Delivered::Over(give_up(rt, conn)),
-        _ => Delivered::Over(Ended::Closed),
+        other => {
+            let_go(other);
+            Delivered::Over(Ended::Closed)
+        }
     }
 }

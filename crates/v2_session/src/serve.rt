@@ -1,4 +1,6 @@
 ghost use Rattle.std.specs.Prelude.{◌≡◌, ◌<◌, ◌≤◌, ◌++◌, [], Some, IsTrue};
+ghost use Rattle.v2_frame.specs.Reading.{fresh};
+ghost use Rattle.v2_frame.specs.declared.fault.Limits.{Limits};
 ghost use Rattle.broker_history.specs.Entries.{has_stop, own};
 ghost use Rattle.broker_history.specs.Talk.{IsTalkIn, Sending, bytes_of};
 ghost use Rattle.desk.specs.Calls.{AreAllowed, IsHere};
@@ -6,7 +8,7 @@ ghost use Rattle.v2_session.specs.Outputs.{Warns};
 ghost use Rattle.v2_session.specs.Sessions.{Told, InTalk, IsOver, HasCause, EndsAfter, IsWarned, rises};
 
 use crate::buffers::{Buffers, new_buffers};
-use crate::output::give_up;
+use crate::output::{give_up, let_go};
 use crate::round::round;
 use broker_history::Ended;
 use desk::{Call, Desk, Turned};
@@ -61,16 +63,46 @@ pub fn serve_v2<R: Wait, K: Conn, D: Desk>(
     let Ok(mut buffers) = new_buffers(alloc) else {
         return give_up(rt, conn);
     };
+    conversation(rt, alloc, number, conn, desk, &mut reader, &mut buffers)
+}
+
+/// Serves the connection from its Begin to its Gone.
+fn conversation<R: Wait, K: Conn, D: Desk>(
+    rt: &R,
+    alloc: Global,
+    number: u64,
+    conn: &mut K,
+    desk: &mut D,
+    reader: &mut Reader,
+    buffers: &mut Buffers,
+) -> Ended
+    requires number { (0 < number) × (number ≡ D.number desk.old) }
+    requires new { IsTrue D.tells → own number (D.seen desk.old) ≡ [] }
+    requires limits { AreAllowed reader.old.limits }
+    ensures talk { (limits : Limits) → reader.old ≡ fresh limits → IsTrue K.tells_pieces → IsTrue K.tells_written → IsTrue D.tells → K.pieces conn.old ≡ [] → K.written conn.old ≡ []
+        → IsTalkIn limits number (D.seen desk.new) (rises (D.wanted desk.old) (D.wanted desk.new)) (K.pieces conn.new) (K.written conn.new) result }
+    ensures warned { IsTrue K.tells_written → IsWarned result (K.written conn.new) (K.write_faults conn.old) (K.write_faults conn.new) (rises (D.wanted desk.old) (D.wanted desk.new)) }
+    ensures cause { HasCause result (K.ended conn.new) (K.read_faults conn.old) (K.read_faults conn.new) (K.write_faults conn.old) (K.write_faults conn.new) }
+    ensures stream { IsTrue K.tells_pieces → bytes_of (K.pieces conn.new) ++ K.left conn.new ≡ bytes_of (K.pieces conn.old) ++ K.left conn.old }
+    ensures read_faults { K.read_faults conn.old ≤ K.read_faults conn.new }
+    ensures write_faults { K.write_faults conn.old ≤ K.write_faults conn.new }
+    ensures number { D.number desk.new ≡ D.number desk.old }
+    ensures leads { D.leads desk.old desk.new }
+{
     let turned = desk.turn(rt, alloc, number, Call::Begin);
-    if let Turned::Memory = turned {
-        return give_up(rt, conn);
+    match turned {
+        Turned::Begun => {}
+        Turned::Memory => return give_up(rt, conn),
+        other => {
+            let_go(other);
+            return Ended::Closed;
+        }
     }
-    let Turned::Begun = turned else {
-        return Ended::Closed;
-    };
-    let ended = rounds(rt, alloc, number, conn, desk, &mut reader, &mut buffers);
+    let ended = rounds(rt, alloc, number, conn, desk, reader, buffers);
     let gone = desk.turn(rt, alloc, number, Call::Gone);
-    ended_after(ended, &gone)
+    let last = ended_after(ended, &gone);
+    let_go(gone);
+    last
 }
 
 /// Makes rounds to the end.

@@ -1,10 +1,17 @@
-use Rattle.std.proofs.Common.{◌∙◌, refl, arith, Some}
+use Rattle.std.proofs.Common.{◌∙◌, refl, sym, arith, Some}
 use Rattle.broker_history.specs.Entries.{has_stop}
 use Rattle.v2_session.specs.declared.output.Delivered.TheVariants.{More, Rest, Over}
 use Rattle.v2_session.proofs.Talking.{moved, spent_talk}
 use Rattle.v2_session.proofs.Turning.{next_here, next_went, over_same}
 use Rattle.v2_session.proofs.Warning.{warned_since}
+use Rattle.v2_session.proofs.Causing.{cause_since}
 use Rattle.v2_session.proofs.round.pushes.Goals as goal
+
+pub turn-turned-requires-clause-number : goal.turn-turned-requires-clause-number
+turn-turned-requires-clause-number g c = c.requires.number ∙ sym c.pushes.invariant.number
+
+pub turn-turned-requires-clause-may : goal.turn-turned-requires-clause-may
+turn-turned-requires-clause-may g c = c.pushes.invariant.here
 
 pub pushes-preserved : goal.pushes-preserved
 pushes-preserved g c =
@@ -26,29 +33,62 @@ pushes-preserved g c =
       leads = g.met.D.Desk.goes_on _ _ _ before.leads turn.leads;
     }
 
-pub returns-in-Rest-clause-talk : goal.returns-in-Rest-clause-talk
-returns-in-Rest-clause-talk g c = λ limits reader told i.
+pub returns-in-Rest : goal.returns-in-Rest
+returns-in-Rest g c =
     let turn = c.turn-turned.ensures in
-    moved limits c.deliver.ensures.pieces refl refl refl
-    (next_went limits (g.D.Desk.seen c.turn-turned.new.self) c.args.number _ _ _ _ _ reader c.pushes.sent c.pushes-test.true (c.pushes.invariant.talk limits reader told i) c.turn-turned.result Rest (turn.adds told.2) (turn.stopping told.2) (turn.told told.2)
-    (c.in-Rest.ensures.told told.1))
+    let before = c.pushes.invariant in
+    record {
+      talk = λ limits reader told i.
+          moved limits c.deliver.ensures.pieces refl refl refl
+          (next_went limits (g.D.Desk.seen c.turn-turned.new.self) c.args.number _ _ _ _ _ reader c.pushes.sent c.pushes-test.true (before.talk limits reader told i) c.turn-turned.result Rest (turn.adds told.2) (turn.stopping told.2) (turn.told told.2)
+          (c.in-Rest.ensures.told told.1));
+      here = λ tells. next_here c.args.number _ _ c.turn-turned.result (before.here tells) (turn.adds tells);
+      warned = λ written. tt;
+      cause = tt;
+      write_faults = omega (arith, c.deliver.ensures.write_faults, c.pushes.invariant.write_faults);
+      read_faults = omega (arith, c.deliver.ensures.read_faults, c.pushes.invariant.read_faults);
+      pieces = c.deliver.ensures.pieces ∙ before.pieces;
+      left = c.deliver.ensures.left ∙ before.left;
+      number = turn.number ∙ before.number;
+      wanted = turn.wanted ∙ before.wanted;
+      leads = g.met.D.Desk.goes_on _ _ _ before.leads turn.leads;
+    }
 
-pub returns-in-Rest-clause-here : goal.returns-in-Rest-clause-here
-returns-in-Rest-clause-here g c = λ tells. next_here c.args.number _ _ c.turn-turned.result (c.pushes.invariant.here tells) (c.turn-turned.ensures.adds tells)
-
-pub returns-in-Over-clause-talk : goal.returns-in-Over-clause-talk
-returns-in-Over-clause-talk g c = λ limits reader told i.
+pub returns-in-Over : goal.returns-in-Over
+returns-in-Over g c =
     let turn = c.turn-turned.ensures in
-    let seen = g.D.Desk.seen c.turn-turned.new.self in
-    over_same limits (has_stop seen) _ _ _ _ c.in-Over.ended c.in-Over.ended c.deliver.ensures.pieces refl
-    (next_went limits seen c.args.number _ _ _ _ _ reader c.pushes.sent c.pushes-test.true (c.pushes.invariant.talk limits reader told i) c.turn-turned.result (Over c.in-Over.ended) (turn.adds told.2) (turn.stopping told.2) (turn.told told.2)
-    (c.in-Over.ensures.told told.1))
+    let before = c.pushes.invariant in
+    record {
+      talk = λ limits reader told i.
+          let seen = g.D.Desk.seen c.turn-turned.new.self in
+          over_same limits (has_stop seen) _ _ _ _ c.in-Over.ended c.in-Over.ended c.deliver.ensures.pieces refl
+          (next_went limits seen c.args.number _ _ _ _ _ reader c.pushes.sent c.pushes-test.true (before.talk limits reader told i) c.turn-turned.result (Over c.in-Over.ended) (turn.adds told.2) (turn.stopping told.2) (turn.told told.2)
+          (c.in-Over.ensures.told told.1));
+      here = λ tells. next_here c.args.number _ _ c.turn-turned.result (before.here tells) (turn.adds tells);
+      warned = λ written. warned_since (Some c.in-Over.ended) _ _ _ _ before.write_faults (c.in-Over.ensures.warned written);
+      cause = cause_since (Some c.in-Over.ended) _ _ _ before.write_faults c.in-Over.ensures.cause;
+      write_faults = omega (arith, c.deliver.ensures.write_faults, c.pushes.invariant.write_faults);
+      read_faults = omega (arith, c.deliver.ensures.read_faults, c.pushes.invariant.read_faults);
+      pieces = c.deliver.ensures.pieces ∙ before.pieces;
+      left = c.deliver.ensures.left ∙ before.left;
+      number = turn.number ∙ before.number;
+      wanted = turn.wanted ∙ before.wanted;
+      leads = g.met.D.Desk.goes_on _ _ _ before.leads turn.leads;
+    }
 
-pub returns-in-Over-clause-here : goal.returns-in-Over-clause-here
-returns-in-Over-clause-here g c = λ tells. next_here c.args.number _ _ c.turn-turned.result (c.pushes.invariant.here tells) (c.turn-turned.ensures.adds tells)
-
-pub returns-clause-talk : goal.returns-clause-talk
-returns-clause-talk g c = λ limits reader told i. spent_talk limits c.pushes.sent (c.pushes.invariant.talk limits reader told i) (omega (arith, c.pushes.invariant.sent, c.pushes-test.false))
-
-pub returns-in-Over-clause-warned : goal.returns-in-Over-clause-warned
-returns-in-Over-clause-warned g c = λ written. warned_since (Some c.in-Over.ended) _ _ _ _ c.pushes.invariant.write_faults (c.in-Over.ensures.warned written)
+pub returns : goal.returns
+returns g c =
+    let all = c.pushes.invariant in
+    record {
+      talk = λ limits reader told i. spent_talk limits c.pushes.sent (all.talk limits reader told i) (omega (arith, c.pushes.invariant.sent, c.pushes-test.false));
+      here = all.here;
+      warned = λ written. tt;
+      cause = tt;
+      write_faults = all.write_faults;
+      read_faults = all.read_faults;
+      pieces = all.pieces;
+      left = all.left;
+      number = all.number;
+      wanted = all.wanted;
+      leads = all.leads;
+    }

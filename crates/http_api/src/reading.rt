@@ -75,9 +75,11 @@ pub(crate) fn read_request<R: Wait, K: Conn, D: Desk>(
 fn new_intake(alloc: Global, limit: u32) -> Result<Intake, Memory>
     ensures { IfOk result (λ intake. (intake.reader ≡ record { limit = limit; bytes = [] }) × (intake.begun ≡ false)) }
 {
+    let reader = RequestReader::new(alloc, limit)?;
+    let piece = vec![in alloc; 0u8; LONGEST_PIECE]?;
     Ok(Intake {
-        reader: RequestReader::new(alloc, limit)?,
-        piece: vec![in alloc; 0u8; LONGEST_PIECE]?,
+        reader,
+        piece,
         begun: false,
     })
 }

@@ -46,7 +46,9 @@ fn list_names<R: Wait, D: Desk>(
     ensures leads { D.leads desk.old desk.new }
 {
     let turned = desk.turn(rt, alloc, number, Call::Names);
-    if !is_listing(&turned) {
+    let listing = is_listing(&turned);
+    let_go(turned);
+    if !listing {
         return Err(Memory);
     }
     Ok(())
@@ -61,10 +63,13 @@ pub(crate) fn tick<R: Wait, D: Desk>(rt: &R, alloc: Global, number: u64, desk: &
     ensures leads { D.leads desk.old desk.new }
 {
     let turned = desk.turn(rt, alloc, number, Call::Tick);
-    if is_wanting(&turned) {
+    let wanting = is_wanting(&turned);
+    let stopping = is_stopping(&turned);
+    let_go(turned);
+    if wanting {
         return Ticked::Memory;
     }
-    if !is_stopping(&turned) {
+    if !stopping {
         return Ticked::Goes;
     }
     match list_names(rt, alloc, number, desk) {
@@ -114,7 +119,9 @@ pub(crate) fn stop<R: Wait, D: Desk>(
     ensures leads { D.leads desk.old desk.new }
 {
     let turned = desk.turn(rt, alloc, number, Call::Stop);
-    if !is_stopping(&turned) {
+    let stopping = is_stopping(&turned);
+    let_go(turned);
+    if !stopping {
         return Err(Memory);
     }
     list_names(rt, alloc, number, desk)
@@ -140,3 +147,6 @@ fn is_wanting(turned: &Turned) -> bool
 {
     matches!(turned, Turned::Memory)
 }
+
+/// Lets go what a turn answers, once it was looked at.
+fn let_go(_turned: Turned) {}

@@ -1,7 +1,8 @@
 -- What a request asks can be asked.
-use Rattle.std.proofs.Common.{◌≡◌, ℕ, zero, suc, ◌+◌, ◌*◌, ◌<◌, ◌≤◌, ◌==◌, ◌||◌, nat_lt, nat_le, Bool, true, false, cond, List, [], ◌∷◌, length, drop, codes, Option, Some, None, Result, Ok, Err, IfOk, refl, sym, ap, subst, arith, length-take, inl}
+use Rattle.std.proofs.Common.{◌≡◌, ℕ, zero, suc, ◌+◌, ◌*◌, ◌<◌, ◌≤◌, ◌==◌, ◌||◌, nat_lt, nat_le, not, Bool, true, false, cond, List, [], ◌∷◌, length, drop, codes, Option, Some, None, Result, Ok, Err, IfOk, refl, sym, ap, subst, arith, length-take, inl}
 use Rattle.std.specs.Prelude.{ℤ, pos, negsuc}
 use Rattle.std.specs.List.{AllByRecursion, list_all}
+use Rattle.std.specs.Str.{bytes_eq}
 use Rattle.std.proofs.lemmas.Bool.{leb-true, and_parts, or_parts}
 use Rattle.std.proofs.lemmas.Bool.Decides.{nat_tests}
 use Rattle.nsq_base.specs.declared.options.Options.{Options}
@@ -20,7 +21,8 @@ use Rattle.http_calls.specs.declared.route.Verb.TheVariants as verb
 use Rattle.http_calls.specs.Arguments.{unless, argument_of, topic_in, names_in, optional_names_in}
 use Rattle.http_calls.specs.Delay.{delay_by, delay_in, number_in}
 use Rattle.http_calls.specs.Messages.{message_in, lines_of, lines_in, size_at, message_size_in, messages_in, batch_in, is_binary, messages_of}
-use Rattle.http_calls.specs.Calls.{ask_of, asks, format_in, stats_in, publish_in, publish_many_in, on_topic_in, on_channel_in, called, CanBeAsked, HasStatus}
+use Rattle.http_calls.specs.Calls.{ask_of, asks, format_in, stats_in, publish_in, publish_many_in, on_topic_in, on_channel_in, called, is_served, judged, call_for, CanBeAsked, HasStatus}
+use Rattle.http_calls.specs.Routes.{route_at, method_of}
 
 -- what the judgements give, where they refuse nothing
 given : {X Y : Type 0} (P : X → Type 0) (Q : Y → Type 0) (found : Result X Refusal) (next : X → Result Y Refusal) → IfOk found P → ((x : X) → P x → IfOk (next x) Q) → IfOk (unless found next) Q
@@ -179,10 +181,15 @@ called_can o ir began r (route.OnTopic v) = asks_can (on_topic_in v r) (topic_ca
 called_can o ir began r (route.OnChannel v) = asks_can (on_channel_in v r) (channel_can v r)
 called_can o ir began r route.Stop = tt
 
--- what a call that is served asks can be asked
-pub all_can : {E : Type 0} (o : Options) → IsInRange o → (began : ℕ) (r : Request) (named : Route) (found : Result HttpCall E) → IfOk found (λ call. call ≡ called o began r named) → IfOk found CanBeAsked
-all_can o ir began r named (Ok call) is = subst CanBeAsked (sym is) (called_can o ir began r named)
-all_can o ir began r named (Err e) is = tt
+judged_can : (o : Options) → IsInRange o → (began : ℕ) (r : Request) (named : Option Route) → CanBeAsked (judged o began r named)
+judged_can o ir began r None = tt
+judged_can o ir began r (Some named) =
+    either CanBeAsked (not (is_served o named)) _ _ tt (either CanBeAsked (not (bytes_eq r.method (method_of named))) _ _ tt (called_can o ir began r named))
+
+-- what a request asks can be asked
+pub all_can : {E : Type 0} (o : Options) → IsInRange o → (began : ℕ) (r : Request) (found : Result HttpCall E) → IfOk found (λ call. call ≡ call_for o began r) → IfOk found CanBeAsked
+all_can o ir began r (Ok call) is = subst CanBeAsked (sym is) (judged_can o ir began r (route_at r.path))
+all_can o ir began r (Err e) is = tt
 
 asks_status : (found : Result Ask Refusal) → HasStatus (asks found)
 asks_status (Ok a) = tt
@@ -198,7 +205,12 @@ called_status o began r (route.OnTopic v) = asks_status (on_topic_in v r)
 called_status o began r (route.OnChannel v) = asks_status (on_channel_in v r)
 called_status o began r route.Stop = tt
 
--- what a call that is served is answered at once has a status
-pub all_status : {E : Type 0} (o : Options) (began : ℕ) (r : Request) (named : Route) (found : Result HttpCall E) → IfOk found (λ call. call ≡ called o began r named) → IfOk found HasStatus
-all_status o began r named (Ok call) is = subst HasStatus (sym is) (called_status o began r named)
-all_status o began r named (Err e) is = tt
+judged_status : (o : Options) (began : ℕ) (r : Request) (named : Option Route) → HasStatus (judged o began r named)
+judged_status o began r None = tt
+judged_status o began r (Some named) =
+    either HasStatus (not (is_served o named)) _ _ tt (either HasStatus (not (bytes_eq r.method (method_of named))) _ _ tt (called_status o began r named))
+
+-- what a request is answered at once has a status
+pub all_status : {E : Type 0} (o : Options) (began : ℕ) (r : Request) (found : Result HttpCall E) → IfOk found (λ call. call ≡ call_for o began r) → IfOk found HasStatus
+all_status o began r (Ok call) is = subst HasStatus (sym is) (judged_status o began r (route_at r.path))
+all_status o began r (Err e) is = tt

@@ -1,6 +1,9 @@
-ghost use Rattle.std.specs.Prelude.{◌≡◌, IfOk};
+ghost use Rattle.std.specs.Prelude.{◌≡◌, IfOk, codes};
 ghost use Rattle.nsq_base.specs.Options.{IsInRange};
+ghost use Rattle.http_calls.specs.declared.call.HttpCall.TheVariants.{Answered};
+ghost use Rattle.http_calls.specs.Answers.{text_answer, json_answer};
 ghost use Rattle.http_calls.specs.Calls.{asks, is_served, called, call_for, CanBeAsked, HasStatus};
+ghost use Rattle.http_calls.specs.Info.{info_text};
 
 use crate::answer::{json_answer, text_answer};
 use crate::bytes::same;
@@ -28,6 +31,20 @@ pub fn call_of(
     ensures can_be_asked { IfOk result CanBeAsked }
     ensures status { IfOk result HasStatus }
 {
+    let mut request = request;
+    judged(alloc, options, began, &mut request)
+}
+
+/// The same of a request that is lent, whose body may be taken out of it.
+fn judged(
+    alloc: Global,
+    options: &Options,
+    began: u64,
+    request: &mut Request,
+) -> Result<HttpCall, Memory>
+    requires { IsInRange options.now }
+    ensures { IfOk result (λ call. call ≡ call_for options.now began request.old) }
+{
     let Some(route) = route_of(request.path.bytes()) else {
         return Ok(HttpCall::Refused(Refusal::NotFound));
     };
@@ -37,8 +54,7 @@ pub fn call_of(
     if !same(request.method.bytes(), route.method()) {
         return Ok(HttpCall::Refused(Refusal::MethodNotAllowed));
     }
-    let mut request = request;
-    called(alloc, options, began, route, &mut request)
+    called(alloc, options, began, route, request)
 }
 
 /// Whether the call is served: a stop only where the options say so.
@@ -63,8 +79,8 @@ fn called(
     ensures { IfOk result (λ call. call ≡ called options.now began request.old route) }
 {
     match route {
-        Route::Ping => Ok(HttpCall::Answered(text_answer(alloc, b"OK")?)),
-        Route::Info => Ok(HttpCall::Answered(json_answer(info_text(alloc, options, began)?))),
+        Route::Ping => answer_ping(alloc),
+        Route::Info => answer_info(alloc, options, began),
         Route::Stats => Ok(asks(stats_in(request))),
         Route::Publish => publish(alloc, options, request),
         Route::PublishMany => publish_many(alloc, options, request),
@@ -72,6 +88,23 @@ fn called(
         Route::OnChannel(verb) => Ok(asks(on_channel_in(verb, request))),
         Route::Stop => Ok(HttpCall::Stops),
     }
+}
+
+/// The answer of `/ping`.
+fn answer_ping(alloc: Global) -> Result<HttpCall, Memory>
+    ensures { IfOk result (λ call. call ≡ Answered (text_answer (codes "OK"))) }
+{
+    let answer = text_answer(alloc, b"OK")?;
+    Ok(HttpCall::Answered(answer))
+}
+
+/// The answer of `/info`.
+fn answer_info(alloc: Global, options: &Options, began: u64) -> Result<HttpCall, Memory>
+    requires { IsInRange options.now }
+    ensures { IfOk result (λ call. call ≡ Answered (json_answer (info_text options.now began))) }
+{
+    let text = info_text(alloc, options, began)?;
+    Ok(HttpCall::Answered(json_answer(text)))
 }
 
 /// What is asked, unless it is refused.

@@ -1,5 +1,5 @@
 /// How an HTTP connection ended.
-#[derive(Clone, Copy, Debug, PartialEq, Eq)]
+#[derive(Clone, Copy, PartialEq, Eq)]
 pub enum EndedHttp {
     /// The answer was written whole.
     Answered,

@@ -1,3 +1,4 @@
+use crate::bytes::{cut, same};
 use std::str::from_utf8;
 
 /// The most fields of a head.
@@ -81,23 +82,13 @@ fn without_return(line: &[u8]) -> &[u8] {
 
 /// A head of which this is the first line: a method, a target and a version, parted by single spaces.
 fn start_line(line: &[u8]) -> Option<Head<'_>> {
-    let mut words = line.split(|byte| *byte == b' ');
-    let (Some(method), Some(target), Some(version), None) = (
-        words.next(),
-        words.next(),
-        words.next(),
-        words.next(),
-    ) else {
+    let Some((method, rest)) = cut(line, b' ') else {
         return None;
     };
-    let versioned = matches!(version, b"HTTP/1.0" | b"HTTP/1.1");
-    let visible = target.iter().all(|byte| *byte > b' ' && *byte != 127);
-    if !is_token(method)
-        || target.is_empty()
-        || !visible
-        || from_utf8(target).is_err()
-        || !versioned
-    {
+    let Some((target, version)) = cut(rest, b' ') else {
+        return None;
+    };
+    if !is_token(method) || !is_target(target) || !is_version(version) {
         return None;
     }
     Some(Head {
@@ -110,14 +101,27 @@ fn start_line(line: &[u8]) -> Option<Head<'_>> {
     })
 }
 
+/// Whether the bytes are a target: one byte at least, in UTF-8, and no control bytes or spaces.
+fn is_target(bytes: &[u8]) -> bool {
+    for byte in bytes {
+        if *byte <= b' ' || *byte == 127 {
+            return false;
+        }
+    }
+    !bytes.is_empty() && from_utf8(bytes).is_ok()
+}
+
+/// Whether the bytes are a version.
+fn is_version(bytes: &[u8]) -> bool {
+    same(bytes, b"HTTP/1.0") || same(bytes, b"HTTP/1.1")
+}
+
 /// The head with one more field: a name, a colon, and a value that may have white space round it.
 fn with_field<'a>(head: Head<'a>, line: &'a [u8]) -> Option<Head<'a>> {
-    let mut parts = line.splitn(2, |byte| *byte == b':');
-    let (Some(name), Some(value)) = (parts.next(), parts.next()) else {
+    let Some((name, value)) = cut(line, b':') else {
         return None;
     };
-    let clean = value.iter().all(|byte| is_value_byte(*byte));
-    if !is_token(name) || !clean || head.fields >= MOST_FIELDS {
+    if !is_token(name) || !is_value(value) || head.fields >= MOST_FIELDS {
         return None;
     }
     let mut head = head;
@@ -128,6 +132,16 @@ fn with_field<'a>(head: Head<'a>, line: &'a [u8]) -> Option<Head<'a>> {
     }
     head.coded = head.coded || name.eq_ignore_ascii_case(b"transfer-encoding");
     Some(head)
+}
+
+/// Whether all bytes may stand in a value.
+fn is_value(bytes: &[u8]) -> bool {
+    for byte in bytes {
+        if !is_value_byte(*byte) {
+            return false;
+        }
+    }
+    true
 }
 
 /// A tab, or any byte but the control bytes.
@@ -150,7 +164,12 @@ fn trimmed(value: &[u8]) -> &[u8] {
 
 /// Whether the bytes are a token: one byte at least, each a letter, a digit or one of fifteen signs.
 fn is_token(bytes: &[u8]) -> bool {
-    !bytes.is_empty() && bytes.iter().all(|byte| is_token_byte(*byte))
+    for byte in bytes {
+        if !is_token_byte(*byte) {
+            return false;
+        }
+    }
+    !bytes.is_empty()
 }
 
 /// Whether a byte may stand in a token.

@@ -4,6 +4,7 @@
 //! queries. Nothing is claimed of it by a contract; rows and random heads hold the reader and this one side by side.
 #![tactic(auto)]
 
+mod bytes;
 mod head;
 mod plain;
 mod query;

@@ -1,3 +1,4 @@
+use crate::bytes::halves;
 use crate::head::{Head, head_end, read_head};
 use crate::query::read_query;
 use http_wire::Request;
@@ -8,7 +9,7 @@ use std::alloc::Global;
 const LONGEST_HEAD: usize = 16384;
 
 /// What all bytes so far are.
-#[derive(Debug, PartialEq, Eq, Drop)]
+#[derive(PartialEq, Eq, Drop)]
 pub enum Plain {
     /// A request, and perhaps bytes behind it.
     Whole(Request),
@@ -62,14 +63,27 @@ fn with_head(alloc: Global, limit: u32, head: &Head, behind: &[u8]) -> Result<Pl
 
 /// The request of a head and a body.
 fn whole(alloc: Global, head: &Head, body: &[u8]) -> Result<Request, Memory> {
-    let mut parts = head.target.splitn(2, |byte| *byte == b'?');
-    let path = parts.next().unwrap_or(b"");
-    let query = parts.next().unwrap_or(b"");
+    let (path, query) = halves(head.target, b'?');
+    let method = Body::copy(alloc, head.method)?;
+    let path = Body::copy(alloc, path)?;
+    made_request(alloc, method, path, query, body)
+}
+
+/// The request of a method, a path, and what it has behind these.
+fn made_request(
+    alloc: Global,
+    method: Body,
+    path: Body,
+    query: &[u8],
+    body: &[u8],
+) -> Result<Request, Memory> {
+    let query = read_query(alloc, query)?;
+    let body = Body::copy(alloc, body)?;
     Ok(Request {
-        method: Body::copy(alloc, head.method)?,
-        path: Body::copy(alloc, path)?,
-        query: read_query(alloc, query)?,
-        body: Body::copy(alloc, body)?,
+        method,
+        path,
+        query,
+        body,
     })
 }
 

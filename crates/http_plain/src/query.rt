@@ -1,3 +1,4 @@
+use crate::bytes::halves;
 use nsq_base::{Body, Memory, Pair, Pairs};
 use std::alloc::Global;
 
@@ -14,13 +15,10 @@ pub(crate) fn read_query(alloc: Global, query: &[u8]) -> Result<Pairs, Memory> {
 
 /// A pair, parted at its first equals sign.
 fn read_pair(alloc: Global, part: &[u8]) -> Result<Pair, Memory> {
-    let mut sides = part.splitn(2, |byte| *byte == b'=');
-    let name = sides.next().unwrap_or(b"");
-    let value = sides.next().unwrap_or(b"");
-    Ok(Pair {
-        name: decoded(alloc, name)?,
-        value: decoded(alloc, value)?,
-    })
+    let (name, value) = halves(part, b'=');
+    let name = decoded(alloc, name)?;
+    let value = decoded(alloc, value)?;
+    Ok(Pair { name, value })
 }
 
 /// The text that a name or a value stands for.

@@ -4,5 +4,6 @@ pub mod SearchLemmas
 pub mod FieldLemmas
 pub mod ArgumentLemmas
 pub mod AnswerLemmas
+pub mod AppendLemmas
 pub mod RequestLemmas
 pub mod FindLemmas

@@ -1,4 +1,4 @@
-ghost use Rattle.std.specs.Prelude.{◌≡◌, ◌++◌, flat_map, OnOk, OnErr};
+ghost use Rattle.std.specs.Prelude.{◌≡◌, ◌++◌, flat_map, length, take, OnOk, OnErr};
 
 use nsq_base::Memory;
 
@@ -8,17 +8,31 @@ pub(crate) fn append_all(out: &mut Vec<u8>, parts: &[&[u8]]) -> Result<(), Memor
     ensures ok { OnOk result (out.new.items ≡ out.old.items ++ flat_map (λ part. part.now) parts.now) }
     ensures err { OnErr result (out.new.items ≡ out.old.items) }
 {
-    let mut more: usize = 0;
-    for part in parts {
-        more = more.saturating_add(part.len());
-    }
-    out.reserve(more)?;
+    out.reserve(length_of(parts))?;
     let length = out.len();
+    if put_all(out, parts).is_err() {
+        out.truncate(length);
+        return Err(Memory);
+    }
+    Ok(())
+}
+
+/// How many bytes the parts have, or the most that are counted.
+fn length_of(parts: &[&[u8]]) -> usize {
+    let mut length: usize = 0;
+    for part in parts {
+        length = length.saturating_add(part.len());
+    }
+    length
+}
+
+/// Appends these parts, in order. After Memory the list is as before but for bytes behind it.
+fn put_all(out: &mut Vec<u8>, parts: &[&[u8]]) -> Result<(), Memory>
+    ensures ok { OnOk result (out.new.items ≡ out.old.items ++ flat_map (λ part. part.now) parts.now) }
+    ensures front { take (length out.old.items) out.new.items ≡ out.old.items }
+{
     'parts: for part in parts {
-        if out.extend_from_slice(part).is_err() {
-            out.truncate(length);
-            return Err(Memory);
-        }
+        out.extend_from_slice(part)?;
     }
     Ok(())
 }

@@ -58,10 +58,27 @@ fn copy_request(alloc: Global, head: &Head, body: &[u8]) -> Result<Request, Memo
     ensures { IfOk result (λ request. request ≡ record { method = head.now.method.now; path = path_of head.now.target.now; query = pairs_of (query_of head.now.target.now); body = body.now }) }
 {
     let (path, query) = split_target(head.target);
+    let method = Body::copy(alloc, head.method)?;
+    let path = Body::copy(alloc, path)?;
+    made_request(alloc, method, path, query, body)
+}
+
+/// The request of a method, a path, and what it has behind these.
+fn made_request(
+    alloc: Global,
+    method: Body,
+    path: Body,
+    query: &[u8],
+    body: &[u8],
+) -> Result<Request, Memory>
+    ensures { IfOk result (λ request. request ≡ record { method = method; path = path; query = pairs_of query.now; body = body.now }) }
+{
+    let query = read_query(alloc, query)?;
+    let body = Body::copy(alloc, body)?;
     Ok(Request {
-        method: Body::copy(alloc, head.method)?,
-        path: Body::copy(alloc, path)?,
-        query: read_query(alloc, query)?,
-        body: Body::copy(alloc, body)?,
+        method,
+        path,
+        query,
+        body,
     })
 }

@@ -1,7 +1,7 @@
 use crate::Request;
 
 /// What a reader gives.
-#[derive(Debug, Drop)]
+#[derive(Drop)]
 pub enum GotRequest {
     /// The request.
     Whole(Request),

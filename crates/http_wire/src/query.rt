@@ -29,7 +29,7 @@ fn split_once(bytes: &[u8], separator: u8) -> (&[u8], &[u8])
 pub(crate) fn read_query(alloc: Global, query: &[u8]) -> Result<Pairs, Memory>
     ensures { IfOk result (λ pairs. pairs ≡ pairs_of query.now) }
 {
-    let mut pairs = Vec::new(alloc);
+    let mut pairs = Pairs::new(alloc);
     for pair in parse(alloc, query).into_owned() {
         let (name, value) = pair?;
         pairs.push(Pair {
@@ -37,5 +37,5 @@ pub(crate) fn read_query(alloc: Global, query: &[u8]) -> Result<Pairs, Memory>
             value: Body::of(value.into_bytes()),
         })?;
     }
-    Ok(Pairs::of(pairs))
+    Ok(pairs)
 }

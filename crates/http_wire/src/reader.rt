@@ -1,5 +1,7 @@
-ghost use Rattle.std.specs.Prelude.{◌≡◌, ◌++◌, [], IsOkAnd, OnOk, OnErr};
+ghost use Rattle.std.specs.Prelude.{◌≡◌, ◌++◌, [], ℕ, List, IsOkAnd, OnOk, OnErr};
+ghost use Rattle.http_wire.specs.Finding.{Finds};
 ghost use Rattle.http_wire.specs.Reading.{Gives};
+ghost use Rattle.http_wire.specs.Remembering.{Waits};
 
 use crate::GotRequest;
 use crate::found::{Found, find};
@@ -77,16 +79,25 @@ impl RequestReader {
             }
             return GotRequest::BadHead;
         };
-        match find(self.alloc, self.limit, &self.bytes, end) {
-            Found::Whole(request) => GotRequest::Whole(request),
-            Found::Open(needed) => {
-                self.needed = needed;
-                GotRequest::More
-            }
-            Found::BadHead => GotRequest::BadHead,
-            Found::NoLength => GotRequest::NoLength,
-            Found::TooBig => GotRequest::TooBig,
-            Found::Memory => GotRequest::Memory,
+        let found = find(self.alloc, self.limit, &self.bytes, end);
+        given(found, &mut self.needed)
+    }
+}
+
+/// What is given for what was found. How many bytes a body needs that isn't whole is kept.
+fn given(found: Found, needed: &mut usize) -> GotRequest
+    ensures given { (limit : ℕ) (bytes : List ℕ) → Finds limit bytes found → Gives limit bytes result }
+    ensures waits { (limit : ℕ) (bytes : List ℕ) → Finds limit bytes found → Waits limit bytes needed.old → Waits limit bytes needed.new }
+{
+    match found {
+        Found::Whole(request) => GotRequest::Whole(request),
+        Found::Open(more) => {
+            *needed = more;
+            GotRequest::More
         }
+        Found::BadHead => GotRequest::BadHead,
+        Found::NoLength => GotRequest::NoLength,
+        Found::TooBig => GotRequest::TooBig,
+        Found::Memory => GotRequest::Memory,
     }
 }

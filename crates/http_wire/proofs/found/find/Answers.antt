@@ -3,7 +3,7 @@ use Rattle.std.proofs.lemmas.List.{take_rest, length-drop}
 use Rattle.http_wire.specs.Target.{path_of, query_of, pairs_of}
 use Rattle.http_wire.specs.declared.request.Request.{Request}
 use Rattle.http_wire.proofs.HeadLemmas.{EndsAt_take}
-use Rattle.http_wire.proofs.FindLemmas.{bad_head, too_big, open_body, whole}
+use Rattle.http_wire.proofs.FindLemmas.{bad_head, no_length, too_big, open_body, whole}
 use Rattle.http_wire.proofs.found.find.Goals as goal
 
 pub read_head-requires : goal.read_head-requires
@@ -11,6 +11,9 @@ read_head-requires c = EndsAt_take c.args.bytes.now c.args.end c.requires.ends
 
 pub returns-in_default : goal.returns-in_default
 returns-in_default c = bad_head c.args.bytes.now c.args.end c.requires.ends c.in_default.ensures
+
+pub returns-then-head : goal.returns-then-head
+returns-then-head c = no_length c.args.bytes.now c.args.end c.in-Some.head c.requires.ends c.requires.within c.in-Some.ensures c.if-head.true
 
 pub returns-then-head-from : goal.returns-then-head-from
 returns-then-head-from c =

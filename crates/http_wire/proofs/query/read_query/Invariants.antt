@@ -4,4 +4,4 @@ use Rattle.http_wire.specs.Target.{pair_of, pairs_of}
 use Rattle.http_wire.proofs.query.read_query.Given as goal
 
 abbrev pub invariant-loop-pair : goal.invariant-loop-pair
-invariant-loop-pair l = l.pairs.items ++ map pair_of (owned_pairs_left l.pair-iterator) ≡ pairs_of l.query
+invariant-loop-pair l = l.pairs ++ map pair_of (owned_pairs_left l.pair-iterator) ≡ pairs_of l.query

@@ -1,4 +1,4 @@
-use Rattle.std.proofs.Common.{◌<◌, ◌≤◌, length, ap, arith}
+use Rattle.std.proofs.Common.{◌<◌, ◌≤◌, length, refl, ap, arith}
 use Rattle.http_wire.proofs.FindLemmas.{next_open, next_endless, remembers, waits_now}
 use Rattle.http_wire.proofs.reader.RequestReader.next.Goals as goal
 
@@ -21,7 +21,24 @@ returns-in_default-clause-given c =
     let size : 16384 ≤ length i.bytes.items = omega (arith, c.if-len-lt-LONGEST_HEAD.false, c.len-in_default.ensures, c.deref.ensures.len, ap length c.deref.ensures.value) in
     rw (← c.self.view_is) (next_endless c.deref.result.now i.bytes.items c.deref.ensures.value size none)
 
-pub invariant_of-self-in-Open : goal.invariant_of-self-in-Open
-invariant_of-self-in-Open c =
+pub returns-clause-given : goal.returns-clause-given
+returns-clause-given c =
     let i = c.self.inside in
-    remembers i.limit c.deref.result.now c.deref-2.result.now i.bytes.items c.find_end-end.result.0 c.in-Open.needed c.deref.ensures.value c.deref-2.ensures.value c.find_end-end.ensures.searched c.in-Open.ensures.1
+    let found = rw c.deref-2.ensures.value at c.find-found.ensures in
+    rw (← c.self.view_is) (c.given.ensures.given i.limit i.bytes.items found)
+
+pub invariant_of-self : goal.invariant_of-self
+invariant_of-self c =
+    let i = c.self.inside in
+    remembers i.limit c.deref.result.now i.bytes.items i.bytes.items c.find_end-end.result.0 i.needed c.deref.ensures.value refl c.find_end-end.ensures.searched c.self.invariant.waits
+
+pub invariant_of-self-in_default : goal.invariant_of-self-in_default
+invariant_of-self-in_default c =
+    let i = c.self.inside in
+    remembers i.limit c.deref.result.now i.bytes.items i.bytes.items c.find_end-end.result.0 i.needed c.deref.ensures.value refl c.find_end-end.ensures.searched c.self.invariant.waits
+
+pub invariant_of-self-2 : goal.invariant_of-self-2
+invariant_of-self-2 c =
+    let i = c.self.inside in
+    let found = rw c.deref-2.ensures.value at c.find-found.ensures in
+    remembers i.limit c.deref.result.now i.bytes.items i.bytes.items c.find_end-end.result.0 c.given.new.needed c.deref.ensures.value refl c.find_end-end.ensures.searched (c.given.ensures.waits i.limit i.bytes.items found c.self.invariant.waits)

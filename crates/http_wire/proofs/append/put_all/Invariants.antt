@@ -1,5 +1,5 @@
 use Rattle.std.proofs.Common.{◌≡◌, ◌++◌, flat_map, take}
-use Rattle.http_wire.proofs.append.append_all.Given as goal
+use Rattle.http_wire.proofs.append.put_all.Given as goal
 
 -- the parts so far stand behind what was there
 abbrev pub invariant-parts : goal.invariant-parts

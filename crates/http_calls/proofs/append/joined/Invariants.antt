@@ -1,6 +1,0 @@
-use Rattle.std.proofs.Common.{◌≡◌, flat_map, take}
-use Rattle.http_calls.proofs.append.joined.Given as goal
-
--- the parts so far
-abbrev pub invariant-parts : goal.invariant-parts
-invariant-parts l = l.text.items ≡ flat_map (λ part. part.now) (take l.part-index l.parts)

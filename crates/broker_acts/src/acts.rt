@@ -1,5 +1,5 @@
-use crate::commands::{did, publish, sent, with_one};
-use crate::moves::{moved, one, one_made, same};
+use crate::commands::{did, only, publish, sent};
+use crate::moves::{moved_or, one_made, put_made, same};
 use broker_changes::state::{deleted, deleted_first, emptied, gone, made, set_paused};
 use broker_history::{Act, Ask, Entry, Said};
 use broker_plain::{Phase, default_heartbeat};
@@ -12,57 +12,69 @@ use v2_frame::{Frame, FrameKind};
 /// The states that the act of an entry with this end leads to (`DoesAct`), at the old moment. Want of memory is the only error. It has no
 /// contract: it is a second reading of the definitions by hand.
 pub fn acted(alloc: Global, state: &State, entry: &Entry, end: End) -> Result<Vec<State>, Memory> {
-    match &entry.act {
-        Act::Began => begun(alloc, state, entry.at, entry.conn),
+    by_act(alloc, state, entry.at, entry.conn, &entry.act, end)
+}
+
+// The same of an act at a moment, of the connection of this number.
+fn by_act(
+    alloc: Global,
+    state: &State,
+    at: u64,
+    number: u64,
+    act: &Act,
+    end: End,
+) -> Result<Vec<State>, Memory> {
+    match act {
+        Act::Began => one_made(alloc, begun(alloc, state, at, number)),
         Act::Did(command, given) => {
-            let kept_off = is_kept_off(given, end);
-            did(alloc, state, entry.at, entry.conn, command, kept_off)
+            did(alloc, state, at, number, command, is_kept_off(given, end))
         }
-        Act::Sent(message) => sent(alloc, state, entry.at, entry.conn, message),
-        Act::Beat => beaten(alloc, state, entry.at, entry.conn),
-        Act::Gone => left(alloc, state, entry.conn),
-        Act::Asked(ask, said) => asked(alloc, state, entry.at, ask, said, end),
-        Act::Stop => stopped(alloc, state),
-        Act::Took(..)
-        | Act::Copied(..)
-        | Act::TimedOut(..)
-        | Act::CameDue(..)
-        | Act::HeldBack(..) => by_move(alloc, state, entry, end),
-        _ => same(alloc, state),
+        Act::Sent(message) => sent(alloc, state, at, number, message),
+        Act::Beat => beaten(alloc, state, at, number),
+        Act::Gone => one_made(alloc, left(alloc, state, number)),
+        Act::Asked(ask, said) => asked(alloc, state, at, ask, said, end),
+        Act::Stop => one_made(alloc, stopped(alloc, state)),
+        _ => by_move(alloc, state, at, act, end),
     }
 }
 
 // The state after a client went.
-fn left(alloc: Global, state: &State, number: u64) -> Result<Vec<State>, Memory> {
-    one_made(alloc, gone(alloc, state.copy(alloc)?, number))
+fn left(alloc: Global, state: &State, number: u64) -> Result<State, Memory> {
+    gone(alloc, state.copy(alloc)?, number)
 }
 
 // The state after a stop.
-fn stopped(alloc: Global, state: &State) -> Result<Vec<State>, Memory> {
+fn stopped(alloc: Global, state: &State) -> Result<State, Memory> {
     let mut state = state.copy(alloc)?;
     state.stopped = true;
-    one(alloc, state)
+    Ok(state)
 }
 
-// The states that a move leads to (`DoesMoveTo`): one that met a disk fault changes nothing.
-fn by_move(alloc: Global, state: &State, entry: &Entry, end: End) -> Result<Vec<State>, Memory> {
+// The states that a move leads to (`DoesMoveTo`): one that met a disk fault changes nothing, nor does any other act.
+fn by_move(
+    alloc: Global,
+    state: &State,
+    at: u64,
+    act: &Act,
+    end: End,
+) -> Result<Vec<State>, Memory> {
     match end {
-        End::Done => moved(alloc, state, entry.at, &entry.act),
+        End::Done => moved_or(alloc, state, at, act, true),
         End::Faulted(_) | End::Skip => same(alloc, state),
     }
 }
 
 // The state with a client that began (`begun`): its heartbeat is on, and its time for a message is the option's.
-fn begun(alloc: Global, state: &State, at: u64, number: u64) -> Result<Vec<State>, Memory> {
+fn begun(alloc: Global, state: &State, at: u64, number: u64) -> Result<State, Memory> {
     let state = with_begun(alloc, state, number)?;
     let client = fresh(alloc, &state, at, number);
-    one_made(alloc, state.with_client(alloc, client))
+    state.with_client(alloc, client)
 }
 
 // The state in which a connection of this number began.
 fn with_begun(alloc: Global, state: &State, number: u64) -> Result<State, Memory> {
     let mut state = state.copy(alloc)?;
-    state.began.push(number)?;
+    put_made(&mut state.began, Ok(number))?;
     Ok(state)
 }
 
@@ -86,14 +98,19 @@ fn fresh(alloc: Global, state: &State, at: u64, number: u64) -> Client {
     }
 }
 
-// The state after a heartbeat, from which the client's next one counts.
+// The state after a heartbeat.
 fn beaten(alloc: Global, state: &State, at: u64, number: u64) -> Result<Vec<State>, Memory> {
-    let Some(client) = state.client_of(number) else {
-        return same(alloc, state);
-    };
+    match state.client_of(number) {
+        Some(client) => only(alloc, state, beating(alloc, client, at)),
+        None => same(alloc, state),
+    }
+}
+
+// A client that was sent a heartbeat, from which its next one counts.
+fn beating(alloc: Global, client: &Client, at: u64) -> Result<Client, Memory> {
     let mut client = client.copy(alloc)?;
     client.beat_from = at;
-    one_made(alloc, with_one(alloc, state, client))
+    Ok(client)
 }
 
 // Whether a command with this reply and end is kept from being carried out (`is_kept_off`): it was refused, or met a disk fault.

@@ -1,10 +1,10 @@
 ghost use Rattle.std.specs.Prelude.{◌↔◌, ◌+◌, ◌≤◌, ◌^◌, IsTrue};
 
-use crate::moves::{at_channel, one, one_made, room_of, same, standing};
+use crate::moves::{at_channel, one_made, room_of, same, standing};
 use broker_changes::channels::{counted, finishes, gives_back, sends, touches};
 use broker_changes::state::{made_channel, published};
 use broker_plain::{Identity, Phase, are_left, identity_of};
-use broker_state::{ChannelState, Client, Route, State, TopicState};
+use broker_state::{ChannelState, Client, Route, State, TopicState, copy_route};
 use nsq_base::{Body, Chan, Memory, MsgId, Topic};
 use std::alloc::Global;
 use v2_frame::{Command, Message};
@@ -22,7 +22,7 @@ pub(crate) fn did(
     let Some(client) = state.client_of(number) else {
         return Ok(Vec::new(alloc));
     };
-    let state = with_one(alloc, state, spoke(alloc, at, client)?)?;
+    let state = with_one(alloc, state, spoke(alloc, at, client))?;
     done(alloc, &state, at, number, command, kept_off)
 }
 
@@ -44,13 +44,22 @@ fn done(
     }
 }
 
-// The state with this client.
-pub(crate) fn with_one(alloc: Global, state: &State, client: Client) -> Result<State, Memory> {
+// The state with this client, where memory didn't want.
+pub(crate) fn with_one(
+    alloc: Global,
+    state: &State,
+    client: Result<Client, Memory>,
+) -> Result<State, Memory> {
+    let client = client?;
     state.copy(alloc)?.with_client(alloc, client)
 }
 
 // One state, with this client.
-fn only(alloc: Global, state: &State, client: Client) -> Result<Vec<State>, Memory> {
+pub(crate) fn only(
+    alloc: Global,
+    state: &State,
+    client: Result<Client, Memory>,
+) -> Result<Vec<State>, Memory> {
     one_made(alloc, with_one(alloc, state, client))
 }
 
@@ -104,23 +113,28 @@ fn identified(
 ) -> Result<Vec<State>, Memory> {
     match identity_of(alloc, &state.options, body.bytes())? {
         None => same(alloc, state),
-        Some(identity) => {
-            let client = known(alloc, client, at, identity)?;
-            only(alloc, state, client)
-        }
+        Some(identity) => only(alloc, state, Ok(known(client, at, identity))),
     }
 }
 
 // A client of whom this is known from a moment on.
-fn known(alloc: Global, client: &Client, at: u64, identity: Identity) -> Result<Client, Memory> {
-    let mut known = client.copy(alloc)?;
-    known.client_id = identity.client_id;
-    known.hostname = identity.hostname;
-    known.user_agent = identity.user_agent;
-    known.heartbeat = identity.heartbeat;
-    known.timeout = identity.timeout;
-    known.beat_from = at;
-    Ok(known)
+fn known(client: &Client, at: u64, identity: Identity) -> Client {
+    Client {
+        number: client.number,
+        phase: client.phase,
+        route: copy_route(&client.route),
+        ready: client.ready,
+        heartbeat: identity.heartbeat,
+        timeout: identity.timeout,
+        client_id: identity.client_id,
+        hostname: identity.hostname,
+        user_agent: identity.user_agent,
+        last_command: client.last_command,
+        beat_from: at,
+        finish_count: client.finish_count,
+        message_count: client.message_count,
+        requeue_count: client.requeue_count,
+    }
 }
 
 // The state after SUB.
@@ -131,7 +145,7 @@ fn subscribed(
     topic: &Topic,
     channel: &Chan,
 ) -> Result<Vec<State>, Memory> {
-    let client = subscriber(alloc, client, topic, channel)?;
+    let client = subscriber(alloc, client, topic, channel);
     let state = with_one(alloc, state, client)?;
     one_made(alloc, made_channel(alloc, state, topic, channel))
 }
@@ -161,7 +175,7 @@ fn publish_one(
     topic: &Topic,
     body: &Body,
 ) -> Result<Vec<State>, Memory> {
-    let bodies = one(alloc, Body::copy(alloc, body.bytes())?)?;
+    let bodies = one_made(alloc, Body::copy(alloc, body.bytes()))?;
     publish(alloc, state, at, delay, topic, &bodies)
 }
 
@@ -190,18 +204,23 @@ fn has_ids(used: u64, count: u64) -> bool
     are_left(used, count)
 }
 
-// The state after RDY, which a closing client gives in vain.
+// The state after RDY.
 fn readied(
     alloc: Global,
     state: &State,
     client: &Client,
     count: i64,
 ) -> Result<Vec<State>, Memory> {
+    only(alloc, state, ready(alloc, client, count))
+}
+
+// A client that gave RDY, in vain where it is closing.
+fn ready(alloc: Global, client: &Client, count: i64) -> Result<Client, Memory> {
     let mut client = client.copy(alloc)?;
     if client.phase == Phase::Subscribed {
         client.ready = count_of(count);
     }
-    only(alloc, state, client)
+    Ok(client)
 }
 
 // How many messages RDY asks for.
@@ -211,9 +230,53 @@ fn count_of(count: i64) -> u64 {
 
 // The state after CLS.
 fn closing(alloc: Global, state: &State, client: &Client) -> Result<Vec<State>, Memory> {
+    only(alloc, state, closed(alloc, client))
+}
+
+// A client that gave CLS.
+fn closed(alloc: Global, client: &Client) -> Result<Client, Memory> {
     let mut client = client.copy(alloc)?;
     client.phase = Phase::Closing;
-    only(alloc, state, client)
+    Ok(client)
+}
+
+// What is counted of a client.
+#[derive(Clone, Copy)]
+enum Counting {
+    // A message that it finished.
+    Finished,
+    // A message that it gave back.
+    GivenBack,
+    // A message that was sent to it.
+    Sent,
+    // Nothing.
+    Nothing,
+}
+
+// Counts this of the client of this number in each of these states.
+fn count_in_states(states: &mut Vec<State>, number: u64, what: Counting) {
+    for state in states {
+        count_in_clients(&mut state.clients, number, what);
+    }
+}
+
+// Counts this of the client of this number.
+fn count_in_clients(clients: &mut Vec<Client>, number: u64, what: Counting) {
+    for client in clients {
+        if client.is_numbered(number) {
+            count(client, what);
+        }
+    }
+}
+
+// Counts this of a client.
+fn count(client: &mut Client, what: Counting) {
+    match what {
+        Counting::Finished => client.finish_count = counted(client.finish_count),
+        Counting::GivenBack => client.requeue_count = counted(client.requeue_count),
+        Counting::Sent => client.message_count = counted(client.message_count),
+        Counting::Nothing => {}
+    }
 }
 
 // The states after FIN.
@@ -226,10 +289,15 @@ fn finished(
     let Some((topic, channel)) = own_channel(state, client) else {
         return Ok(Vec::new(alloc));
     };
-    let channels = finishes(alloc, channel, client.number, id)?;
-    let mut client = client.copy(alloc)?;
-    client.finish_count = counted(client.finish_count);
-    at_own(alloc, state, topic, channels, client)
+    let channels = finishes(alloc, channel, client.number, id);
+    at_own(
+        alloc,
+        state,
+        topic,
+        channels,
+        client.number,
+        Counting::Finished,
+    )
 }
 
 // The states after REQ: the delay is brought into the range of 0 to the longest one.
@@ -246,10 +314,15 @@ fn given_back(
     };
     let room = room_of(state, &topic.name, &channel.name);
     let delay = span_of(delay).min(state.options.max_req_timeout);
-    let channels = gives_back(alloc, channel, room, client.number, id, at, delay)?;
-    let mut client = client.copy(alloc)?;
-    client.requeue_count = counted(client.requeue_count);
-    at_own(alloc, state, topic, channels, client)
+    let channels = gives_back(alloc, channel, room, client.number, id, at, delay);
+    at_own(
+        alloc,
+        state,
+        topic,
+        channels,
+        client.number,
+        Counting::GivenBack,
+    )
 }
 
 // The states after TOUCH.
@@ -264,8 +337,15 @@ fn touched(
         return Ok(Vec::new(alloc));
     };
     let most = state.options.max_msg_timeout;
-    let channels = touches(alloc, channel, client.number, id, at, client.timeout, most)?;
-    at_own(alloc, state, topic, channels, client.copy(alloc)?)
+    let channels = touches(alloc, channel, client.number, id, at, client.timeout, most);
+    at_own(
+        alloc,
+        state,
+        topic,
+        channels,
+        client.number,
+        Counting::Nothing,
+    )
 }
 
 // The states that a message's being sent leads to (`DoesSend`).
@@ -276,16 +356,25 @@ pub(crate) fn sent(
     number: u64,
     message: &Message,
 ) -> Result<Vec<State>, Memory> {
-    let Some(client) = state.client_of(number) else {
-        return Ok(Vec::new(alloc));
-    };
+    match state.client_of(number) {
+        Some(client) => sent_to(alloc, state, at, client, message),
+        None => Ok(Vec::new(alloc)),
+    }
+}
+
+// The states that a message's being sent to a client leads to.
+fn sent_to(
+    alloc: Global,
+    state: &State,
+    at: u64,
+    client: &Client,
+    message: &Message,
+) -> Result<Vec<State>, Memory> {
     let Some((topic, channel)) = own_channel(state, client) else {
         return Ok(Vec::new(alloc));
     };
-    let channels = sends(alloc, channel, number, at, client.timeout, message)?;
-    let mut client = client.copy(alloc)?;
-    client.message_count = counted(client.message_count);
-    at_own(alloc, state, topic, channels, client)
+    let channels = sends(alloc, channel, client.number, at, client.timeout, message);
+    at_own(alloc, state, topic, channels, client.number, Counting::Sent)
 }
 
 // The topic and the channel of a client, where they are there.
@@ -299,14 +388,16 @@ fn own_channel<'a>(
     }
 }
 
-// The states that are this one with one of the channels in the topic, and with this client (`AtOwn`).
+// The states that are this one with one of the channels in the topic, in which this is counted of the client (`AtOwn`).
 fn at_own(
     alloc: Global,
     state: &State,
     topic: &TopicState,
-    channels: Vec<ChannelState>,
-    client: Client,
+    channels: Result<Vec<ChannelState>, Memory>,
+    number: u64,
+    what: Counting,
 ) -> Result<Vec<State>, Memory> {
-    let state = with_one(alloc, state, client)?;
-    at_channel(alloc, &state, topic, channels)
+    let mut states = at_channel(alloc, state, topic, channels)?;
+    count_in_states(&mut states, number, what);
+    Ok(states)
 }

@@ -7,22 +7,17 @@ use nsq_base::{Chan, Memory, MsgId, Names, Topic};
 use std::alloc::Global;
 use v2_frame::Message;
 
-// Adds one behind a list. It goes with the refusal where memory is wanting.
-pub(crate) fn put_last<T: Drop>(list: &mut Vec<T>, one: T) -> Result<(), Memory> {
-    list.push(one)?;
+// Adds one that was made behind a list, where memory didn't want.
+pub(crate) fn put_made<T: Drop>(list: &mut Vec<T>, made: Result<T, Memory>) -> Result<(), Memory> {
+    list.push(made?)?;
     Ok(())
 }
 
-// A list of one.
-pub(crate) fn one<T: Drop>(alloc: Global, one: T) -> Result<Vec<T>, Memory> {
+// A list of one that was made, where memory didn't want.
+pub(crate) fn one_made<T: Drop>(alloc: Global, made: Result<T, Memory>) -> Result<Vec<T>, Memory> {
     let mut list = Vec::new(alloc);
-    list.push(one)?;
+    put_made(&mut list, made)?;
     Ok(list)
-}
-
-// One state, where memory didn't want.
-pub(crate) fn one_made(alloc: Global, made: Result<State, Memory>) -> Result<Vec<State>, Memory> {
-    one(alloc, made?)
 }
 
 // The same state.
@@ -41,6 +36,17 @@ pub(crate) fn room_of(state: &State, topic: &Topic, channel: &Chan) -> Room {
 /// The states that a move leads to (`DoesMove`), none where it isn't due, or where the act is no move. Want of memory is the only error. It has
 /// no contract: it is a second reading of the definitions by hand.
 pub fn moved(alloc: Global, state: &State, at: u64, act: &Act) -> Result<Vec<State>, Memory> {
+    moved_or(alloc, state, at, act, false)
+}
+
+// The same, but where the act is no move the same state may stay.
+pub(crate) fn moved_or(
+    alloc: Global,
+    state: &State,
+    at: u64,
+    act: &Act,
+    stays: bool,
+) -> Result<Vec<State>, Memory> {
     match act {
         Act::Took(topic, message, names) => by_took(alloc, state, topic, message, names),
         Act::Copied(topic, channel, message) => by_copied(
@@ -49,7 +55,16 @@ pub fn moved(alloc: Global, state: &State, at: u64, act: &Act) -> Result<Vec<Sta
         Act::TimedOut(topic, channel, id) => by_timed_out(alloc, state, at, topic, channel, id),
         Act::CameDue(topic, channel, id) => by_came_due(alloc, state, at, topic, channel, id),
         Act::HeldBack(topic, channel, id) => by_held_back(alloc, state, at, topic, channel, id),
-        _ => Ok(Vec::new(alloc)),
+        _ => same_if(alloc, state, stays),
+    }
+}
+
+// The same state if it stays, else none.
+fn same_if(alloc: Global, state: &State, stays: bool) -> Result<Vec<State>, Memory> {
+    if stays {
+        same(alloc, state)
+    } else {
+        Ok(Vec::new(alloc))
     }
 }
 
@@ -66,7 +81,7 @@ fn by_took(
         return Ok(states);
     };
     for topic in took(alloc, topic, message, names)? {
-        put_last(&mut states, at_topic(alloc, state, topic)?)?;
+        put_made(&mut states, at_topic(alloc, state, topic))?;
     }
     Ok(states)
 }
@@ -123,7 +138,7 @@ fn by_timed_out(
     let Some((topic, from)) = standing(state, name, channel) else {
         return Ok(Vec::new(alloc));
     };
-    let to = times_out(alloc, from, room_of(state, name, channel), id, at)?;
+    let to = times_out(alloc, from, room_of(state, name, channel), id, at);
     at_channel(alloc, state, topic, to)
 }
 
@@ -139,7 +154,7 @@ fn by_came_due(
     let Some((topic, from)) = standing(state, name, channel) else {
         return Ok(Vec::new(alloc));
     };
-    let to = comes_due(alloc, from, room_of(state, name, channel), id, at)?;
+    let to = comes_due(alloc, from, room_of(state, name, channel), id, at);
     at_channel(alloc, state, topic, to)
 }
 
@@ -156,7 +171,7 @@ fn by_held_back(
         return Ok(Vec::new(alloc));
     };
     let until = u128::from(at) + u128::from(state.options.msg_timeout);
-    let to = holds_back(alloc, from, id, until)?;
+    let to = holds_back(alloc, from, id, until);
     at_channel(alloc, state, topic, to)
 }
 
@@ -165,11 +180,11 @@ pub(crate) fn at_channel(
     alloc: Global,
     state: &State,
     topic: &TopicState,
-    channels: Vec<ChannelState>,
+    channels: Result<Vec<ChannelState>, Memory>,
 ) -> Result<Vec<State>, Memory> {
     let mut states = Vec::new(alloc);
-    for channel in channels {
-        put_last(&mut states, with_channel(alloc, state, topic, channel)?)?;
+    for channel in channels? {
+        put_made(&mut states, with_channel(alloc, state, topic, channel))?;
     }
     Ok(states)
 }

@@ -4,7 +4,7 @@ ghost use Rattle.broker_history.specs.Channels as rows;
 ghost use Rattle.broker_state.specs.Places.{place_of};
 ghost use Rattle.broker_changes.specs.Rooms.{room_of};
 
-use crate::rows::{Row, moved, put_last, sent};
+use crate::rows::{Row, moved, put_made, sent};
 use broker_state::{ChannelState, MessageCopy, Place, copy_all, flying, flying_of, queued};
 use nsq_base::{Memory, MsgId};
 use std::alloc::Global;
@@ -164,7 +164,7 @@ pub(crate) fn gets(
 ) -> Result<ChannelState, Memory> {
     let place = put_off(at, message.delay, back_in(room, channel));
     let mut copies = copy_all(alloc, &channel.copies)?;
-    put_last(&mut copies, copy_at(alloc, message, place)?)?;
+    put_made(&mut copies, copy_at(alloc, message, place))?;
     let mut got = channel.with_copies(copies);
     if !is_dropped(place) {
         got.message_count = counted(got.message_count);
@@ -187,21 +187,12 @@ fn is_dropped(place: Place) -> bool {
     }
 }
 
-// The channel after it was emptied (`emptied_all`): each copy that wasn't done with is now.
-pub(crate) fn emptied(alloc: Global, channel: &ChannelState) -> Result<ChannelState, Memory> {
-    let mut copies = Vec::new(alloc);
-    for copy in &channel.copies {
-        put_last(&mut copies, emptied_copy(alloc, copy)?)?;
-    }
-    Ok(channel.with_copies(copies))
-}
-
-// The copy after its channel was emptied.
-fn emptied_copy(alloc: Global, copy: &MessageCopy) -> Result<MessageCopy, Memory> {
-    if copy.place.is_live() {
-        copy.at(alloc, Place::Emptied)
-    } else {
-        copy.copy(alloc)
+// Empties a channel of these copies (`emptied_all`): each that wasn't done with is now.
+pub(crate) fn empty(copies: &mut Vec<MessageCopy>) {
+    for copy in copies {
+        if copy.place.is_live() {
+            copy.place = Place::Emptied;
+        }
     }
 }
 

@@ -44,7 +44,7 @@ pub(crate) fn moved(
     let mut made = Vec::new(alloc);
     for i in 0..copies.len() {
         match change_by(&copies[i], row) {
-            Some(change) => put_last(&mut made, with_changed(alloc, channel, i, change)?)?,
+            Some(change) => put_made(&mut made, with_changed(alloc, channel, i, change))?,
             None => {}
         }
     }
@@ -63,7 +63,7 @@ pub(crate) fn sent(
     for i in 0..copies.len() {
         if is_sent(&copies[i], message) {
             let change = Change::Raised(in_flight);
-            put_last(&mut made, with_changed(alloc, channel, i, change)?)?;
+            put_made(&mut made, with_changed(alloc, channel, i, change))?;
         }
     }
     Ok(made)
@@ -94,7 +94,7 @@ fn copies_with(
 ) -> Result<Vec<MessageCopy>, Memory> {
     let mut all = Vec::new(alloc);
     for j in 0..copies.len() {
-        put_last(&mut all, changed_if(alloc, &copies[j], i == j, change)?)?;
+        put_made(&mut all, changed_if(alloc, &copies[j], i == j, change))?;
     }
     Ok(all)
 }
@@ -236,6 +236,12 @@ pub(crate) fn is_same(a: &Message, b: &Message) -> bool
 // Adds one behind a list. It goes with the refusal where memory is wanting.
 pub(crate) fn put_last<T: Drop>(list: &mut Vec<T>, one: T) -> Result<(), Memory> {
     list.push(one)?;
+    Ok(())
+}
+
+// The same of one that was made, where memory didn't want.
+pub(crate) fn put_made<T: Drop>(list: &mut Vec<T>, made: Result<T, Memory>) -> Result<(), Memory> {
+    list.push(made?)?;
     Ok(())
 }
 

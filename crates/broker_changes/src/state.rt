@@ -1,10 +1,9 @@
 ghost use Rattle.std.specs.Prelude.{◌≤◌, ◌+◌, ◌^◌, length};
 
-use crate::channels;
-use crate::rows::put_last;
-use crate::topics::{Publishing, channel_names, owed_no_more, put_bodies};
+use crate::channels::empty;
+use crate::topics::{Publishing, channel_names, owe_no_more, put_bodies};
 use broker_plain::Phase;
-use broker_state::{ChannelState, Client, Route, State, TakenMessage, TopicState, copy_route};
+use broker_state::{ChannelState, Client, Route, State, TopicState, copy_route};
 use nsq_base::{Body, Chan, Memory, Topic};
 use std::alloc::Global;
 
@@ -16,9 +15,14 @@ fn topic_or_new(alloc: Global, state: &State, name: &Topic) -> Result<TopicState
     }
 }
 
-// A copy of the channel of this name, as it is made where there is none.
-fn channel_or_new(alloc: Global, topic: &TopicState, name: &Chan) -> Result<ChannelState, Memory> {
-    match topic.channel_of(name) {
+// A copy of the channel of this name in a topic, as it is made where there is none.
+fn channel_or_new(
+    alloc: Global,
+    state: &State,
+    topic: &Topic,
+    name: &Chan,
+) -> Result<ChannelState, Memory> {
+    match state.channel_at(topic, name) {
         Some(channel) => channel.copy(alloc),
         None => Ok(ChannelState::new(alloc, *name)),
     }
@@ -36,8 +40,14 @@ pub fn published(
 ) -> Result<State, Memory>
     requires { state.ids_used + length bodies.now ≤ 2 ^ 40 }
 {
-    let topic = topic_with_bodies(alloc, &state, at, delay, name, bodies)?;
+    let topic = topic_with_bodies(alloc, &state, at, delay, name, bodies);
     state.ids_used += bodies.len() as u64;
+    placed(alloc, state, topic)
+}
+
+// The state with this topic at its place, where memory didn't want.
+fn placed(alloc: Global, state: State, topic: Result<TopicState, Memory>) -> Result<State, Memory> {
+    let topic = topic?;
     state.with_topic(alloc, topic)
 }
 
@@ -71,8 +81,8 @@ pub fn made(
     name: &Topic,
     channel: &Option<Chan>,
 ) -> Result<State, Memory> {
-    let topic = made_topic(alloc, &state, name, channel)?;
-    state.with_topic(alloc, topic)
+    let topic = made_topic(alloc, &state, name, channel);
+    placed(alloc, state, topic)
 }
 
 // The topic of this name, and with this channel in it where one is named.
@@ -95,8 +105,8 @@ pub fn made_channel(
     name: &Topic,
     channel: &Chan,
 ) -> Result<State, Memory> {
-    let topic = topic_with_new(alloc, &state, name, channel)?;
-    state.with_topic(alloc, topic)
+    let topic = topic_with_new(alloc, &state, name, channel);
+    placed(alloc, state, topic)
 }
 
 // The topic of this name with the channel in it, each as it is made where there is none.
@@ -106,143 +116,58 @@ fn topic_with_new(
     name: &Topic,
     channel: &Chan,
 ) -> Result<TopicState, Memory> {
+    let channel = channel_or_new(alloc, state, name, channel)?;
     let topic = topic_or_new(alloc, state, name)?;
-    let channel = channel_or_new(alloc, &topic, channel)?;
     topic.with_channel(alloc, channel)
 }
 
-// The state without the topic of this name (`without_topic`), its messages and what is left of its channels.
-fn without_topic(alloc: Global, mut state: State, name: &Topic) -> Result<State, Memory> {
-    state.topics = other_topics(alloc, &state.topics, name)?;
-    Ok(state)
+// The topics but the one of this name (`without_topic`), with its messages and what is left of its channels.
+fn remove_topic(topics: &mut Vec<TopicState>, name: &Topic) {
+    topics.retain(|topic| !topic.is_named(name));
 }
 
-// Copies of the topics but the one of this name.
-fn other_topics(
-    alloc: Global,
-    topics: &[TopicState],
-    name: &Topic,
-) -> Result<Vec<TopicState>, Memory> {
-    let mut others = Vec::new(alloc);
-    for topic in topics {
-        if !topic.is_named(name) {
-            put_last(&mut others, topic.copy(alloc)?)?;
-        }
+// Deletes the channel of the topic (`deleted_channel`): its copies, its clients' part in it and what it was owed are gone.
+fn delete_channel(state: &mut State, name: &Topic, channel: &Chan) {
+    if state.channel_at(name, channel).is_none() {
+        return;
     }
-    Ok(others)
-}
-
-// The topic without the channel of this name (`without_channel`), which is owed nothing any more.
-fn without_channel(alloc: Global, topic: &TopicState, name: &Chan) -> Result<TopicState, Memory> {
-    let taken = owed_no_more(alloc, &topic.taken, name)?;
-    let channels = other_channels(alloc, &topic.channels, name)?;
-    Ok(with_channels(topic.copy(alloc)?, taken, channels))
-}
-
-// The topic with these channels, which took this.
-fn with_channels(
-    mut topic: TopicState,
-    taken: Option<TakenMessage>,
-    channels: Vec<ChannelState>,
-) -> TopicState {
-    topic.taken = taken;
-    topic.channels = channels;
-    topic
-}
-
-// Copies of the channels but the one of this name.
-fn other_channels(
-    alloc: Global,
-    channels: &[ChannelState],
-    name: &Chan,
-) -> Result<Vec<ChannelState>, Memory> {
-    let mut others = Vec::new(alloc);
-    for channel in channels {
-        if !channel.is_named(name) {
-            put_last(&mut others, channel.copy(alloc)?)?;
-        }
-    }
-    Ok(others)
-}
-
-// The state with this topic, one of whose channels went (`with_fewer`): an ephemeral topic goes with its last channel.
-fn with_fewer(alloc: Global, state: State, topic: TopicState) -> Result<State, Memory> {
-    if topic.name.ephemeral() && topic.channels.is_empty() {
-        without_topic(alloc, state, &topic.name)
-    } else {
-        state.with_topic(alloc, topic)
+    lose(&mut state.clients, name, channel);
+    remove_channels(&mut state.topics, name, channel);
+    if is_left_empty(state.topic_of(name)) {
+        remove_topic(&mut state.topics, name);
     }
 }
 
-// The clients after this channel was deleted (`lost`): those that had it are lost.
-fn lost(
-    alloc: Global,
-    clients: &[Client],
-    topic: &Topic,
-    channel: &Chan,
-) -> Result<Vec<Client>, Memory> {
-    let mut others = Vec::new(alloc);
+// Loses the clients that had this channel, which was deleted (`lost`).
+fn lose(clients: &mut Vec<Client>, topic: &Topic, channel: &Chan) {
     for client in clients {
-        put_last(&mut others, lost_client(alloc, client, topic, channel)?)?;
-    }
-    Ok(others)
-}
-
-// The client after this channel was deleted.
-fn lost_client(
-    alloc: Global,
-    client: &Client,
-    topic: &Topic,
-    channel: &Chan,
-) -> Result<Client, Memory> {
-    let mut lost = client.copy(alloc)?;
-    if client.has_channel(topic, channel) {
-        lost.phase = Phase::Lost;
-    }
-    Ok(lost)
-}
-
-// The state after the channel was deleted (`deleted_channel`): its copies, its clients' part in it and what it was owed are gone.
-fn deleted_channel(
-    alloc: Global,
-    state: State,
-    name: &Topic,
-    channel: &Chan,
-) -> Result<State, Memory> {
-    match fewer_channels(alloc, &state, name, channel)? {
-        None => Ok(state),
-        Some(fewer) => {
-            let state = with_lost(alloc, state, name, channel)?;
-            with_fewer(alloc, state, fewer)
+        if client.has_channel(topic, channel) {
+            client.phase = Phase::Lost;
         }
     }
 }
 
-// The topic without the channel, where it has it.
-fn fewer_channels(
-    alloc: Global,
-    state: &State,
-    name: &Topic,
-    channel: &Chan,
-) -> Result<Option<TopicState>, Memory> {
-    let Some(topic) = state.topic_of(name) else {
-        return Ok(None);
-    };
-    if topic.channel_of(channel).is_none() {
-        return Ok(None);
+// Removes the channel of this name from the topic of that.
+fn remove_channels(topics: &mut Vec<TopicState>, name: &Topic, channel: &Chan) {
+    for topic in topics {
+        if topic.is_named(name) {
+            remove_channel(topic, channel);
+        }
     }
-    Ok(Some(without_channel(alloc, topic, channel)?))
 }
 
-// The state whose clients that had this channel are lost.
-fn with_lost(
-    alloc: Global,
-    mut state: State,
-    topic: &Topic,
-    channel: &Chan,
-) -> Result<State, Memory> {
-    state.clients = lost(alloc, &state.clients, topic, channel)?;
-    Ok(state)
+// Removes the channel of this name from a topic, which owes it nothing any more (`without_channel`).
+fn remove_channel(topic: &mut TopicState, name: &Chan) {
+    topic.channels.retain(|channel| !channel.is_named(name));
+    owe_no_more(&mut topic.taken, name);
+}
+
+// Whether the topic is ephemeral and has no channel: it goes with its last one (`with_fewer`).
+fn is_left_empty(topic: Option<&TopicState>) -> bool {
+    match topic {
+        Some(topic) => topic.name.ephemeral() && topic.channels.is_empty(),
+        None => false,
+    }
 }
 
 /// The names of a topic's channels (`channels_in`), none where it isn't there.
@@ -256,162 +181,124 @@ pub fn channels_in(alloc: Global, state: &State, name: &Topic) -> Result<Vec<Cha
 /// The state after so many channels of a topic were deleted (`deleted_first`), in byte order of their names.
 pub fn deleted_first(
     alloc: Global,
-    state: State,
+    mut state: State,
     name: &Topic,
     count: u64,
 ) -> Result<State, Memory> {
     let channels = channels_in(alloc, &state, name)?;
-    let mut state = state;
-    let mut deleted = 0;
-    for channel in &channels {
-        if deleted < count {
-            state = deleted_channel(alloc, state, name, channel)?;
-            deleted += 1;
+    delete_channels(&mut state, name, &channels, count);
+    Ok(state)
+}
+
+// Deletes so many of these channels of a topic, or all.
+fn delete_channels(state: &mut State, name: &Topic, channels: &[Chan], count: u64) {
+    let mut left = count;
+    for channel in channels {
+        if left > 0 {
+            delete_channel(state, name, channel);
+            left -= 1;
         }
     }
-    Ok(state)
 }
 
 /// The state after a topic was deleted, its channels first, or a channel of it (`deleted`).
 pub fn deleted(
     alloc: Global,
-    state: State,
+    mut state: State,
     name: &Topic,
     channel: &Option<Chan>,
 ) -> Result<State, Memory> {
     match channel {
         None => {
-            let state = deleted_first(alloc, state, name, u64::MAX)?;
-            without_topic(alloc, state, name)
+            let mut state = deleted_first(alloc, state, name, u64::MAX)?;
+            remove_topic(&mut state.topics, name);
+            Ok(state)
         }
-        Some(channel) => deleted_channel(alloc, state, name, channel),
+        Some(channel) => {
+            delete_channel(&mut state, name, channel);
+            Ok(state)
+        }
     }
 }
 
-// The state with this topic in place of the one of its name, where there is one.
-fn with_changed(alloc: Global, state: State, changed: Option<TopicState>) -> Result<State, Memory> {
-    match changed {
-        None => Ok(state),
-        Some(topic) => state.with_topic(alloc, topic),
-    }
+// What becomes of a topic or a channel.
+#[derive(Clone, Copy)]
+enum Change {
+    // It is emptied: what waits in a topic goes, and what it took stays; or all of a channel's copies that aren't done with are emptied out.
+    Emptied,
+    // It is paused, or isn't any more.
+    Paused(bool),
 }
 
 /// The state after a topic or a channel was emptied (`emptied`): what waits in a topic goes, and what it took stays; or all of a channel's
 /// copies that aren't done with are emptied out.
 pub fn emptied(
-    alloc: Global,
-    state: State,
+    _alloc: Global,
+    mut state: State,
     name: &Topic,
     channel: &Option<Chan>,
 ) -> Result<State, Memory> {
-    let changed = emptied_in(alloc, state.topic_of(name), channel)?;
-    with_changed(alloc, state, changed)
-}
-
-// The topic after it or a channel of it was emptied.
-fn emptied_in(
-    alloc: Global,
-    topic: Option<&TopicState>,
-    channel: &Option<Chan>,
-) -> Result<Option<TopicState>, Memory> {
-    match channel {
-        None => emptied_topic(alloc, topic),
-        Some(channel) => emptied_channel(alloc, topic, channel),
-    }
-}
-
-// The topic after it was emptied.
-fn emptied_topic(alloc: Global, topic: Option<&TopicState>) -> Result<Option<TopicState>, Memory> {
-    let Some(topic) = topic else {
-        return Ok(None);
-    };
-    let mut topic = topic.copy(alloc)?;
-    topic.waiting = Vec::new(alloc);
-    Ok(Some(topic))
-}
-
-// The topic after its channel was emptied.
-fn emptied_channel(
-    alloc: Global,
-    topic: Option<&TopicState>,
-    name: &Chan,
-) -> Result<Option<TopicState>, Memory> {
-    let Some(topic) = topic else {
-        return Ok(None);
-    };
-    let Some(channel) = topic.channel_of(name) else {
-        return Ok(None);
-    };
-    let channel = channels::emptied(alloc, channel)?;
-    Ok(Some(topic.copy(alloc)?.with_channel(alloc, channel)?))
+    change_at(&mut state.topics, name, channel, Change::Emptied);
+    Ok(state)
 }
 
 /// The state after a topic or a channel was paused, or is not any more (`set_paused`).
 pub fn set_paused(
-    alloc: Global,
-    state: State,
+    _alloc: Global,
+    mut state: State,
     on: bool,
     name: &Topic,
     channel: &Option<Chan>,
 ) -> Result<State, Memory> {
-    let changed = paused_in(alloc, on, state.topic_of(name), channel)?;
-    with_changed(alloc, state, changed)
+    change_at(&mut state.topics, name, channel, Change::Paused(on));
+    Ok(state)
 }
 
-// The topic with its pause or that of a channel of it set.
-fn paused_in(
-    alloc: Global,
-    on: bool,
-    topic: Option<&TopicState>,
-    channel: &Option<Chan>,
-) -> Result<Option<TopicState>, Memory> {
-    match channel {
-        None => paused_topic(alloc, on, topic),
-        Some(channel) => paused_channel(alloc, on, topic, channel),
-    }
-}
-
-// The topic, paused or not.
-fn paused_topic(
-    alloc: Global,
-    on: bool,
-    topic: Option<&TopicState>,
-) -> Result<Option<TopicState>, Memory> {
-    let Some(topic) = topic else {
-        return Ok(None);
-    };
-    let mut topic = topic.copy(alloc)?;
-    topic.paused = on;
-    Ok(Some(topic))
-}
-
-// The topic with its channel, paused or not.
-fn paused_channel(
-    alloc: Global,
-    on: bool,
-    topic: Option<&TopicState>,
-    name: &Chan,
-) -> Result<Option<TopicState>, Memory> {
-    let Some(topic) = topic else {
-        return Ok(None);
-    };
-    let Some(channel) = topic.channel_of(name) else {
-        return Ok(None);
-    };
-    let mut channel = channel.copy(alloc)?;
-    channel.paused = on;
-    Ok(Some(topic.copy(alloc)?.with_channel(alloc, channel)?))
-}
-
-// The clients without the one of this number.
-fn without_client(alloc: Global, clients: &[Client], number: u64) -> Result<Vec<Client>, Memory> {
-    let mut others = Vec::new(alloc);
-    for client in clients {
-        if client.number != number {
-            put_last(&mut others, client.copy(alloc)?)?;
+// Changes the topic of this name, or its channel of that, where it is there.
+fn change_at(topics: &mut Vec<TopicState>, name: &Topic, channel: &Option<Chan>, change: Change) {
+    for topic in topics {
+        if topic.is_named(name) {
+            change_in(topic, channel, change);
         }
     }
-    Ok(others)
+}
+
+// Changes the topic, or its channel of this name.
+fn change_in(topic: &mut TopicState, channel: &Option<Chan>, change: Change) {
+    match channel {
+        None => change_topic(topic, change),
+        Some(channel) => change_channels(&mut topic.channels, channel, change),
+    }
+}
+
+// Changes the topic.
+fn change_topic(topic: &mut TopicState, change: Change) {
+    match change {
+        Change::Emptied => topic.waiting.clear(),
+        Change::Paused(on) => topic.paused = on,
+    }
+}
+
+// Changes the one of these channels that has this name.
+fn change_channels(channels: &mut Vec<ChannelState>, name: &Chan, change: Change) {
+    for channel in channels {
+        if channel.is_named(name) {
+            change_channel(channel, change);
+        }
+    }
+}
+
+// Changes the channel.
+fn change_channel(channel: &mut ChannelState, change: Change) {
+    match change {
+        Change::Emptied => empty(&mut channel.copies),
+        Change::Paused(on) => channel.paused = on,
+    }
+}
+
+// The clients but the one of this number.
+fn remove_client(clients: &mut Vec<Client>, number: u64) {
+    clients.retain(|client| client.number != number);
 }
 
 // Whether a client goes with a channel of its own that it still has.
@@ -424,28 +311,28 @@ fn left_route(client: &Client) -> Option<Route> {
 
 /// The state after a client went (`gone`), whose copies in flight stay there until they are due: an ephemeral channel goes with its last
 /// client.
-pub fn gone(alloc: Global, mut state: State, number: u64) -> Result<State, Memory> {
-    let Some(client) = state.client_of(number) else {
-        return Ok(state);
-    };
-    let route = left_route(client);
-    state.clients = without_client(alloc, &state.clients, number)?;
-    match route {
-        None => Ok(state),
-        Some(route) => left_channel(alloc, state, &route),
+pub fn gone(_alloc: Global, mut state: State, number: u64) -> Result<State, Memory> {
+    let route = route_of(state.client_of(number));
+    remove_client(&mut state.clients, number);
+    if let Some(route) = route {
+        leave_channel(&mut state, &route.topic, &route.channel);
+    }
+    Ok(state)
+}
+
+// The channel of its own that a client still has.
+fn route_of(client: Option<&Client>) -> Option<Route> {
+    match client {
+        Some(client) => left_route(client),
+        None => None,
     }
 }
 
-// The state after a client left its channel (`left_channel`).
-fn left_channel(alloc: Global, state: State, route: &Route) -> Result<State, Memory> {
-    let Route { topic, channel } = route;
-    if !is_ephemeral(topic, channel) {
-        return Ok(state);
+// What a client's leaving its channel makes of the state (`left_channel`).
+fn leave_channel(state: &mut State, topic: &Topic, channel: &Chan) {
+    if is_ephemeral(topic, channel) && !has_clients(state, topic, channel) {
+        delete_channel(state, topic, channel);
     }
-    if has_clients(&state, topic, channel) {
-        return Ok(state);
-    }
-    deleted_channel(alloc, state, topic, channel)
 }
 
 // Whether a client has the channel.

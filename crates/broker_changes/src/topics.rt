@@ -1,14 +1,20 @@
 ghost use Rattle.std.specs.Prelude.{◌<◌, ◌≤◌, ◌+◌, ◌^◌, length};
 
 use crate::channels::{Room, counted, gets, has_due};
-use crate::rows::{is_same, put_last, same};
+use crate::rows::{is_same, put_last, put_made, same};
 use broker_state::{ChannelState, TakenMessage, TopicState, Waiting};
 use nsq_base::{Body, Chan, Memory, MsgId, Names};
 use std::alloc::Global;
 use v2_frame::Message;
 
-// Puts a message into the topic (`put_message`), where so many messages find room in memory: an ephemeral topic drops what finds no room.
-fn put_message(topic: &mut TopicState, mem: u64, message: Message) -> Result<(), Memory> {
+// Puts a message that was made into the topic (`put_message`), where so many messages find room in memory: an ephemeral topic drops what
+// finds no room.
+fn put_message(
+    topic: &mut TopicState,
+    mem: u64,
+    message: Result<Message, Memory>,
+) -> Result<(), Memory> {
+    let message = message?;
     let loose = mem <= topic.waiting.len() as u64;
     if topic.name.ephemeral() && loose {
         return Ok(());
@@ -44,8 +50,11 @@ pub(crate) fn put_bodies(
 {
     for i in 0..bodies.len() {
         let id = MsgId::make(publishing.epoch, publishing.used + i as u64);
-        let message = new_message(alloc, publishing, id, &bodies[i])?;
-        put_message(topic, publishing.mem, message)?;
+        put_message(
+            topic,
+            publishing.mem,
+            new_message(alloc, publishing, id, &bodies[i]),
+        )?;
     }
     Ok(())
 }
@@ -127,7 +136,7 @@ pub fn took(
     }
     for i in 0..topic.waiting.len() {
         if fits(&topic.waiting[i], message) {
-            put_last(&mut topics, took_at(alloc, topic, i, message)?)?;
+            put_made(&mut topics, took_at(alloc, topic, i, message))?;
         }
     }
     Ok(topics)
@@ -140,27 +149,28 @@ fn took_at(
     i: usize,
     message: &Message,
 ) -> Result<TopicState, Memory> {
-    let waiting = without_waiting(alloc, &topic.waiting, i)?;
-    let taken = taken_by(alloc, &topic.channels, message)?;
-    Ok(with_taken(topic.copy(alloc)?, waiting, taken))
+    let mut took = topic.copy(alloc)?;
+    take_at(alloc, &mut took, i, message)?;
+    Ok(took)
 }
 
-// The topic in which these messages wait, and this one was taken.
-fn with_taken(mut topic: TopicState, waiting: Vec<Waiting>, taken: TakenMessage) -> TopicState {
-    topic.waiting = waiting;
-    topic.taken = Some(taken);
-    topic
+// Takes the message that waits at a place.
+fn take_at(
+    alloc: Global,
+    topic: &mut TopicState,
+    i: usize,
+    message: &Message,
+) -> Result<(), Memory> {
+    topic.taken = Some(taken_by(alloc, &topic.channels, message)?);
+    remove_at(&mut topic.waiting, i);
+    Ok(())
 }
 
-// Copies of the waiting messages but the one at a place.
-fn without_waiting(alloc: Global, waiting: &[Waiting], i: usize) -> Result<Vec<Waiting>, Memory> {
-    let mut others = Vec::new(alloc);
-    for j in 0..waiting.len() {
-        if j != i {
-            put_last(&mut others, waiting[j].copy(alloc)?)?;
-        }
+// Removes the message that waits at a place.
+fn remove_at(waiting: &mut Vec<Waiting>, i: usize) {
+    if i < waiting.len() {
+        let _waiting = waiting.remove(i);
     }
-    Ok(others)
 }
 
 // A copy of the message that these channels are owed.
@@ -219,34 +229,21 @@ fn is_name_at(channel: &ChannelState, names: &[Chan], i: usize) -> bool {
     }
 }
 
-// What is taken after a channel is owed no more (`owed_no_more`): with the last owed channel it goes.
-pub(crate) fn owed_no_more(
-    alloc: Global,
-    taken: &Option<TakenMessage>,
-    name: &Chan,
-) -> Result<Option<TakenMessage>, Memory> {
-    let Some(taken) = taken else {
-        return Ok(None);
+// The channel of this name is owed no more (`owed_no_more`): with the last owed channel what was taken goes.
+pub(crate) fn owe_no_more(taken: &mut Option<TakenMessage>, name: &Chan) {
+    let is_last = match taken {
+        Some(taken) => is_last_owed(&mut taken.owed, name),
+        None => false,
     };
-    let owed = without_name(alloc, &taken.owed, name)?;
-    if owed.is_empty() {
-        return Ok(None);
+    if is_last {
+        *taken = None;
     }
-    Ok(Some(TakenMessage {
-        message: taken.message.copy(alloc)?,
-        owed,
-    }))
 }
 
-// The others of these names.
-fn without_name(alloc: Global, names: &[Chan], name: &Chan) -> Result<Vec<Chan>, Memory> {
-    let mut others = Vec::new(alloc);
-    for other in names {
-        if !same(other.bytes(), name.bytes()) {
-            others.push(*other)?;
-        }
-    }
-    Ok(others)
+// Takes a name out of the owed ones, and says whether none is left.
+fn is_last_owed(owed: &mut Vec<Chan>, name: &Chan) -> bool {
+    owed.retain(|other| !same(other.bytes(), name.bytes()));
+    owed.is_empty()
 }
 
 // Whether the channel of this name is owed a copy of this very message.
@@ -295,8 +292,7 @@ pub fn copied(
 
 // The topic with this channel, which it owes no more.
 fn paid(alloc: Global, topic: &TopicState, channel: ChannelState) -> Result<TopicState, Memory> {
-    let taken = owed_no_more(alloc, &topic.taken, &channel.name)?;
-    let mut paid = topic.copy(alloc)?.with_channel(alloc, channel)?;
-    paid.taken = taken;
-    Ok(paid)
+    let mut paid = topic.copy(alloc)?;
+    owe_no_more(&mut paid.taken, &channel.name);
+    paid.with_channel(alloc, channel)
 }

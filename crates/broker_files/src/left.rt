@@ -1,5 +1,5 @@
-use crate::growing::put_last;
-use broker_state::{ChannelState, MessageCopy, State, TakenMessage, TopicState, Waiting};
+use crate::growing::{put_last, put_made};
+use broker_state::{ChannelState, MessageCopy, State, TakenMessage, TopicState};
 use nsq_base::Memory;
 use path_plain::{FoundChannel, FoundNames, FoundTopic, KeptChannel, KeptNames, KeptTopic};
 use std::alloc::Global;
@@ -7,133 +7,121 @@ use v2_frame::Message;
 
 /// Whether all that a run left was found, and nothing else: its epoch, and its durable topics and channels, each with its pause and
 /// its messages, in whatever order. Left of a channel are its copies that are queued, in flight or deferred, and of a topic the
-/// messages that wait and the one that it took. Delays are forgotten. Want of memory is the only error. It has no
+/// messages that wait and the one that it took. Delays are forgotten. Want of memory is the only error, and none is wanted. It has no
 /// contract: it is a second reading of the definitions by hand.
-pub fn is_all_left(alloc: Global, state: &State, found: &FoundNames) -> Result<bool, Memory> {
-    Ok(found.epoch == state.epoch && are_left_topics(alloc, &state.topics, &found.topics)?)
+pub fn is_all_left(_alloc: Global, state: &State, found: &FoundNames) -> Result<bool, Memory> {
+    Ok(found.epoch == state.epoch && are_left_topics(&state.topics, &found.topics))
 }
 
 // Whether the durable ones of these topics were found, and no other.
-fn are_left_topics(
-    alloc: Global,
-    topics: &[TopicState],
-    found: &[FoundTopic],
-) -> Result<bool, Memory> {
+fn are_left_topics(topics: &[TopicState], found: &[FoundTopic]) -> bool {
     let Some((topic, rest)) = topics.split_first() else {
-        return Ok(found.is_empty());
+        return found.is_empty();
     };
     if topic.name.ephemeral() {
-        return are_left_topics(alloc, rest, found);
+        return are_left_topics(rest, found);
     }
-    let Some((first, more)) = found.split_first() else {
-        return Ok(false);
-    };
-    if !is_left_topic(alloc, topic, first)? {
-        return Ok(false);
+    match found.split_first() {
+        Some((first, more)) => is_left_topic(topic, first) && are_left_topics(rest, more),
+        None => false,
     }
-    are_left_topics(alloc, rest, more)
 }
 
 // Whether a topic was found with all that was left of it.
-fn is_left_topic(alloc: Global, topic: &TopicState, found: &FoundTopic) -> Result<bool, Memory> {
-    let left = left_in_topic(alloc, &topic.waiting, &topic.taken)?;
-    Ok(
-        topic.is_named(&found.name)
-            && topic.paused == found.paused
-            && same_messages(&left, &found.messages)
-            && are_left_channels(alloc, &topic.channels, &found.channels)?,
-    )
+fn is_left_topic(topic: &TopicState, found: &FoundTopic) -> bool {
+    topic.is_named(&found.name)
+        && topic.paused == found.paused
+        && are_left_in_topic(topic, &found.messages)
+        && are_left_channels(&topic.channels, &found.channels)
 }
 
 // Whether the durable ones of a topic's channels were found, and no other.
-fn are_left_channels(
-    alloc: Global,
-    channels: &[ChannelState],
-    found: &[FoundChannel],
-) -> Result<bool, Memory> {
+fn are_left_channels(channels: &[ChannelState], found: &[FoundChannel]) -> bool {
     let Some((channel, rest)) = channels.split_first() else {
-        return Ok(found.is_empty());
+        return found.is_empty();
     };
     if channel.name.ephemeral() {
-        return are_left_channels(alloc, rest, found);
+        return are_left_channels(rest, found);
     }
-    let Some((first, more)) = found.split_first() else {
-        return Ok(false);
-    };
-    if !is_left_channel(alloc, channel, first)? {
-        return Ok(false);
+    match found.split_first() {
+        Some((first, more)) => is_left_channel(channel, first) && are_left_channels(rest, more),
+        None => false,
     }
-    are_left_channels(alloc, rest, more)
 }
 
 // Whether a channel was found with all that was left of it.
-fn is_left_channel(
-    alloc: Global,
-    channel: &ChannelState,
-    found: &FoundChannel,
-) -> Result<bool, Memory> {
-    let left = left_in_channel(alloc, &channel.copies)?;
-    Ok(
-        channel.is_named(&found.name)
-            && channel.paused == found.paused
-            && same_messages(&left, &found.messages),
-    )
+fn is_left_channel(channel: &ChannelState, found: &FoundChannel) -> bool {
+    channel.is_named(&found.name)
+        && channel.paused == found.paused
+        && are_left_in_channel(&channel.copies, &found.messages)
 }
 
-// The messages of the copies that are queued, in flight or deferred.
-fn left_in_channel(alloc: Global, copies: &[MessageCopy]) -> Result<Vec<Message>, Memory> {
-    let mut left = Vec::new(alloc);
+// Whether these are the messages of the copies that are queued, in flight or deferred, each as often, in whatever order.
+fn are_left_in_channel(copies: &[MessageCopy], found: &[Message]) -> bool {
+    if live(copies) != found.len() {
+        return false;
+    }
+    for message in found {
+        if times_live(message, copies) != times(message, found) {
+            return false;
+        }
+    }
+    true
+}
+
+// How many copies are queued, in flight or deferred.
+fn live(copies: &[MessageCopy]) -> usize {
+    let mut count: usize = 0;
     for copy in copies {
-        if !copy.place.is_live() {
-            continue;
+        if copy.place.is_live() {
+            count = count.saturating_add(1);
         }
-        put_last(&mut left, copy.message.copy(alloc)?)?;
     }
-    Ok(left)
+    count
 }
 
-// The messages that wait, and the one that was taken.
-fn left_in_topic(
-    alloc: Global,
-    waiting: &[Waiting],
-    taken: &Option<TakenMessage>,
-) -> Result<Vec<Message>, Memory> {
-    let mut left = waiting_messages(alloc, waiting)?;
+// How many of them have this message.
+fn times_live(message: &Message, copies: &[MessageCopy]) -> usize {
+    let mut count: usize = 0;
+    for copy in copies {
+        if copy.place.is_live() && is_same(message, &copy.message) {
+            count = count.saturating_add(1);
+        }
+    }
+    count
+}
+
+// Whether these are the messages that wait and the one that was taken, each as often, in whatever order.
+fn are_left_in_topic(topic: &TopicState, found: &[Message]) -> bool {
+    let taken = usize::from(topic.taken.is_some());
+    if topic.waiting.len().saturating_add(taken) != found.len() {
+        return false;
+    }
+    for message in found {
+        if times_left(message, topic) != times(message, found) {
+            return false;
+        }
+    }
+    true
+}
+
+// How often a message stands among those that wait and the one that was taken.
+fn times_left(message: &Message, topic: &TopicState) -> usize {
+    let mut count = usize::from(is_taken(message, &topic.taken));
+    for waits in &topic.waiting {
+        if is_same(message, &waits.message) {
+            count = count.saturating_add(1);
+        }
+    }
+    count
+}
+
+// Whether a message is the one that was taken.
+fn is_taken(message: &Message, taken: &Option<TakenMessage>) -> bool {
     match taken {
-        Some(taken) => {
-            put_last(&mut left, taken.message.copy(alloc)?)?;
-            Ok(left)
-        }
-        None => Ok(left),
+        Some(taken) => is_same(message, &taken.message),
+        None => false,
     }
-}
-
-// The messages that wait.
-fn waiting_messages(alloc: Global, waiting: &[Waiting]) -> Result<Vec<Message>, Memory> {
-    let mut left = Vec::new(alloc);
-    for waits in waiting {
-        put_last(&mut left, waits.message.copy(alloc)?)?;
-    }
-    Ok(left)
-}
-
-// Whether two lists have the same messages, each as often, in whatever order.
-fn same_messages(left: &[Message], found: &[Message]) -> bool {
-    if left.len() != found.len() {
-        return false;
-    }
-    stand_as_often(left, left, found)
-}
-
-// Whether each of these messages stands as often in the one list as in the other.
-fn stand_as_often(messages: &[Message], left: &[Message], found: &[Message]) -> bool {
-    let Some((message, rest)) = messages.split_first() else {
-        return true;
-    };
-    if times(message, left) != times(message, found) {
-        return false;
-    }
-    stand_as_often(rest, left, found)
 }
 
 // How often a message stands among others.
@@ -151,8 +139,13 @@ fn times(message: &Message, others: &[Message]) -> usize {
 fn is_same(message: &Message, other: &Message) -> bool {
     message.stamp == other.stamp
         && message.attempts == other.attempts
-        && message.id.bytes() == other.id.bytes()
-        && message.body.bytes() == other.body.bytes()
+        && same(message.id.bytes(), other.id.bytes())
+        && same(message.body.bytes(), other.body.bytes())
+}
+
+// Whether two texts are equal.
+fn same(one: &[u8], other: &[u8]) -> bool {
+    one == other
 }
 
 /// What the file of names keeps of a state: the run's epoch, and the durable topics and channels with their pauses. Want of memory is
@@ -171,7 +164,7 @@ fn kept_topics(alloc: Global, topics: &[TopicState]) -> Result<Vec<KeptTopic>, M
         if topic.name.ephemeral() {
             continue;
         }
-        put_last(&mut kept, kept_topic(alloc, topic)?)?;
+        put_made(&mut kept, kept_topic(alloc, topic))?;
     }
     Ok(kept)
 }

@@ -1,6 +1,6 @@
 ghost use Rattle.std.specs.Prelude.{◌<◌};
 
-use crate::growing::put_last;
+use crate::growing::put_made;
 use broker_state::{ChannelState, MessageCopy, Place, State, TopicState, Waiting};
 use nsq_base::{Memory, Options};
 use path_plain::{FoundChannel, FoundNames, FoundTopic};
@@ -36,7 +36,7 @@ pub fn start(
 fn started_topics(alloc: Global, found: &[FoundTopic]) -> Result<Vec<TopicState>, Memory> {
     let mut topics = Vec::new(alloc);
     for topic in found {
-        put_last(&mut topics, started(alloc, topic)?)?;
+        put_made(&mut topics, started(alloc, topic))?;
     }
     Ok(topics)
 }
@@ -59,18 +59,24 @@ fn started(alloc: Global, found: &FoundTopic) -> Result<TopicState, Memory> {
 fn waiting(alloc: Global, messages: &[Message]) -> Result<Vec<Waiting>, Memory> {
     let mut waiting = Vec::new(alloc);
     for message in messages {
-        let message = message.copy(alloc)?;
-        let loose = false;
-        put_last(&mut waiting, Waiting { message, loose })?;
+        put_made(&mut waiting, waits(alloc, message))?;
     }
     Ok(waiting)
+}
+
+// A message as it waits.
+fn waits(alloc: Global, message: &Message) -> Result<Waiting, Memory> {
+    Ok(Waiting {
+        message: message.copy(alloc)?,
+        loose: false,
+    })
 }
 
 // Channels at the start of a run.
 fn started_channels(alloc: Global, found: &[FoundChannel]) -> Result<Vec<ChannelState>, Memory> {
     let mut channels = Vec::new(alloc);
     for channel in found {
-        put_last(&mut channels, started_channel(alloc, channel)?)?;
+        put_made(&mut channels, started_channel(alloc, channel))?;
     }
     Ok(channels)
 }
@@ -91,7 +97,7 @@ fn started_channel(alloc: Global, found: &FoundChannel) -> Result<ChannelState, 
 fn queued_copies(alloc: Global, messages: &[Message]) -> Result<Vec<MessageCopy>, Memory> {
     let mut copies = Vec::new(alloc);
     for message in messages {
-        put_last(&mut copies, queued_copy(alloc, message)?)?;
+        put_made(&mut copies, queued_copy(alloc, message))?;
     }
     Ok(copies)
 }

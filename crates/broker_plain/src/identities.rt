@@ -1,4 +1,4 @@
-ghost use Rattle.std.specs.Prelude.{◌≡◌, codes, IfOk, option_and_then};
+ghost use Rattle.std.specs.Prelude.{◌≡◌, ◌++◌, codes, decimal, IfOk, OnOk, option_and_then};
 ghost use Rattle.serde_json.specs.Data.{Members, object};
 ghost use Rattle.serde_json.specs.Find.{get, as_object};
 ghost use Rattle.serde_json.specs.View.{view};
@@ -56,20 +56,18 @@ fn answer(alloc: Global, options: &Options, value: &Value) -> Result<Frame, Memo
 fn features(alloc: Global, options: &Options, timeout: u128) -> Result<Frame, Memory>
     ensures { IfOk result (λ frame. frame ≡ response (features_by options.now timeout)) }
 {
-    let mut text = Vec::from_slice(
-        alloc,
+    let mut text = Vec::new(alloc);
+    put_number(
+        &mut text,
         br#"{"auth_required":false,"deflate":false,"deflate_level":0,"max_deflate_level":0,"max_msg_timeout":"#,
+        u128::from(options.max_msg_timeout / MILLISECOND),
     )?;
-    let mut digits = Buffer::new();
-    text.extend_from_slice(
-        digits
-            .format(options.max_msg_timeout / MILLISECOND)
-            .as_bytes(),
+    put_number(
+        &mut text,
+        br#","max_rdy_count":"#,
+        u128::from(options.max_rdy_count),
     )?;
-    text.extend_from_slice(br#","max_rdy_count":"#)?;
-    text.extend_from_slice(digits.format(options.max_rdy_count).as_bytes())?;
-    text.extend_from_slice(br#","msg_timeout":"#)?;
-    text.extend_from_slice(digits.format(timeout).as_bytes())?;
+    put_number(&mut text, br#","msg_timeout":"#, timeout)?;
     text.extend_from_slice(
         br#","sample_rate":0,"snappy":false,"tls_v1":false,"version":"1.0.0"}"#,
     )?;
@@ -77,6 +75,16 @@ fn features(alloc: Global, options: &Options, timeout: u128) -> Result<Frame, Me
         kind: FrameKind::Response,
         body: Body::of(text),
     })
+}
+
+// Adds a number behind its name.
+fn put_number(text: &mut Vec<u8>, name: &[u8], number: u128) -> Result<(), Memory>
+    ensures { OnOk result (text.new.items ≡ (text.old.items ++ name.now) ++ decimal number) }
+{
+    let mut digits = Buffer::new();
+    text.extend_from_slice(name)?;
+    text.extend_from_slice(digits.format(number).as_bytes())?;
+    Ok(())
 }
 
 // The error of a body that isn't what IDENTIFY takes.

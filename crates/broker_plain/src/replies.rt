@@ -1,4 +1,4 @@
-ghost use Rattle.std.specs.Prelude.{◌≡◌, ◌↔◌, ◌++◌, if◌then◌else◌, codes, IfOk, IsTrue};
+ghost use Rattle.std.specs.Prelude.{◌≡◌, ◌↔◌, ◌++◌, if◌then◌else◌, codes, Some, IfOk, IsTrue};
 ghost use Rattle.broker_history.specs.Identify.{identity_of};
 ghost use Rattle.broker_history.specs.Reply.{are_left, delayed_reply, error, flight_reply, identified, ok_frame, publish_reply, ready_reply, reply_by, response, wrong_state};
 ghost use Rattle.broker_history.specs.State.{is_fresh, is_subscribed};
@@ -23,21 +23,18 @@ pub fn reply(
     ensures { IfOk result (λ reply. reply ≡ reply_by options.now used (phase_of phase) (λ id. flies) command.now) }
 {
     match command {
-        Command::Identify(body) => Ok(Some(identify_reply(alloc, options, phase, body.bytes())?)),
-        Command::Sub(_, _) => Ok(Some(subscribe_reply(alloc, phase)?)),
-        Command::Pub(_, _) => Ok(Some(publish_reply(alloc, used, b"E_PUB_FAILED", 1)?)),
-        Command::Mpub(_, bodies) => Ok(Some(publish_reply(
-            alloc,
-            used,
-            b"E_MPUB_FAILED",
-            bodies.count() as u64,
-        )?)),
-        Command::Dpub(_, delay, _) => Ok(Some(delayed_reply(alloc, options, used, *delay)?)),
+        Command::Identify(body) => identify_reply(alloc, options, phase, body.bytes()),
+        Command::Sub(_, _) => subscribe_reply(alloc, phase),
+        Command::Pub(_, _) => publish_reply(alloc, used, b"E_PUB_FAILED", 1),
+        Command::Mpub(_, bodies) => {
+            publish_reply(alloc, used, b"E_MPUB_FAILED", bodies.count() as u64)
+        }
+        Command::Dpub(_, delay, _) => delayed_reply(alloc, options, used, *delay),
         Command::Rdy(count) => ready_reply(alloc, options, phase, *count),
         Command::Fin(_) => flight_reply(alloc, phase, b"E_FIN_FAILED", flies),
         Command::Req(_, _) => flight_reply(alloc, phase, b"E_REQ_FAILED", flies),
         Command::Touch(_) => flight_reply(alloc, phase, b"E_TOUCH_FAILED", flies),
-        Command::Cls => Ok(Some(close_reply(alloc, phase)?)),
+        Command::Cls => close_reply(alloc, phase),
         Command::Nop => Ok(None),
     }
 }
@@ -48,53 +45,58 @@ fn identify_reply(
     options: &Options,
     phase: Phase,
     body: &[u8],
-) -> Result<Frame, Memory>
-    ensures { IfOk result (λ frame. frame ≡ (if is_fresh (phase_of phase) then identified options.now (identity_of options.now body.now) else wrong_state)) }
+) -> Result<Option<Frame>, Memory>
+    ensures { IfOk result (λ reply. reply ≡ Some (if is_fresh (phase_of phase) then identified options.now (identity_of options.now body.now) else wrong_state)) }
 {
     if is_fresh(phase) {
-        identified(alloc, options, body)
+        Ok(Some(identified(alloc, options, body)?))
     } else {
-        wrong_state(alloc)
+        misplaced(alloc)
     }
 }
 
 // The reply to SUB.
-fn subscribe_reply(alloc: Global, phase: Phase) -> Result<Frame, Memory>
-    ensures { IfOk result (λ frame. frame ≡ (if is_fresh (phase_of phase) then ok_frame else wrong_state)) }
+fn subscribe_reply(alloc: Global, phase: Phase) -> Result<Option<Frame>, Memory>
+    ensures { IfOk result (λ reply. reply ≡ Some (if is_fresh (phase_of phase) then ok_frame else wrong_state)) }
 {
     if is_fresh(phase) {
-        ok_frame(alloc)
+        done(alloc)
     } else {
-        wrong_state(alloc)
+        misplaced(alloc)
     }
 }
 
 // The reply to CLS.
-fn close_reply(alloc: Global, phase: Phase) -> Result<Frame, Memory>
-    ensures { IfOk result (λ frame. frame ≡ (if is_subscribed (phase_of phase) then response (codes "CLOSE_WAIT") else wrong_state)) }
+fn close_reply(alloc: Global, phase: Phase) -> Result<Option<Frame>, Memory>
+    ensures { IfOk result (λ reply. reply ≡ Some (if is_subscribed (phase_of phase) then response (codes "CLOSE_WAIT") else wrong_state)) }
 {
     match phase {
-        Phase::Subscribed => frame(alloc, FrameKind::Response, b"CLOSE_WAIT"),
-        Phase::Fresh => wrong_state(alloc),
-        Phase::Closing => wrong_state(alloc),
-        Phase::Lost => wrong_state(alloc),
+        Phase::Subscribed => said(alloc, FrameKind::Response, b"CLOSE_WAIT"),
+        Phase::Fresh => misplaced(alloc),
+        Phase::Closing => misplaced(alloc),
+        Phase::Lost => misplaced(alloc),
     }
 }
 
 // The reply to a publish of so many messages.
-fn publish_reply(alloc: Global, used: u64, word: &[u8], count: u64) -> Result<Frame, Memory>
-    ensures { IfOk result (λ frame. frame ≡ publish_reply used word.now count) }
+fn publish_reply(alloc: Global, used: u64, word: &[u8], count: u64) -> Result<Option<Frame>, Memory>
+    ensures { IfOk result (λ reply. reply ≡ Some (publish_reply used word.now count)) }
 {
     if are_left(used, count) {
-        ok_frame(alloc)
+        done(alloc)
     } else {
         error(alloc, word, b" ids spent")
     }
 }
 
 // The reply to DPUB.
-fn delayed_reply(alloc: Global, options: &Options, used: u64, delay: i64) -> Result<Frame, Memory>
-    ensures { IfOk result (λ frame. frame ≡ delayed_reply options.now used delay) }
+fn delayed_reply(
+    alloc: Global,
+    options: &Options,
+    used: u64,
+    delay: i64,
+) -> Result<Option<Frame>, Memory>
+    ensures { IfOk result (λ reply. reply ≡ Some (delayed_reply options.now used delay)) }
 {
     if is_delay(options.max_req_timeout, delay) {
         publish_reply(alloc, used, b"E_DPUB_FAILED", 1)
@@ -113,12 +115,12 @@ fn ready_reply(
     ensures { IfOk result (λ reply. reply ≡ ready_reply options.now (phase_of phase) count) }
 {
     match phase {
-        Phase::Fresh => Ok(Some(wrong_state(alloc)?)),
+        Phase::Fresh => misplaced(alloc),
         Phase::Subscribed => {
             if is_ready_count(options.max_rdy_count, count) {
                 Ok(None)
             } else {
-                Ok(Some(error(alloc, b"E_INVALID", b" bad count")?))
+                error(alloc, b"E_INVALID", b" bad count")
             }
         }
         Phase::Closing => Ok(None),
@@ -136,12 +138,12 @@ fn flight_reply(
     ensures { IfOk result (λ reply. reply ≡ flight_reply (phase_of phase) word.now flies) }
 {
     if is_fresh(phase) {
-        return Ok(Some(wrong_state(alloc)?));
+        return misplaced(alloc);
     }
     if flies {
         return Ok(None);
     }
-    Ok(Some(error(alloc, word, b" message not in flight")?))
+    error(alloc, word, b" message not in flight")
 }
 
 // Whether the client has no channel yet.
@@ -187,23 +189,37 @@ pub fn ok_frame(alloc: Global) -> Result<Frame, Memory>
     frame(alloc, FrameKind::Response, b"OK")
 }
 
-// The error that a command doesn't fit the client's phase.
-fn wrong_state(alloc: Global) -> Result<Frame, Memory>
-    ensures { IfOk result (λ frame. frame ≡ wrong_state) }
+// The reply that says so.
+fn done(alloc: Global) -> Result<Option<Frame>, Memory>
+    ensures { IfOk result (λ reply. reply ≡ Some ok_frame) }
 {
-    frame(alloc, FrameKind::Error, b"E_INVALID not in this state")
+    said(alloc, FrameKind::Response, b"OK")
+}
+
+// The error that a command doesn't fit the client's phase.
+fn misplaced(alloc: Global) -> Result<Option<Frame>, Memory>
+    ensures { IfOk result (λ reply. reply ≡ Some wrong_state) }
+{
+    said(alloc, FrameKind::Error, b"E_INVALID not in this state")
 }
 
 // An error of two texts, one behind the other.
-fn error(alloc: Global, word: &[u8], text: &[u8]) -> Result<Frame, Memory>
-    ensures { IfOk result (λ frame. frame ≡ error (word.now ++ text.now)) }
+fn error(alloc: Global, word: &[u8], text: &[u8]) -> Result<Option<Frame>, Memory>
+    ensures { IfOk result (λ reply. reply ≡ Some (error (word.now ++ text.now))) }
 {
     let mut bytes = Vec::from_slice(alloc, word)?;
     bytes.extend_from_slice(text)?;
-    Ok(Frame {
+    Ok(Some(Frame {
         kind: FrameKind::Error,
         body: Body::of(bytes),
-    })
+    }))
+}
+
+// A reply of a kind and a text.
+fn said(alloc: Global, kind: FrameKind, text: &[u8]) -> Result<Option<Frame>, Memory>
+    ensures { IfOk result (λ reply. reply ≡ Some (record { kind = kind; body = text.now })) }
+{
+    Ok(Some(frame(alloc, kind, text)?))
 }
 
 // A frame of a kind and a text.
@@ -225,9 +241,11 @@ pub fn same_frame(a: &Frame, b: &Frame) -> bool
 pub fn same_reply(a: &Option<Frame>, b: &Option<Frame>) -> bool
     ensures { IsTrue result ↔ (a.now ≡ b.now) }
 {
-    match (a, b) {
-        (Some(a), Some(b)) => same_frame(a, b),
-        (None, None) => true,
-        (Some(_), None) | (None, Some(_)) => false,
+    match a {
+        Some(a) => match b {
+            Some(b) => same_frame(a, b),
+            None => false,
+        },
+        None => b.is_none(),
     }
 }

@@ -1,2 +1,2 @@
-pub mod ByName
+pub mod Order
 pub mod Lists

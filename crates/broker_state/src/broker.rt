@@ -1,13 +1,13 @@
-ghost use Rattle.std.specs.Prelude.{◌≡◌, ◌==◌, nat_lt, IfOk};
+ghost use Rattle.std.specs.Prelude.{◌≡◌, ◌==◌, IfOk};
 ghost use Rattle.std.specs.List.{filter, find};
 ghost use Rattle.std.specs.Option.{option_copied};
 ghost use Rattle.std.specs.Str.{bytes_eq};
-ghost use Rattle.broker_history.specs.State.{at_moment, channel_at, client_channel, client_of, clients_of, has_begun, has_channel, put_client, topic_of, with_client, with_topic};
+ghost use Rattle.broker_history.specs.State.{at_moment, channel_at, client_channel, client_of, clients_of, has_begun, has_channel, topic_of, with_client, with_topic};
 
-use crate::by_name::put;
 use crate::channel::ChannelState;
 use crate::client::{Client, Route};
-use crate::growing::put_last;
+use crate::growing::{copy_each, put_last};
+use crate::in_order::put;
 use crate::topic::TopicState;
 use nsq_base::{Chan, Memory, Options, Topic};
 use std::alloc::Global;
@@ -111,7 +111,7 @@ impl State {
     pub fn with_client(self, alloc: Global, client: Client) -> Result<State, Memory>
         ensures { IfOk result (λ state. state ≡ with_client self client) }
     {
-        let clients = put_client(alloc, self.clients, client)?;
+        let clients = put(alloc, self.clients, client)?;
         Ok(State { clients, ..self })
     }
 
@@ -126,10 +126,10 @@ impl State {
     pub fn copy(&self, alloc: Global) -> Result<State, Memory>
         ensures { IfOk result (λ state. state ≡ self.now) }
     {
-        let topics = copy_topics(alloc, &self.topics)?;
-        let clients = copy_clients(alloc, &self.clients)?;
         let began = Vec::from_slice(alloc, &self.began)?;
         let options = self.options.copy(alloc)?;
+        let clients = copy_each(alloc, &self.clients)?;
+        let topics = copy_each(alloc, &self.topics)?;
         Ok(self.with_parts(options, began, clients, topics))
     }
 
@@ -196,57 +196,4 @@ fn clients_with(
         }
     }
     Ok(kept)
-}
-
-// The clients with this one at its place, in place of the one of its number.
-fn put_client(alloc: Global, clients: Vec<Client>, client: Client) -> Result<Vec<Client>, Memory>
-    ensures { IfOk result (λ all. all.items ≡ put_client clients.items client) }
-{
-    let (mut all, mut after) = parted(alloc, clients, &client)?;
-    put_last(&mut all, client)?;
-    all.append(&mut after)?;
-    Ok(all)
-}
-
-// The clients with lower numbers than this one's, and those with higher ones.
-fn parted(
-    alloc: Global,
-    clients: Vec<Client>,
-    client: &Client,
-) -> Result<(Vec<Client>, Vec<Client>), Memory>
-    ensures { IfOk result (λ sides. (sides.0.items ≡ filter (λ other. nat_lt other.number client.now.number) clients.items)
-        × (sides.1.items ≡ filter (λ other. nat_lt client.now.number other.number) clients.items)) }
-{
-    let mut before = Vec::new(alloc);
-    let mut after = Vec::new(alloc);
-    for other in clients {
-        if other.is_before(client) {
-            before.push(other)?;
-        } else if client.is_before(&other) {
-            after.push(other)?;
-        }
-    }
-    Ok((before, after))
-}
-
-// Copies of clients.
-fn copy_clients(alloc: Global, clients: &[Client]) -> Result<Vec<Client>, Memory>
-    ensures { IfOk result (λ copies. copies.items ≡ clients.now) }
-{
-    let mut copies = Vec::new(alloc);
-    for client in clients {
-        put_last(&mut copies, client.copy(alloc)?)?;
-    }
-    Ok(copies)
-}
-
-// Copies of topics.
-fn copy_topics(alloc: Global, topics: &[TopicState]) -> Result<Vec<TopicState>, Memory>
-    ensures { IfOk result (λ copies. copies.items ≡ topics.now) }
-{
-    let mut copies = Vec::new(alloc);
-    for topic in topics {
-        put_last(&mut copies, topic.copy(alloc)?)?;
-    }
-    Ok(copies)
 }

@@ -2,8 +2,9 @@ ghost use Rattle.std.specs.Prelude.{◌≡◌, IfOk};
 ghost use Rattle.std.specs.Str.{bytes_eq};
 ghost use Rattle.broker_history.specs.State.{new_channel};
 
-use crate::by_name::Named;
 use crate::copies::{MessageCopy, copy_all};
+use crate::growing::Copied;
+use crate::in_order::Ordered;
 use crate::texts::same;
 use nsq_base::{Chan, Memory};
 use std::alloc::Global;
@@ -34,11 +35,22 @@ impl Model for ChannelState {
     ghost view = { λ c. record { name = c.name; paused = c.paused; message_count = c.message_count; requeue_count = c.requeue_count; timeout_count = c.timeout_count; copies = c.copies.items } };
 }
 
-impl Named for ChannelState {
-    ghost name_of = { λ c. c.name };
+impl Ordered for ChannelState {
+    ghost use Rattle.nsq_base.specs.Names.{is_before};
+    ghost use Rattle.path_image.proofs.NameLists.{before_once};
 
-    fn name(&self) -> &[u8] {
-        self.name.bytes()
+    ghost before = { λ a b. is_before a.name b.name };
+
+    fn precedes(&self, other: &ChannelState) -> bool {
+        self.name.bytes().cmp(other.name.bytes()).is_lt()
+    }
+
+    ghost once = { λ a b h. before_once a.name b.name h };
+}
+
+impl Copied for ChannelState {
+    fn copied(&self, alloc: Global) -> Result<ChannelState, Memory> {
+        self.copy(alloc)
     }
 }
 

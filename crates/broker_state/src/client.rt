@@ -1,6 +1,8 @@
-ghost use Rattle.std.specs.Prelude.{◌≡◌, ◌==◌, nat_lt, IfOk};
+ghost use Rattle.std.specs.Prelude.{◌≡◌, ◌==◌, IfOk};
 ghost use Rattle.broker_history.specs.State.{has_channel, is_on};
 
+use crate::growing::Copied;
+use crate::in_order::Ordered;
 use crate::texts::same;
 use broker_plain::Phase;
 use nsq_base::{Body, Chan, Memory, Topic};
@@ -66,19 +68,31 @@ impl Model for Client {
     ghost view = { λ c. record { number = c.number; phase = phase_of c.phase; route = c.route; ready = c.ready; heartbeat = c.heartbeat; timeout = c.timeout; client_id = c.client_id; hostname = c.hostname; user_agent = c.user_agent; last_command = c.last_command; beat_from = c.beat_from; finish_count = c.finish_count; message_count = c.message_count; requeue_count = c.requeue_count } };
 }
 
+impl Ordered for Client {
+    ghost use Rattle.std.specs.Prelude.{nat_lt};
+    ghost use Rattle.broker_state.specs.Once.{lower_once};
+
+    ghost before = { λ a b. nat_lt a.number b.number };
+
+    fn precedes(&self, other: &Client) -> bool {
+        self.number < other.number
+    }
+
+    ghost once = { λ a b h. lower_once a.number b.number h };
+}
+
+impl Copied for Client {
+    fn copied(&self, alloc: Global) -> Result<Client, Memory> {
+        self.copy(alloc)
+    }
+}
+
 impl Client {
     /// Whether it has this number.
     pub fn is_numbered(&self, number: u64) -> bool
         ensures { result ≡ (self.now.number == number) }
     {
         self.number == number
-    }
-
-    /// Whether its number is lower than another's.
-    pub fn is_before(&self, other: &Client) -> bool
-        ensures { result ≡ nat_lt self.now.number other.now.number }
-    {
-        self.number < other.number
     }
 
     /// Whether it has this channel: one that is lost has none any more.

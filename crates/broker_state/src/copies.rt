@@ -4,7 +4,7 @@ ghost use Rattle.broker_history.specs.State as state;
 ghost use Rattle.broker_state.specs.Places.{place_of};
 ghost use Rattle.broker_state.specs.Tests.{passes};
 
-use crate::growing::put_last;
+use crate::growing::{Copied, copy_each};
 use crate::place::Place;
 use crate::texts::same;
 use nsq_base::{Memory, MsgId};
@@ -28,6 +28,12 @@ impl Model for MessageCopy {
     ghost Value = { Copy };
 
     ghost view = { λ c. record { message = c.message; place = place_of c.place } };
+}
+
+impl Copied for MessageCopy {
+    fn copied(&self, alloc: Global) -> Result<MessageCopy, Memory> {
+        self.copy(alloc)
+    }
 }
 
 impl MessageCopy {
@@ -158,9 +164,5 @@ pub fn flying_with(number: u64, id: &MsgId, copies: &[MessageCopy]) -> usize
 pub fn copy_all(alloc: Global, copies: &[MessageCopy]) -> Result<Vec<MessageCopy>, Memory>
     ensures { IfOk result (λ all. all.items ≡ copies.now) }
 {
-    let mut all = Vec::new(alloc);
-    for copy in copies {
-        put_last(&mut all, copy.copy(alloc)?)?;
-    }
-    Ok(all)
+    copy_each(alloc, copies)
 }

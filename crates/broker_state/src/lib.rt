@@ -4,11 +4,11 @@
 #![tactic(auto)]
 
 mod broker;
-mod by_name;
 mod channel;
 mod client;
 mod copies;
 mod growing;
+mod in_order;
 mod place;
 mod texts;
 mod topic;

@@ -4,9 +4,9 @@ ghost use Rattle.std.specs.Option.{option_copied};
 ghost use Rattle.std.specs.Str.{bytes_eq};
 ghost use Rattle.broker_history.specs.State.{channel_in, new_topic, with_channel};
 
-use crate::by_name::{Named, put};
 use crate::channel::ChannelState;
-use crate::growing::put_last;
+use crate::growing::{Copied, copy_each};
+use crate::in_order::{Ordered, put};
 use crate::texts::same;
 use nsq_base::{Chan, Memory, Topic};
 use std::alloc::Global;
@@ -72,11 +72,22 @@ impl Model for TopicState {
     ghost view = { λ t. record { name = t.name; paused = t.paused; message_count = t.message_count; waiting = t.waiting.items; taken = t.taken; channels = t.channels.items } };
 }
 
-impl Named for TopicState {
-    ghost name_of = { λ t. t.name };
+impl Ordered for TopicState {
+    ghost use Rattle.nsq_base.specs.Names.{is_before};
+    ghost use Rattle.path_image.proofs.NameLists.{before_once};
 
-    fn name(&self) -> &[u8] {
-        self.name.bytes()
+    ghost before = { λ a b. is_before a.name b.name };
+
+    fn precedes(&self, other: &TopicState) -> bool {
+        self.name.bytes().cmp(other.name.bytes()).is_lt()
+    }
+
+    ghost once = { λ a b h. before_once a.name b.name h };
+}
+
+impl Copied for Waiting {
+    fn copied(&self, alloc: Global) -> Result<Waiting, Memory> {
+        self.copy(alloc)
     }
 }
 
@@ -97,10 +108,15 @@ impl TakenMessage {
     pub fn copy(&self, alloc: Global) -> Result<TakenMessage, Memory>
         ensures { IfOk result (λ taken. taken ≡ self.now) }
     {
-        Ok(TakenMessage {
-            message: self.message.copy(alloc)?,
-            owed: Vec::from_slice(alloc, &self.owed)?,
-        })
+        let owed = Vec::from_slice(alloc, &self.owed)?;
+        let message = self.message.copy(alloc)?;
+        Ok(TakenMessage { message, owed })
+    }
+}
+
+impl Copied for TopicState {
+    fn copied(&self, alloc: Global) -> Result<TopicState, Memory> {
+        self.copy(alloc)
     }
 }
 
@@ -145,9 +161,9 @@ impl TopicState {
     pub fn copy(&self, alloc: Global) -> Result<TopicState, Memory>
         ensures { IfOk result (λ topic. topic ≡ self.now) }
     {
-        let channels = copy_channels(alloc, &self.channels)?;
-        let waiting = copy_waiting(alloc, &self.waiting)?;
         let taken = copy_taken(alloc, &self.taken)?;
+        let waiting = copy_each(alloc, &self.waiting)?;
+        let channels = copy_each(alloc, &self.channels)?;
         Ok(self.with_parts(waiting, taken, channels))
     }
 
@@ -183,17 +199,6 @@ fn find_channel<'a>(channels: &'a [ChannelState], name: &Chan) -> Option<&'a Cha
     None
 }
 
-// Copies of messages that wait.
-fn copy_waiting(alloc: Global, waiting: &[Waiting]) -> Result<Vec<Waiting>, Memory>
-    ensures { IfOk result (λ copies. copies.items ≡ waiting.now) }
-{
-    let mut copies = Vec::new(alloc);
-    for message in waiting {
-        put_last(&mut copies, message.copy(alloc)?)?;
-    }
-    Ok(copies)
-}
-
 // A copy of a taken message, if there is one.
 fn copy_taken(alloc: Global, taken: &Option<TakenMessage>) -> Result<Option<TakenMessage>, Memory>
     ensures { IfOk result (λ copy. copy ≡ taken.now) }
@@ -202,15 +207,4 @@ fn copy_taken(alloc: Global, taken: &Option<TakenMessage>) -> Result<Option<Take
         Some(taken) => Ok(Some(taken.copy(alloc)?)),
         None => Ok(None),
     }
-}
-
-// Copies of channels.
-fn copy_channels(alloc: Global, channels: &[ChannelState]) -> Result<Vec<ChannelState>, Memory>
-    ensures { IfOk result (λ copies. copies.items ≡ channels.now) }
-{
-    let mut copies = Vec::new(alloc);
-    for channel in channels {
-        put_last(&mut copies, channel.copy(alloc)?)?;
-    }
-    Ok(copies)
 }

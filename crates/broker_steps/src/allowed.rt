@@ -1,12 +1,11 @@
 use crate::credit::{is_beat_due, is_idle, is_lost, is_silent, may_be_sent};
 use broker_acts::{moved, says_done};
-use broker_changes::state::channels_in;
 use broker_changes::topics::{is_topic_at, takes};
 use broker_history::{Act, Ask, Entry, Said};
-use broker_plain::{ok_frame, reply, same_frame, same_reply};
+use broker_plain::{reply, same_reply};
 use broker_said::may_say;
-use broker_state::{ChannelState, Client, State, flying_of, flying_with};
-use nsq_base::{Body, Chan, Memory, MsgId, Names, Topic};
+use broker_state::{ChannelState, Client, State, TopicState, flying_of, flying_with};
+use nsq_base::{Chan, Memory, MsgId, Names, Topic};
 use nsq_outside::End;
 use std::alloc::Global;
 use v2_frame::{Command, Fault, Frame, FrameKind, Message};
@@ -19,27 +18,48 @@ pub(crate) fn is_allowed(
     entry: &Entry,
     end: End,
 ) -> Result<bool, Memory> {
-    match &entry.act {
-        Act::Began => Ok(is_done(end) && entry.conn > 0 && !state.has_begun(entry.conn)),
-        Act::Did(command, given) => may_do(alloc, state, entry.conn, command, given, end),
-        Act::Refused(fault, frame) => {
-            let may = may_refuse(alloc, state, entry.conn, fault, frame)?;
-            Ok(is_done(end) && may)
-        }
-        Act::Sent(message) => Ok(is_done(end) && may_send(state, entry.at, entry.conn, message)),
-        Act::Beat => Ok(is_done(end) && may_beat(state, entry.at, entry.conn)),
-        Act::Idle => Ok(is_done(end) && may_idle(state, entry.at, entry.conn)),
-        Act::Silent => Ok(is_done(end) && may_be_silent(state, entry.at, entry.conn)),
-        Act::Dropped => Ok(is_done(end) && may_drop(state, entry.conn)),
-        Act::Gone => Ok(is_done(end) && state.client_of(entry.conn).is_some()),
-        Act::Asked(ask, said) => may_ask(alloc, state, ask, said, end),
-        Act::Listed(names) => Ok(is_done(end) && are_names(state, names)),
-        Act::Ticked => Ok(is_done(end) && is_daemons(state, entry.conn)),
-        Act::Stop => Ok(is_done(end) && !state.stopped),
-        Act::Stuck(topic, channel) => {
-            Ok(end == End::Faulted(0) && may_be_stuck(state, entry, topic, channel))
-        }
-        _ => may_move(alloc, state, entry, end),
+    is_allowed_act(alloc, state, entry.at, entry.conn, &entry.act, end)
+}
+
+// The same of an act at a moment, of the connection of this number: first of those that may end otherwise than done.
+fn is_allowed_act(
+    alloc: Global,
+    state: &State,
+    at: u64,
+    number: u64,
+    act: &Act,
+    end: End,
+) -> Result<bool, Memory> {
+    match act {
+        Act::Did(command, given) => may_do(alloc, state, number, command, given, end),
+        Act::Asked(ask, said) => Ok(may_ask(state, ask, said, end)),
+        Act::Stuck(topic, channel) => Ok(
+            end == End::Faulted(0) && may_be_stuck(state, at, number, topic, channel),
+        ),
+        Act::Took(..)
+        | Act::Copied(..)
+        | Act::TimedOut(..)
+        | Act::CameDue(..)
+        | Act::HeldBack(..) => may_move(alloc, state, at, number, act, end),
+        _ => Ok(is_done(end) && is_allowed_done(state, at, number, act)),
+    }
+}
+
+// The same of those that end done.
+fn is_allowed_done(state: &State, at: u64, number: u64, act: &Act) -> bool {
+    match act {
+        Act::Began => number > 0 && !state.has_begun(number),
+        Act::Refused(fault, frame) => may_refuse(state, number, fault, frame),
+        Act::Sent(message) => may_send(state, at, number, message),
+        Act::Beat => may_beat(state, at, number),
+        Act::Idle => may_idle(state, at, number),
+        Act::Silent => may_be_silent(state, at, number),
+        Act::Dropped => may_drop(state, number),
+        Act::Gone => state.client_of(number).is_some(),
+        Act::Listed(names) => are_names(state, names),
+        Act::Ticked => is_daemons(state, number),
+        Act::Stop => !state.stopped,
+        _ => false,
     }
 }
 
@@ -58,14 +78,21 @@ fn is_daemons(state: &State, number: u64) -> bool {
 
 // Whether a move may stand (`MayMove`): it is the daemon's, and where a disk fault kept it off it was due. Where it is done, what it does says
 // whether it was.
-fn may_move(alloc: Global, state: &State, entry: &Entry, end: End) -> Result<bool, Memory> {
-    if !is_daemons(state, entry.conn) {
+fn may_move(
+    alloc: Global,
+    state: &State,
+    at: u64,
+    number: u64,
+    act: &Act,
+    end: End,
+) -> Result<bool, Memory> {
+    if !is_daemons(state, number) {
         return Ok(false);
     }
     match end {
         End::Done => Ok(true),
         End::Faulted(n) => {
-            let states = moved(alloc, state, entry.at, &entry.act)?;
+            let states = moved(alloc, state, at, act)?;
             Ok(n == 0 && !states.is_empty())
         }
         End::Skip => Ok(false),
@@ -89,42 +116,42 @@ fn may_do(
     given: &Option<Frame>,
     end: End,
 ) -> Result<bool, Memory> {
-    let Some(client) = served(state, number) else {
-        return Ok(false);
-    };
-    if is_lost(client) {
-        return Ok(false);
-    }
-    let wanted = reply_to(alloc, state, client, command)?;
-    if !same_reply(given, &wanted) {
-        return Ok(false);
-    }
-    match end {
-        End::Done => Ok(true),
-        End::Faulted(n) => {
-            let can = can_fault(alloc, command, given)?;
-            Ok(n == 0 && can)
-        }
-        End::Skip => Ok(false),
+    match served(state, number) {
+        Some(client) => Ok(
+            !is_lost(client)
+                && may_end(command, given, end)
+                && is_replied(alloc, state, client, command, given)?,
+        ),
+        None => Ok(false),
     }
 }
 
-// The reply to a command of a client.
-fn reply_to(
+// Whether a command with this reply may end so: a disk fault can keep some from being carried out.
+fn may_end(command: &Command, given: &Option<Frame>, end: End) -> bool {
+    match end {
+        End::Done => true,
+        End::Faulted(n) => n == 0 && can_fault(command, given),
+        End::Skip => false,
+    }
+}
+
+// Whether this is the reply to a command of a client.
+fn is_replied(
     alloc: Global,
     state: &State,
     client: &Client,
     command: &Command,
-) -> Result<Option<Frame>, Memory> {
-    let flies = flies(state, client, command);
-    reply(
+    given: &Option<Frame>,
+) -> Result<bool, Memory> {
+    let wanted = reply(
         alloc,
         &state.options,
         state.ids_used,
         client.phase,
-        flies,
+        flies(state, client, command),
         command,
-    )
+    )?;
+    Ok(same_reply(given, &wanted))
 }
 
 // Whether a copy of the message that the command names is in flight with the client.
@@ -146,39 +173,30 @@ fn has_in_flight(state: &State, client: &Client, id: &MsgId) -> bool {
 }
 
 // Whether a disk fault can keep this command, with this reply, from being carried out (`CanFault`): a publish or a REQ that succeeds.
-fn can_fault(alloc: Global, command: &Command, given: &Option<Frame>) -> Result<bool, Memory> {
+fn can_fault(command: &Command, given: &Option<Frame>) -> bool {
     match command {
-        Command::Pub(_, _) | Command::Mpub(_, _) | Command::Dpub(_, _, _) => {
-            let ok = Some(ok_frame(alloc)?);
-            Ok(same_reply(given, &ok))
-        }
-        Command::Req(_, _) => Ok(given.is_none()),
-        _ => Ok(false),
+        Command::Pub(_, _) | Command::Mpub(_, _) | Command::Dpub(_, _, _) => is_ok(given),
+        Command::Req(_, _) => given.is_none(),
+        _ => false,
     }
+}
+
+// Whether a reply says that a command was carried out.
+fn is_ok(given: &Option<Frame>) -> bool {
+    match given {
+        Some(frame) => is_frame(frame, FrameKind::Response, b"OK"),
+        None => false,
+    }
+}
+
+// Whether a frame is of this kind and text.
+fn is_frame(frame: &Frame, kind: FrameKind, text: &[u8]) -> bool {
+    frame.kind == kind && frame.body.bytes() == text
 }
 
 // Whether a fault of a client's bytes may be refused with this frame.
-fn may_refuse(
-    alloc: Global,
-    state: &State,
-    number: u64,
-    fault: &Fault,
-    frame: &Frame,
-) -> Result<bool, Memory> {
-    if served(state, number).is_none() {
-        return Ok(false);
-    }
-    let wanted = refusal(alloc, fault)?;
-    Ok(same_frame(frame, &wanted))
-}
-
-// The answer to a fault in a client's bytes.
-fn refusal(alloc: Global, fault: &Fault) -> Result<Frame, Memory> {
-    let body = Body::copy(alloc, fault.kind.text())?;
-    Ok(Frame {
-        kind: FrameKind::Error,
-        body,
-    })
+fn may_refuse(state: &State, number: u64, fault: &Fault, frame: &Frame) -> bool {
+    served(state, number).is_some() && is_frame(frame, FrameKind::Error, fault.kind.text())
 }
 
 // Whether this message may be sent to a client, as far as all but the copy goes: its id isn't in flight in the channel.
@@ -242,46 +260,32 @@ fn may_drop(state: &State, number: u64) -> bool {
 }
 
 // Whether what is asked may stand with what is said (`MayAsk`), and with a disk fault where one can keep it from being done.
-fn may_ask(alloc: Global, state: &State, ask: &Ask, said: &Said, end: End) -> Result<bool, Memory> {
-    if state.stopped {
-        return Ok(false);
-    }
-    if !may_say(state, ask, said) {
-        return Ok(false);
+fn may_ask(state: &State, ask: &Ask, said: &Said, end: End) -> bool {
+    if state.stopped || !may_say(state, ask, said) {
+        return false;
     }
     match end {
-        End::Done => Ok(true),
-        End::Faulted(count) => {
-            let can = can_fault_ask(alloc, state, ask, count)?;
-            Ok(says_done(said) && can)
-        }
-        End::Skip => Ok(false),
+        End::Done => true,
+        End::Faulted(count) => says_done(said) && can_fault_ask(state, ask, count),
+        End::Skip => false,
     }
 }
 
 // Whether a disk fault can keep what was asked from being done (`CanFaultAsk`), behind so many channels that a topic's deletion had deleted.
-fn can_fault_ask(alloc: Global, state: &State, ask: &Ask, count: u64) -> Result<bool, Memory> {
+fn can_fault_ask(state: &State, ask: &Ask, count: u64) -> bool {
     match ask {
-        Ask::Publish(_, _, _) | Ask::Empty(_, _) => Ok(count == 0),
-        Ask::Delete(topic, channel) => may_break_off(alloc, state, topic, channel, count),
-        _ => Ok(false),
+        Ask::Publish(_, _, _) | Ask::Empty(_, _) => count == 0,
+        Ask::Delete(_, Some(_)) => count == 0,
+        Ask::Delete(topic, None) => may_break_off(state.topic_of(topic), count),
+        _ => false,
     }
 }
 
-// Whether a disk fault can end a deletion behind so many channels.
-fn may_break_off(
-    alloc: Global,
-    state: &State,
-    topic: &Topic,
-    channel: &Option<Chan>,
-    count: u64,
-) -> Result<bool, Memory> {
-    match channel {
-        Some(_) => Ok(count == 0),
-        None => {
-            let channels = channels_in(alloc, state, topic)?;
-            Ok(count <= channels.len() as u64)
-        }
+// Whether a disk fault can end a topic's deletion behind so many channels.
+fn may_break_off(topic: Option<&TopicState>, count: u64) -> bool {
+    match topic {
+        Some(topic) => count <= topic.channels.len() as u64,
+        None => count == 0,
     }
 }
 
@@ -299,10 +303,16 @@ fn are_names(state: &State, names: &Names) -> bool {
 }
 
 // Whether a Stuck may stand (`MayBeStuck`): the daemon's names a topic alone, for which a Took is due; a client's names its channel.
-fn may_be_stuck(state: &State, entry: &Entry, topic: &Topic, channel: &Option<Chan>) -> bool {
+fn may_be_stuck(
+    state: &State,
+    at: u64,
+    number: u64,
+    topic: &Topic,
+    channel: &Option<Chan>,
+) -> bool {
     match channel {
-        None => is_daemons(state, entry.conn) && is_topic_stuck(state, topic),
-        Some(channel) => is_client_stuck(state, entry, topic, channel),
+        None => is_daemons(state, number) && is_topic_stuck(state, topic),
+        Some(channel) => is_client_stuck(state, at, number, topic, channel),
     }
 }
 
@@ -315,11 +325,11 @@ fn is_topic_stuck(state: &State, topic: &Topic) -> bool {
 }
 
 // Whether a message of this channel was to be sent to the client.
-fn is_client_stuck(state: &State, entry: &Entry, topic: &Topic, channel: &Chan) -> bool {
-    let Some(client) = served(state, entry.conn) else {
+fn is_client_stuck(state: &State, at: u64, number: u64, topic: &Topic, channel: &Chan) -> bool {
+    let Some(client) = served(state, number) else {
         return false;
     };
-    if !may_be_sent(state, entry.at, client) {
+    if !may_be_sent(state, at, client) {
         return false;
     }
     client.has_channel(topic, channel)

@@ -92,15 +92,14 @@ const NOTHING: Standing = Standing {
 fn stands_before(at: u64, history: &[(Entry, End)]) -> Standing {
     let mut standing = NOTHING;
     for (entry, end) in history {
-        standing = behind(standing, at, entry, *end);
+        standing = behind(standing, entry.at == at, kind_of(&entry.act), *end);
     }
     standing
 }
 
-// What stands just before the end after one more entry.
-fn behind(before: Standing, at: u64, entry: &Entry, end: End) -> Standing {
-    let kind = kind_of(&entry.act);
-    let stuck = entry.at == at && is_stuck(kind, end);
+// What stands just before the end after one more entry of this kind and end, at the moment or not.
+fn behind(before: Standing, is_now: bool, kind: Kind, end: End) -> Standing {
+    let stuck = is_now && is_stuck(kind, end);
     if kind == Kind::Held {
         return Standing {
             front: 0,
@@ -109,7 +108,7 @@ fn behind(before: Standing, at: u64, entry: &Entry, end: End) -> Standing {
             stuck_last: stuck,
         };
     }
-    let moves = if kind == Kind::DueMove && entry.at == at {
+    let moves = if kind == Kind::DueMove && is_now {
         one_more(before.front)
     } else {
         0
@@ -167,10 +166,11 @@ fn may_stop(standing: Standing, state: &State) -> bool {
 
 // Whether what is due was moved before the entry, as far as it has to be (`IsPaid`); moves and the daemon's Stuck stand anywhere.
 pub(crate) fn is_paid(history: &[(Entry, End)], state: &State, entry: &Entry) -> bool {
-    let standing = stands_before(entry.at, history);
+    let at = entry.at;
+    let standing = stands_before(at, history);
     match kind_of(&entry.act) {
         Kind::DueMove | Kind::Held | Kind::StuckTopic => true,
-        Kind::Other => may_act(standing, state, entry.at),
-        Kind::Stop => may_act(standing, state, entry.at) && may_stop(standing, state),
+        Kind::Other => may_act(standing, state, at),
+        Kind::Stop => may_act(standing, state, at) && may_stop(standing, state),
     }
 }

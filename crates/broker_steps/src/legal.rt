@@ -10,17 +10,22 @@ use std::alloc::Global;
 /// The states to which an entry with this end may lead from a state (`Step`); none where it may not stand behind it. What stands before the
 /// entry isn't judged here. Want of memory is the only error. It has no contract: it is a second reading of the definitions by hand.
 pub fn step(alloc: Global, state: &State, entry: &Entry, end: End) -> Result<Vec<State>, Memory> {
-    let mut states = Vec::new(alloc);
     if entry.at < state.moment || entry.at > 1 << 62 {
-        return Ok(states);
+        return Ok(Vec::new(alloc));
     }
     if !is_allowed(alloc, state, entry, end)? {
-        return Ok(states);
+        return Ok(Vec::new(alloc));
     }
-    for led in acted(alloc, state, entry, end)? {
-        states.push(led.at_moment(entry.at))?;
-    }
+    let mut states = acted(alloc, state, entry, end)?;
+    set_moment(&mut states, entry.at);
     Ok(states)
+}
+
+// Moves states to another moment.
+fn set_moment(states: &mut Vec<State>, at: u64) {
+    for state in states {
+        state.moment = at;
+    }
 }
 
 /// The states to which a legal history leads from a start (`Legal`); none where the history isn't legal (`IsIllegal`). Want of memory is the
@@ -30,12 +35,18 @@ pub fn led_to(
     start: &State,
     history: &[(Entry, End)],
 ) -> Result<Vec<State>, Memory> {
-    let mut states = Vec::new(alloc);
-    states.push(start.copy(alloc)?)?;
+    let mut states = one(alloc, start)?;
     for i in 0..history.len() {
         let (entry, end) = &history[i];
         states = stepped(alloc, &states, &history[..i], entry, *end)?;
     }
+    Ok(states)
+}
+
+// A copy of a state, alone in a list.
+fn one(alloc: Global, state: &State) -> Result<Vec<State>, Memory> {
+    let mut states = Vec::new(alloc);
+    states.push(state.copy(alloc)?)?;
     Ok(states)
 }
 
@@ -50,10 +61,15 @@ fn stepped(
     let mut next = Vec::new(alloc);
     for state in states {
         if is_paid(history, state, entry) {
-            for led in step(alloc, state, entry, end)? {
-                next.push(led)?;
-            }
+            put_all(&mut next, step(alloc, state, entry, end))?;
         }
     }
     Ok(next)
+}
+
+// Adds states that were made, where memory didn't want.
+fn put_all(states: &mut Vec<State>, made: Result<Vec<State>, Memory>) -> Result<(), Memory> {
+    let mut made = made?;
+    states.append(&mut made)?;
+    Ok(())
 }

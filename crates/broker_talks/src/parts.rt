@@ -48,13 +48,7 @@ pub fn part_of(act: &Act) -> Part<'_> {
         Act::Stuck(_, Some(_)) => Part::Rested,
         Act::Stop => Part::Stop,
         Act::Asked(_, _) | Act::Listed(_) => Part::Other,
-        Act::Stuck(_, None)
-        | Act::Ticked
-        | Act::Took(_, _, _)
-        | Act::Copied(_, _, _)
-        | Act::TimedOut(_, _, _)
-        | Act::CameDue(_, _, _)
-        | Act::HeldBack(_, _, _) => Part::Common,
+        _ => Part::Common,
     }
 }
 

@@ -250,9 +250,8 @@ fn has_fault(
 ) -> Result<bool, Memory> {
     if !standing.greeted {
         let kind = FaultKind::BadMagic;
-        return Ok(
-            fault == Fault { kind, at: 0 } && is_bad_magic(&standing.pending(alloc, pieces)?),
-        );
+        let bytes = standing.read_bytes(alloc, pieces)?;
+        return Ok(fault == Fault { kind, at: 0 } && is_bad_magic(standing.pending(&bytes)));
     }
     match judged(alloc, limits, pieces, standing, None)? {
         Front::Faulty(kind, at) => {

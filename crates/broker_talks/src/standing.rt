@@ -60,12 +60,16 @@ impl Standing {
         }
     }
 
-    /// The bytes of the pieces read that aren't done.
-    pub fn pending(&self, alloc: Global, pieces: &[Body]) -> Result<Vec<u8>, Memory> {
-        let bytes = joined(alloc, firsts(pieces, self.read))?;
+    /// The bytes of the pieces read.
+    pub fn read_bytes(&self, alloc: Global, pieces: &[Body]) -> Result<Vec<u8>, Memory> {
+        joined(alloc, firsts(pieces, self.read))
+    }
+
+    /// Those of the bytes read that aren't done.
+    pub fn pending<'a>(&self, bytes: &'a [u8]) -> &'a [u8] {
         match bytes.get(self.done..) {
-            Some(pending) => Ok(Vec::from_slice(alloc, pending)?),
-            None => Ok(Vec::new(alloc)),
+            Some(pending) => pending,
+            None => b"",
         }
     }
 }
@@ -111,8 +115,8 @@ pub fn judged(
     if !standing.greeted {
         return Ok(Front::Other);
     }
-    let pending = standing.pending(alloc, pieces)?;
-    let found = judge_front(alloc, limits, &pending)?;
+    let bytes = standing.read_bytes(alloc, pieces)?;
+    let found = judge_front(alloc, limits, standing.pending(&bytes))?;
     Ok(front_of(&found, wanted))
 }
 
@@ -202,7 +206,8 @@ fn settle_doing(
     if standing.greeted {
         return settle_greeted(alloc, limits, pieces, standings, standing);
     }
-    let pending = standing.pending(alloc, pieces)?;
+    let bytes = standing.read_bytes(alloc, pieces)?;
+    let pending = standing.pending(&bytes);
     if pending.len() < MAGIC.len() {
         return add(standings, standing.at(Round::Sending(0)));
     }

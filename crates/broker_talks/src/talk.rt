@@ -91,25 +91,24 @@ fn reaches(
     ended: Ended,
 ) -> Result<bool, Memory> {
     match ended {
-        Ended::EndOfInput => is_waiting(alloc, limits, pieces, parts),
-        Ended::ReadFault => is_waiting(alloc, limits, pieces, parts),
-        Ended::Closed => Ok(
-            is_closed(alloc, limits, pieces, parts)?
-                || stopped && is_open(alloc, limits, pieces, parts)?,
-        ),
-        Ended::WriteFault => is_reached(alloc, limits, pieces, parts),
-        Ended::Memory => is_reached(alloc, limits, pieces, parts),
+        Ended::EndOfInput | Ended::ReadFault => is_waiting(alloc, limits, pieces, parts),
+        Ended::Closed => is_reached(alloc, limits, stopped, pieces, parts),
+        Ended::WriteFault | Ended::Memory => is_reached(alloc, limits, true, pieces, parts),
     }
 }
 
-// Whether the conversation came to these entries: the last ended it, or it goes on behind them.
+// Whether the conversation came to these entries: the last ended it, or it goes on behind them, where it may.
 fn is_reached(
     alloc: Global,
     limits: Limits,
+    may_go_on: bool,
     pieces: &[Body],
     parts: &[(Part<'_>, End)],
 ) -> Result<bool, Memory> {
-    Ok(is_closed(alloc, limits, pieces, parts)? || is_open(alloc, limits, pieces, parts)?)
+    Ok(
+        is_closed(alloc, limits, pieces, parts)?
+            || may_go_on && is_open(alloc, limits, pieces, parts)?,
+    )
 }
 
 // Whether these bytes are what a conversation that ended so wrote for its entries.
@@ -120,9 +119,7 @@ fn writes(
     ended: Ended,
 ) -> Result<bool, Memory> {
     match ended {
-        Ended::EndOfInput => is_all(alloc, parts, out),
-        Ended::Closed => is_all(alloc, parts, out),
-        Ended::ReadFault => is_all(alloc, parts, out),
+        Ended::EndOfInput | Ended::Closed | Ended::ReadFault => is_all(alloc, parts, out),
         Ended::WriteFault => is_cut_short(alloc, parts, out),
         Ended::Memory => is_given_up(alloc, parts, out),
     }
@@ -137,10 +134,7 @@ fn is_all(alloc: Global, parts: &[(Part<'_>, End)], out: &[u8]) -> Result<bool, 
 fn may_lack_gone(ended: Ended) -> bool {
     match ended {
         Ended::Closed => false,
-        Ended::EndOfInput => true,
-        Ended::ReadFault => true,
-        Ended::WriteFault => true,
-        Ended::Memory => true,
+        Ended::EndOfInput | Ended::ReadFault | Ended::WriteFault | Ended::Memory => true,
     }
 }
 

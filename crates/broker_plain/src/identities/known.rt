@@ -47,29 +47,51 @@ fn identity_in(
     options: &Options,
     value: &Value,
 ) -> Result<Option<Identity>, Memory> {
-    if !value.is_object() {
-        return Ok(None);
+    if value.is_object() && accepts(options, value) {
+        Ok(Some(said_in(alloc, options, value)?))
+    } else {
+        Ok(None)
     }
-    if !accepts(options, value) {
-        return Ok(None);
-    }
-    Ok(Some(Identity {
-        client_id: text_in(alloc, value, "client_id")?,
-        hostname: text_in(alloc, value, "hostname")?,
-        user_agent: text_in(alloc, value, "user_agent")?,
+}
+
+// What it says by an object that is accepted.
+fn said_in(alloc: Global, options: &Options, value: &Value) -> Result<Identity, Memory> {
+    let client_id = text_in(alloc, value, "client_id")?;
+    let hostname = text_in(alloc, value, "hostname")?;
+    let user_agent = text_in(alloc, value, "user_agent")?;
+    Ok(with_texts(options, value, client_id, hostname, user_agent))
+}
+
+// What it says besides these texts.
+fn with_texts(
+    options: &Options,
+    value: &Value,
+    client_id: Body,
+    hostname: Body,
+    user_agent: Body,
+) -> Identity {
+    Identity {
+        client_id,
+        hostname,
+        user_agent,
         heartbeat: heartbeat_in(options, number_in(value, "heartbeat_interval")),
         timeout: timeout_in(options, number_in(value, "msg_timeout")),
-    }))
+    }
 }
 
 // The text that a member is, empty where it is none.
 fn text_in(alloc: Global, value: &Value, key: &str) -> Result<Body, Memory> {
-    match value.get(key) {
-        None => Ok(Body::of(Vec::new(alloc))),
+    Body::copy(alloc, text_of(value.get(key)).as_bytes())
+}
+
+// The text of a member, empty where it is none.
+fn text_of(member: Option<&Value>) -> &str {
+    match member {
         Some(member) => match member.as_str() {
-            Some(text) => Body::copy(alloc, text.as_bytes()),
-            None => Ok(Body::of(Vec::new(alloc))),
+            Some(text) => text,
+            None => "",
         },
+        None => "",
     }
 }
 

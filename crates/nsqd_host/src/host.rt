@@ -42,17 +42,14 @@ where
         ensures state { IfOk result (λ host. IsAtHome (state_of host)) }
         ensures dial_faults { IfOk result (λ host. dial_faults_of host ≡ 0) }
     {
-        let kit = Kit {
-            folder: DirFolder::new(rt.clone()?, alloc, ".")?,
-            clock: SysClock::new(rt.clone()?),
-            journal: Forgetful::new(alloc),
-        };
+        let dialer = TcpDialer::new(rt.clone()?, alloc);
+        let kit = Some(kit_here(&rt, alloc)?);
         Ok(SysHost {
-            dialer: TcpDialer::new(rt.clone()?, alloc),
             rt,
             alloc,
+            dialer,
             listeners: None,
-            kit: Some(kit),
+            kit,
             accept_faults: Faults::none(),
             print_faults: Faults::none(),
             tell_faults: Faults::none(),
@@ -72,22 +69,42 @@ where
         let Ok(listeners) = Listeners::open(rt, self.alloc, tcp, Some(http)) else {
             return false;
         };
-        if !self.move_folder(path) {
+        if !move_folder(&mut self.kit, path) {
             return false;
         }
         self.listeners = Some(listeners);
         true
     }
+}
 
-    /// Moves the folder to its path. False where it isn't at home, or without memory.
-    fn move_folder(&mut self, path: &str) -> bool
-        ensures state { state_of self.new ≡ state_of self.old }
-        ensures dial_faults { dial_faults_of self.new ≡ dial_faults_of self.old }
-    {
-        match &mut self.kit {
-            Some(kit) => kit.folder.move_to(path).is_ok(),
-            None => false,
-        }
+/// A kit whose folder is the one that the process runs in.
+fn kit_here<N: Files + Clock + AllocGlobal + Clone + Drop>(
+    rt: &N,
+    alloc: Global,
+) -> Result<Kit<DirFolder<N>, SysClock<N>, Forgetful<Entry>>, Memory>
+where
+    N::File: FileExt,
+{
+    let clock = SysClock::new(rt.clone()?);
+    Ok(Kit {
+        folder: DirFolder::new(rt.clone()?, alloc, ".")?,
+        clock,
+        journal: Forgetful::new(alloc),
+    })
+}
+
+/// Moves the folder to its path. False where there is none, or without memory.
+fn move_folder<N: Files + Clock + AllocGlobal + Clone + Drop>(
+    kit: &mut Option<Kit<DirFolder<N>, SysClock<N>, Forgetful<Entry>>>,
+    path: &str,
+) -> bool
+where
+    N::File: FileExt,
+    ensures { kit.new ≡ kit.old }
+{
+    match kit {
+        Some(kit) => kit.folder.move_to(path).is_ok(),
+        None => false,
     }
 }
 

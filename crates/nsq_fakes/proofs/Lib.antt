@@ -4,3 +4,5 @@ pub mod Lists
 pub mod Outcomes
 pub mod PassedBytes
 pub mod Shown
+pub mod FolderCalls
+pub mod Results

@@ -1,4 +1,4 @@
-ghost use Rattle.std.specs.Prelude.{◌≡◌, ◌≤◌, ◌↔◌, IsTrue, true};
+ghost use Rattle.std.specs.Prelude.{◌≡◌, ◌≤◌, ◌↔◌, IsTrue};
 ghost use Rattle.nsq_outside.specs.Causes.{Rose, CountsFault};
 
 use nsq_outside::Faults;
@@ -46,21 +46,11 @@ impl Calls {
     {
         let call = self.next;
         self.next = call.saturating_add(1);
-        let fails = self.fails.contains(&call);
-        if fails {
-            self.add_fault();
+        if self.fails.contains(&call) {
+            self.faults.add();
+            return true;
         }
-        fails
-    }
-
-    /// Counts a fault.
-    pub fn add_fault(&mut self)
-        ensures faults { self.old.faults.count ≤ self.new.faults.count }
-        ensures rose { Rose self.old.faults.count self.new.faults.count }
-        ensures fault { CountsFault self.old.faults.count self.new.faults.count true }
-        ensures calls { self.new ≡ record self.old { faults = self.new.faults } }
-    {
-        self.faults.add();
+        false
     }
 
     /// As if none had failed yet. The numbers of the calls go on.

@@ -141,7 +141,7 @@ impl Source for MemConn {
         }
         let count = rest.len().min(into.len());
         if keep(self.alloc, &mut self.pieces, &rest[..count]).is_err() {
-            self.reads.add_fault();
+            self.reads.faults.add();
             return Read::Failed;
         }
         into[..count].copy_from_slice(&rest[..count]);
@@ -183,7 +183,7 @@ impl Sink for MemConn {
             return Write::Failed;
         }
         if self.written.extend_from_slice(from).is_err() {
-            self.writes.add_fault();
+            self.writes.faults.add();
             return Write::Failed;
         }
         Write::Took(from.len())

@@ -1,5 +1,4 @@
-ghost use Rattle.std.specs.Prelude.{◌≡◌, ◌+◌, ◌<◌, ◌≤◌, ◌++◌, ◌∷◌, [], map, drop, length, slice_get, IsSomeAnd, vec_len, string_bytes, true, OnOk, OnErr};
-ghost use Rattle.nsq_outside.specs.Causes.{Rose, CountsFault};
+ghost use Rattle.std.specs.Prelude.{◌≡◌, ◌+◌, ◌<◌, ◌≤◌, ◌++◌, ◌∷◌, [], map, drop, length, slice_get, IsSomeAnd, vec_len, string_bytes, OnOk, OnErr};
 ghost use Rattle.nsq_outside.specs.Hosts.{Dials, LinkFails, LinkCounts};
 ghost use Rattle.nsq_fakes.specs.MemConns.{left_of, IsUnused, IsUnusedLink, IsRestarted, LinksFirst};
 
@@ -55,27 +54,18 @@ impl MemDialer {
         ensures first { LinksFirst self.old.coming.items self.new.coming.items result }
     {
         if keep(self.alloc, &mut self.asked, address).is_err() {
-            return self.fail();
+            self.faults.add();
+            return Dialled::Failed;
         }
         if self.coming.is_empty() {
-            return self.fail();
+            self.faults.add();
+            return Dialled::Failed;
         }
         if keep(self.alloc, &mut self.linked, address).is_err() {
-            return self.fail();
+            self.faults.add();
+            return Dialled::Failed;
         }
         Dialled::Linked(first_of(&mut self.coming))
-    }
-
-    /// Counts a fault.
-    pub fn fail(&mut self) -> Dialled<MemConn>
-        ensures failed { result ≡ Dialled.Failed }
-        ensures fault { self.new ≡ record self.old { faults = self.new.faults } }
-        ensures faults { self.old.faults.count ≤ self.new.faults.count }
-        ensures rose { Rose self.old.faults.count self.new.faults.count }
-        ensures counted { CountsFault self.old.faults.count self.new.faults.count true }
-    {
-        self.faults.add();
-        Dialled::Failed
     }
 }
 

@@ -1,7 +1,8 @@
 ghost use Rattle.std.specs.Prelude.{◌≡◌, ◌≢◌, ◌≤◌, ◌↔◌, ◌⊎◌, [], List, ℕ, IsTrue, true, false, IfOk, IfSome, IfNone, None, Option, option_map, OnErr, OnOk, IsOk};
 ghost use Rattle.nsq_outside.specs.Causes.{Rose, DidFails, CountsFault, DidCounts};
 ghost use Rattle.nsq_fakes.specs.MemFiles.{files_of, first_of, GrowsTo, MovesToNew};
-ghost use Rattle.nsq_fakes.specs.Failings.{count_of};
+ghost use Rattle.std.specs.List.{Any};
+ghost use Rattle.nsq_fakes.specs.Failings.{count_of, Hits, CountsCall};
 
 use crate::called::{Called, keep_call};
 use crate::files;
@@ -28,7 +29,6 @@ pub struct MemFolder {
 }
 
 impl MemFolder {
-    ghost use Rattle.nsq_fakes.specs.Failings.{CountsCall};
     ghost use Rattle.nsq_fakes.specs.Made.{Joins};
     ghost use Rattle.nsq_fakes.specs.MemFolders.{counts_of, called_of, faults_of, IsRefused, IsUnkept};
 
@@ -78,23 +78,6 @@ impl MemFolder {
         self.faults.count
     }
 
-    /// Counts a call, and a fault where it is among those that fail.
-    fn refuses(&mut self, call: FolderCall) -> bool
-        requires { call ≢ FolderCall.Any }
-        ensures refused { IsTrue result ↔ IsRefused self.old call }
-        ensures counted { CountsCall (counts_of self.old) (counts_of self.new) call }
-        ensures rest { self.new ≡ record self.old { counts = self.new.counts; faults = self.new.faults } }
-        ensures rose { IsTrue result → Rose self.old.faults.count self.new.faults.count }
-        ensures fault { CountsFault self.old.faults.count self.new.faults.count result }
-        ensures faults { self.old.faults.count ≤ self.new.faults.count }
-    {
-        let fails = self.counts.count(&self.fails, call);
-        if fails {
-            self.faults.add();
-        }
-        fails
-    }
-
     /// Keeps a call, and counts it. It fails where it is among those that fail, or there is no memory to keep it; then its
     /// fault is counted.
     fn fails(&mut self, call: FolderCall, name: &str, to: &str) -> bool
@@ -109,7 +92,7 @@ impl MemFolder {
         ensures faults { self.old.faults.count ≤ self.new.faults.count }
     {
         let is_kept = keep_call(self.alloc, &mut self.called, call, name, to).is_ok();
-        if self.refuses(call) {
+        if refuses(&mut self.counts, &self.fails, &mut self.faults, call) {
             return true;
         }
         if !is_kept {
@@ -117,22 +100,37 @@ impl MemFolder {
         }
         !is_kept
     }
+}
 
-    /// The answer of a change, which counts a fault where there was no room.
-    fn answer(&mut self, outcome: Result<(), files::NoRoom>) -> Did
-        ensures done { OnOk outcome (result ≡ Did.Done) }
-        ensures failed { OnErr outcome (result ≡ Did.Failed) }
-        ensures rest { self.new ≡ record self.old { faults = self.new.faults } }
-        ensures faults { self.old.faults.count ≤ self.new.faults.count }
-        ensures cause { DidFails self.old.faults.count self.new.faults.count result }
-        ensures counted { DidCounts self.old.faults.count self.new.faults.count result }
-    {
-        match outcome {
-            Ok(()) => Did::Done,
-            Err(_) => {
-                self.faults.add();
-                Did::Failed
-            }
+/// Counts a call, and a fault where it is among those that fail.
+fn refuses(counts: &mut Counts, fails: &[Failing], faults: &mut Faults, call: FolderCall) -> bool
+    requires { call ≢ FolderCall.Any }
+    ensures refused { IsTrue result ↔ Any (Hits counts.old call) fails.now }
+    ensures counted { CountsCall counts.old counts.new call }
+    ensures rose { IsTrue result → Rose faults.old.count faults.new.count }
+    ensures fault { CountsFault faults.old.count faults.new.count result }
+    ensures faults { faults.old.count ≤ faults.new.count }
+{
+    if counts.count(fails, call) {
+        faults.add();
+        return true;
+    }
+    false
+}
+
+/// The answer of a change, which counts a fault where there was no room.
+fn answer(faults: &mut Faults, outcome: Result<(), files::NoRoom>) -> Did
+    ensures done { OnOk outcome (result ≡ Did.Done) }
+    ensures failed { OnErr outcome (result ≡ Did.Failed) }
+    ensures faults { faults.old.count ≤ faults.new.count }
+    ensures cause { DidFails faults.old.count faults.new.count result }
+    ensures counted { DidCounts faults.old.count faults.new.count result }
+{
+    match outcome {
+        Ok(()) => Did::Done,
+        Err(_) => {
+            faults.add();
+            Did::Failed
         }
     }
 }
@@ -140,7 +138,6 @@ impl MemFolder {
 impl Folder for MemFolder {
     ghost use Rattle.std.specs.Prelude.{◌+◌, ◌^◌, ◌<◌, length, IsSomeAnd};
     ghost use Rattle.nsq_outside.specs.Files.{SameFiles, IsWithin, OnlyChanges, Lists, Appends, ListingFails, ListingCounts, HasLength, IsFileLength, LengthFails, LengthCounts, IsAmountAt, ReadsAt, IsReadWithin, ReadAtFails, ReadAtCounts, WritesAt, Cuts, Renames, Removes};
-    ghost use Rattle.nsq_fakes.specs.Failings.{CountsCall};
     ghost use Rattle.nsq_fakes.specs.Made.{Joins};
     ghost use Rattle.nsq_fakes.specs.MemFolders.{files_in, fails_of, counts_of, called_of, faults_of, IsRefused, IsUnkept, ReadsPast};
 
@@ -165,7 +162,12 @@ impl Folder for MemFolder {
         ensures refused { (result ≡ Listing.Failed) ↔ IsRefused self.old FolderCall.List }
     {
         let kept = keep_call(self.alloc, &mut self.called, FolderCall::List, "", "");
-        if self.refuses(FolderCall::List) {
+        if refuses(
+            &mut self.counts,
+            &self.fails,
+            &mut self.faults,
+            FolderCall::List,
+        ) {
             return Listing::Failed;
         }
         if kept.is_err() {
@@ -248,7 +250,7 @@ impl Folder for MemFolder {
             return Did::Failed;
         }
         let outcome = files::write(self.alloc, &mut self.files, name, at, from);
-        self.answer(outcome)
+        answer(&mut self.faults, outcome)
     }
 
     fn cut(&mut self, name: &str, to: u64) -> Did
@@ -269,7 +271,7 @@ impl Folder for MemFolder {
             return Did::Failed;
         }
         let outcome = files::cut(self.alloc, &mut self.files, name, to);
-        self.answer(outcome)
+        answer(&mut self.faults, outcome)
     }
 
     fn sync(&mut self, name: &str) -> Did
@@ -322,7 +324,7 @@ impl Folder for MemFolder {
             return Did::Failed;
         }
         let outcome = files::rename(self.alloc, &mut self.files, from, to);
-        self.answer(outcome)
+        answer(&mut self.faults, outcome)
     }
 
     fn remove(&mut self, name: &str) -> Did

@@ -41,7 +41,7 @@ pub struct MemHost<E: Drop> {
 }
 
 impl<E: Drop> MemHost<E> {
-    ghost use Rattle.nsq_fakes.specs.MemHosts.{content_of, state_of, dials_of, dial_faults_of, callers_of, to_link_of, FailsAtHostCalls, KeepsCalls};
+    ghost use Rattle.nsq_fakes.specs.MemHosts.{content_of, state_of, dials_of, dial_faults_of, callers_of, to_link_of, FailsAtHostCalls};
 
     /// A host with these callers, connections to be dialled and kit. `beside` says whether each caller gets a thread of its own.
     pub fn new(
@@ -162,21 +162,6 @@ impl<E: Drop> MemHost<E> {
     {
         self.dialer.asked()
     }
-
-    /// Makes room to take back one more connection.
-    fn make_room(&mut self) -> Result<(), Memory>
-        ensures content { content_of self.new ≡ content_of self.old }
-        ensures state { state_of self.new ≡ state_of self.old }
-        ensures dialer { self.new.dialer ≡ self.old.dialer }
-        ensures callers { self.new.callers ≡ self.old.callers }
-        ensures given { vec_len self.new.given ≡ vec_len self.old.given }
-        ensures calls { KeepsCalls self.old self.new }
-        ensures room { OnOk result (vec_len self.new.given + vec_len self.new.dialer.linked + 1 ≤ vec_capacity self.new.back) }
-    {
-        self.back
-            .reserve(self.given.len() + self.dialer.linked.len() + 1)?;
-        Ok(())
-    }
 }
 
 impl<E: Drop> Dialer for MemHost<E> {
@@ -205,8 +190,9 @@ impl<E: Drop> Dialer for MemHost<E> {
         ensures callers { callers_of self.new ≡ callers_of self.old }
         ensures calls { KeepsCalls self.old self.new }
     {
-        if self.make_room().is_err() {
-            return self.dialer.fail();
+        if make_room(&mut self.back, &self.given, &self.dialer.linked).is_err() {
+            self.dialer.faults.add();
+            return Dialled::Failed;
         }
         self.dialer.dial(address)
     }
@@ -248,7 +234,7 @@ impl<E: Drop + Twin + Send> Host<E> for MemHost<E> {
             return Did::Failed;
         }
         if keep_start(self.alloc, &mut self.starts, tcp, http, path).is_err() {
-            self.accepts.add_fault();
+            self.accepts.faults.add();
             return Did::Failed;
         }
         Did::Done
@@ -274,8 +260,8 @@ impl<E: Drop + Twin + Send> Host<E> for MemHost<E> {
         if self.accepts.next_fails() {
             return Accept::Failed;
         }
-        if self.make_room().is_err() || self.given.reserve(1).is_err() {
-            self.accepts.add_fault();
+        if room_for_caller(&mut self.back, &mut self.given, &self.dialer.linked).is_err() {
+            self.accepts.faults.add();
             return Accept::Failed;
         }
         let (kind, conn) = first_caller(&mut self.callers);
@@ -360,7 +346,7 @@ impl<E: Drop + Twin + Send> Host<E> for MemHost<E> {
             return Did::Failed;
         }
         if self.printed.extend_from_slice(text).is_err() {
-            self.prints.add_fault();
+            self.prints.faults.add();
             return Did::Failed;
         }
         Did::Done
@@ -380,7 +366,7 @@ impl<E: Drop + Twin + Send> Host<E> for MemHost<E> {
             return;
         }
         if keep_line(self.alloc, &mut self.lines, line).is_err() {
-            self.tells.add_fault();
+            self.tells.faults.add();
         }
     }
 
@@ -389,6 +375,38 @@ impl<E: Drop + Twin + Send> Host<E> for MemHost<E> {
     ghost back_given = { λ h told. Prim.simp length-map h.order };
 
     ghost faults_fit = { λ h. record { accept = h.accepts.faults.fits; print = h.prints.faults.fits; tell = h.tells.faults.fits } };
+}
+
+/// Makes room to take back one connection more than callers were given and dials were linked.
+fn make_room(
+    back: &mut Vec<(u64, MemConn)>,
+    given: &Vec<Kind>,
+    linked: &Vec<String>,
+) -> Result<(), Memory>
+    ensures items { back.new.items ≡ back.old.items }
+    ensures capacity { vec_capacity back.old ≤ vec_capacity back.new }
+    ensures room { OnOk result (vec_len given.now + vec_len linked.now + 1 ≤ vec_capacity back.new) }
+{
+    back.reserve(given.len() + linked.len() + 1)?;
+    Ok(())
+}
+
+/// Makes room to give one caller more, and to take its connection back.
+fn room_for_caller(
+    back: &mut Vec<(u64, MemConn)>,
+    given: &mut Vec<Kind>,
+    linked: &Vec<String>,
+) -> Result<(), Memory>
+    ensures back { back.new.items ≡ back.old.items }
+    ensures given { given.new.items ≡ given.old.items }
+    ensures count { vec_len given.new ≡ vec_len given.old }
+    ensures capacity { vec_capacity back.old ≤ vec_capacity back.new }
+    ensures room { OnOk result (vec_len given.new + vec_len linked.now + 1 ≤ vec_capacity back.new) }
+    ensures free { OnOk result (vec_len given.new < vec_capacity given.new) }
+{
+    back.reserve(given.len() + linked.len() + 1)?;
+    given.reserve(1)?;
+    Ok(())
 }
 
 /// Takes the first caller, its connection restarted.

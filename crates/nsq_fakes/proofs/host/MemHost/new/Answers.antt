@@ -1,11 +1,18 @@
 use Rattle.std.proofs.Common.{refl, ◌∙◌}
 use Rattle.nsq_fakes.proofs.host.MemHost.new.Goals as goal
 
+pub returns-clause-content : goal.returns-clause-content
+returns-clause-content g c =
+    rw (c.new-2.ensures.items, c.from.ensures.0, c.new-3.ensures.items, c.new-4.ensures.items, c.new-5.ensures.items, c.new-6.ensures.items) refl
+
 pub returns-clause-dials : goal.returns-clause-dials
 returns-clause-dials g c = c.new.ensures.dials
 
 pub returns-clause-dial_faults : goal.returns-clause-dial_faults
 returns-clause-dial_faults g c = c.new.ensures.no_fault
+
+pub returns-clause-callers : goal.returns-clause-callers
+returns-clause-callers g c = c.from.ensures.0
 
 pub returns-clause-to_link : goal.returns-clause-to_link
 returns-clause-to_link g c = c.new.ensures.coming

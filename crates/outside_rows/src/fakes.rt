@@ -4,56 +4,53 @@ mod clock;
 mod conn;
 mod folder;
 mod host;
-mod host_faults;
 mod journal;
 mod threads;
 
 use crate::same;
+use crate::words::{halves, is, numbers};
 use nsq_base::Body;
 use nsq_fakes::{MemConn, Piece};
 use std::alloc::Global;
 use std::process::Abort;
 
-/// Pieces to be read, of which `None` is a mark that nothing has come yet.
-type Pieces = &'static [Option<&'static [u8]>];
-
-/// A connection that gives these pieces, and fails at the reads and the writes of these numbers.
+/// A connection that gives these pieces, with a `|` between them, and fails at the reads and the writes of these numbers. `nothing` is a mark
+/// that nothing has come yet; of an empty text there is no piece.
 fn made_conn(
     rt: &impl Abort,
     alloc: Global,
-    pieces: Pieces,
-    read_fails: &[u64],
-    write_fails: &[u64],
+    pieces: &str,
+    read_fails: &str,
+    write_fails: &str,
 ) -> MemConn {
     let mut list = Vec::new(alloc);
-    push_pieces(rt, alloc, pieces, &mut list);
-    MemConn::new(
-        alloc,
-        list,
-        read_fails.to_vec(alloc).expect(rt, "memory"),
-        write_fails.to_vec(alloc).expect(rt, "memory"),
-    )
-    .expect(rt, "memory")
+    if !pieces.is_empty() {
+        push_pieces(rt, alloc, pieces, &mut list);
+    }
+    let read_fails = numbers(rt, alloc, read_fails);
+    let write_fails = numbers(rt, alloc, write_fails);
+    MemConn::new(alloc, list, read_fails, write_fails).expect(rt, "memory")
 }
 
-fn push_pieces(rt: &impl Abort, alloc: Global, pieces: Pieces, list: &mut Vec<Piece>) {
-    for piece in pieces {
-        list.push(match piece {
-            Some(bytes) => Piece::Bytes(Body::copy(alloc, bytes).expect(rt, "memory")),
-            None => Piece::Nothing,
+fn push_pieces(rt: &impl Abort, alloc: Global, pieces: &str, list: &mut Vec<Piece>) {
+    for piece in pieces.split('|') {
+        list.push(if is(piece, "nothing") {
+            Piece::Nothing
+        } else {
+            Piece::Bytes(Body::copy(alloc, piece.as_bytes()).expect(rt, "memory"))
         })
         .expect(rt, "memory");
     }
 }
 
-/// Whether these are the bytes of a list, one by one.
-fn are(list: &[Vec<u8>], want: &[&[u8]]) -> bool {
-    if list.len() != want.len() {
-        return false;
-    }
+/// Whether these are the bytes of a list, one by one, with a `|` between them. None is empty.
+fn are(list: &[Vec<u8>], want: &str) -> bool {
     let mut all = true;
-    for i in 0..want.len() {
-        all = all && same(&list[i], want[i]);
+    let mut left = want;
+    for bytes in list {
+        let (item, behind) = halves(left, "|");
+        all = all && !item.is_empty() && same(bytes, item.as_bytes());
+        left = behind;
     }
-    all
+    all && left.is_empty()
 }

@@ -9,6 +9,8 @@ mod files;
 mod folder_steps;
 #[cfg(test)]
 mod sockets;
+#[cfg(test)]
+mod words;
 
 #[cfg(test)]
 use std::process::Abort;

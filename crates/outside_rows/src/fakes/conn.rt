@@ -1,100 +1,67 @@
-use super::{Pieces, are, made_conn};
+//! Rows of a connection in memory.
+//!
+//! A row is a text: its name, calls with a `;` between them, each with what it answers, the pieces that were read, with a `|` between them,
+//! what was written, and how many reads and writes failed. A call is a `read` into a buffer of 4 bytes, or `write BYTES`.
+
+use super::{are, made_conn};
+use crate::words::{cut, halves, is_number, is_read, is_write, part};
 use crate::{check, same};
 use nsq_fakes::MemConn;
-use nsq_outside::{Read, Write, get, put};
+use nsq_outside::{get, put};
 use std::alloc::Global;
 use std::process::Abort;
 use std::sync::Wait;
 
-/// A call on a connection, with what it answers.
-#[derive(Clone, Copy)]
-enum Call {
-    /// A read into a buffer of 4 bytes.
-    Read(Read),
-    Write(&'static [u8], Write),
-}
-
-struct Row {
-    name: &'static str,
-    pieces: Pieces,
-    read_fails: &'static [u64],
-    write_fails: &'static [u64],
-    calls: &'static [Call],
-    /// The pieces that were read.
-    read: &'static [&'static [u8]],
-    written: &'static [u8],
-    /// How many reads and writes failed.
-    faults: (u64, u64),
-}
-
 /// A piece of 5 bytes, a mark, a piece of 0 bytes and one that nobody reads.
-const PIECES: Pieces = &[Some(b"hello"), None, Some(b""), Some(b"lost")];
+const PIECES: &str = "hello|nothing||lost";
 
-static ROWS: [Row; 2] = [
-    Row {
-        name: "a long piece comes in two reads, around one that fails",
-        pieces: PIECES,
-        read_fails: &[1],
-        write_fails: &[0],
-        calls: &[
-            Call::Read(Read::Got(4)),
-            Call::Read(Read::Failed),
-            Call::Read(Read::Got(1)),
-            Call::Read(Read::Nothing),
-            Call::Read(Read::End),
-            Call::Read(Read::End),
-        ],
-        read: &[b"hell", b"o"],
-        written: b"",
-        faults: (1, 0),
-    },
-    Row {
-        name: "what is written is kept, but for a write that fails",
-        pieces: PIECES,
-        read_fails: &[1],
-        write_fails: &[0],
-        calls: &[
-            Call::Write(b"no", Write::Failed),
-            Call::Write(b"yes", Write::Took(3)),
-        ],
-        read: &[],
-        written: b"yes",
-        faults: (0, 1),
-    },
+static ROWS: [&'static str; 2] = [
+    "a long piece comes in two reads, around one that fails
+        read = 4; read = failed; read = 1; read = nothing; read = end; read = end
+        read hell|o written faults 1 0",
+    "what is written is kept, but for a write that fails
+        write no = failed; write yes = 3
+        read written yes faults 0 1",
 ];
 
 /// Whether a connection answers a call so.
-fn answers<R: Wait>(rt: &R, conn: &mut MemConn, call: Call) -> bool {
-    match call {
-        Call::Read(answer) => {
-            let mut buffer = [0u8; 4];
-            get(rt, conn, &mut buffer) == answer
-        }
-        Call::Write(bytes, answer) => !bytes.is_empty() && put(rt, conn, bytes) == answer,
+fn answers<R: Wait>(rt: &R, conn: &mut MemConn, call: &str) -> bool {
+    let (call, answer) = halves(call, " = ");
+    let (what, bytes) = cut(call);
+    match what {
+        "read" => is_read(get(rt, conn, &mut [0u8; 4]), answer),
+        "write" => { !bytes.is_empty() && is_write(put(rt, conn, bytes.as_bytes()), answer) }
+        _ => false,
     }
 }
 
-/// Whether a connection keeps what was read and written as its row says, and counts its faults.
-fn keeps(conn: &MemConn, row: &Row) -> bool {
-    are(conn.pieces_read(), row.read)
-        && same(conn.bytes_written(), row.written)
-        && conn.read_faults() == row.faults.0
-        && conn.write_faults() == row.faults.1
-}
-
 /// Whether a connection answers all these calls so.
-fn all_answer<R: Wait>(rt: &R, conn: &mut MemConn, calls: &[Call]) -> bool {
-    for call in calls {
-        if !answers(rt, conn, *call) {
+fn all_answer<R: Wait>(rt: &R, conn: &mut MemConn, calls: &str) -> bool {
+    for call in calls.split(';') {
+        if !answers(rt, conn, call.trim()) {
             return false;
         }
     }
     true
 }
 
-fn holds<R: Abort + Wait>(rt: &R, alloc: Global, row: &Row) -> bool {
-    let mut conn = made_conn(rt, alloc, row.pieces, row.read_fails, row.write_fails);
-    let all = all_answer(rt, &mut conn, row.calls) && keeps(&conn, row);
+/// Whether a connection keeps what was read and written as its row says, and counts its faults.
+fn keeps(rt: &impl Abort, conn: &MemConn, kept: &str) -> bool {
+    let (_, kept) = part(rt, kept, "read");
+    let (read, kept) = part(rt, kept, "written");
+    let (written, faults) = part(rt, kept, "faults ");
+    let (read_faults, write_faults) = cut(faults);
+    are(conn.pieces_read(), read.trim())
+        && same(conn.bytes_written(), written.trim().as_bytes())
+        && is_number(conn.read_faults(), read_faults)
+        && is_number(conn.write_faults(), write_faults)
+}
+
+fn holds<R: Abort + Wait>(rt: &R, alloc: Global, row: &str) -> bool {
+    let (_, row) = part(rt, row, "\n");
+    let (calls, kept) = part(rt, row, "\n");
+    let mut conn = made_conn(rt, alloc, PIECES, "1", "0");
+    let all = all_answer(rt, &mut conn, calls) && keeps(rt, &conn, kept);
     drop(conn);
     all
 }
@@ -102,6 +69,6 @@ fn holds<R: Abort + Wait>(rt: &R, alloc: Global, row: &Row) -> bool {
 #[test]
 fn rows(rt: HostRuntime) {
     for row in &ROWS {
-        check(&rt, holds(&rt, rt.alloc(), row), row.name);
+        check(&rt, holds(&rt, rt.alloc(), row), row);
     }
 }

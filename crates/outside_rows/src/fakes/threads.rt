@@ -47,7 +47,7 @@ fn fakes_move_between_threads(rt: HostRuntime) {
     let alloc = rt.alloc();
     check(&rt, folder_moves(&rt, alloc), "a folder");
     check(&rt, clock_moves(&rt, alloc), "a clock");
-    drop(carried(&rt, made_conn(&rt, alloc, &[Some(b"hi")], &[], &[])));
+    drop(carried(&rt, made_conn(&rt, alloc, "hi", "", "")));
     drop(carried(&rt, MemJournal::<Seen>::new(alloc)));
     drop(carried(&rt, Forgetful::<Seen>::new(alloc)));
 }

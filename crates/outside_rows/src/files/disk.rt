@@ -1,6 +1,11 @@
+//! Rows of a folder on a disk that is slow and fails.
+//!
+//! A row is a text: its name, what fails, and calls on the folder with their answers. What fails is `nothing`, `reads` of an open file from a
+//! number on, or what the disk is asked to do: `open`, `list`, `length`, `write`, `cut`, `sync`, `rename` or `remove`.
+
 use crate::check;
-use crate::folder_steps::{Step, all_answer};
-use nsq_outside::{Did, Length, ReadAt};
+use crate::folder_steps::all_answer;
+use crate::words::{cut, is, number, part};
 use nsq_system::DirFolder;
 use std::alloc::{AllocError, Allocator, Global};
 use std::cell::Cell;
@@ -11,26 +16,13 @@ use std::process::Abort;
 use std::rt::Files;
 use std::{fs, io};
 
-/// What a disk is asked to do.
-#[derive(Clone, Copy, PartialEq, Eq)]
-enum Asked {
-    Open,
-    List,
-    Length,
-    Write,
-    Cut,
-    Sync,
-    Rename,
-    Remove,
-}
-
 /// A disk whose files give at most 2 bytes a read; of the reads of an open file each third one is interrupted, from the
 /// first one on, and those from a number on fail. One other thing that it is asked may always fail. Nothing else can be asked of it.
 #[derive(Drop)]
 struct Slow {
     rt: HostRuntime,
     fails_from: u64,
-    broken: Option<Asked>,
+    broken: &'static str,
 }
 
 /// An open file of such a disk.
@@ -39,12 +31,12 @@ struct SlowFile {
     file: File,
     reads: Cell<u64>,
     fails_from: u64,
-    broken: Option<Asked>,
+    broken: &'static str,
 }
 
 /// Fails where this is what is broken.
-fn ask(broken: Option<Asked>, asked: Asked) -> io::Result<()> {
-    if broken == Some(asked) {
+fn ask(broken: &str, asked: &str) -> io::Result<()> {
+    if is(broken, asked) {
         return Err(ErrorKind::Other.into());
     }
     Ok(())
@@ -75,7 +67,7 @@ impl Files for Slow {
     type Dir = <HostRuntime as Files>::Dir;
 
     fn open_file(&self, how: &OpenOptions, path: &str) -> io::Result<SlowFile> {
-        ask(self.broken, Asked::Open)?;
+        ask(self.broken, "open")?;
         let file = self.rt.open_file(how, path)?;
         Ok(SlowFile {
             file,
@@ -86,7 +78,7 @@ impl Files for Slow {
     }
 
     fn open_dir(&self, path: &str) -> io::Result<<HostRuntime as Files>::Dir> {
-        ask(self.broken, Asked::List)?;
+        ask(self.broken, "list")?;
         self.rt.open_dir(path)
     }
 
@@ -103,12 +95,12 @@ impl Files for Slow {
     }
 
     fn rename(&self, from: &str, to: &str) -> io::Result<()> {
-        ask(self.broken, Asked::Rename)?;
+        ask(self.broken, "rename")?;
         self.rt.rename(from, to)
     }
 
     fn remove_file(&self, path: &str) -> io::Result<()> {
-        ask(self.broken, Asked::Remove)?;
+        ask(self.broken, "remove")?;
         self.rt.remove_file(path)
     }
 
@@ -149,17 +141,17 @@ impl Seek for SlowFile {
 
 impl OpenFile for SlowFile {
     fn metadata(&self) -> io::Result<Metadata> {
-        ask(self.broken, Asked::Length)?;
+        ask(self.broken, "length")?;
         self.file.metadata()
     }
 
     fn set_len(&self, size: u64) -> io::Result<()> {
-        ask(self.broken, Asked::Cut)?;
+        ask(self.broken, "cut")?;
         self.file.set_len(size)
     }
 
     fn sync_all(&self) -> io::Result<()> {
-        ask(self.broken, Asked::Sync)?;
+        ask(self.broken, "sync")?;
         self.file.sync_all()
     }
 
@@ -183,175 +175,69 @@ impl FileExt for SlowFile {
     }
 
     fn write_at(&self, bytes: &[u8], at: u64) -> io::Result<usize> {
-        ask(self.broken, Asked::Write)?;
+        ask(self.broken, "write")?;
         self.file.write_at(bytes, at)
     }
 }
 
-struct Row {
-    name: &'static str,
-    /// The reads of an open file from this number on fail.
-    fails_from: u64,
-    broken: Option<Asked>,
-    steps: &'static [Step],
-}
-
 const FOLDER: &str = "outside_rows_disk";
 
-static ROWS_1: [Row; 4] = [
-    Row {
-        name: "short and interrupted reads",
-        fails_from: u64::MAX,
-        broken: None,
-        steps: &[
-            Step::WriteAt("a", 0, b"hello", Did::Done),
-            Step::ReadAt("a", 0, ReadAt::Got(5), b"hello--"),
-            Step::ReadAt("a", 1, ReadAt::Got(3), b"ell"),
-            Step::ReadAt("a", 5, ReadAt::Got(0), b"-"),
-            Step::Len("a", Length::Is(5)),
-        ],
-    },
+static ROWS: [&'static str; 11] = [
+    "short and interrupted reads
+        nothing: write a 0 hello = done; read a 0 = 5 hello--; read a 1 = 3 ell; read a 5 = 0 -; len a = 5",
     // Of an open file the first read is interrupted, the second gives bytes and the third fails.
-    Row {
-        name: "a disk that fails in the middle of a read",
-        fails_from: 2,
-        broken: None,
-        steps: &[
-            Step::WriteAt("a", 0, b"hello", Did::Done),
-            Step::ReadFails("a", 0),
-            Step::Len("a", Length::Is(5)),
-        ],
-    },
-    Row {
-        name: "a file whose read failed is opened anew",
-        fails_from: 2,
-        broken: None,
-        steps: &[
-            Step::WriteAt("a", 0, b"hello", Did::Done),
-            Step::ReadFails("a", 0),
-            Step::ReadAt("a", 2, ReadAt::Got(2), b"ll"),
-            Step::ReadFails("a", 2),
-            Step::ReadAt("a", 3, ReadAt::Got(2), b"lo"),
-        ],
-    },
-    Row {
-        name: "no file can be opened",
-        fails_from: u64::MAX,
-        broken: Some(Asked::Open),
-        steps: &[
-            Step::WriteAt("a", 0, b"hello", Did::Failed),
-            Step::Len("a", Length::Failed),
-            Step::ReadFails("a", 0),
-            Step::Cut("a", 0, Did::Failed),
-            Step::Sync("a", Did::Failed),
-            Step::SyncNames(Did::Failed),
-            Step::List(&[]),
-        ],
-    },
+    "a disk that fails in the middle of a read
+        reads 2: write a 0 hello = done; read a 0 = failed; len a = 5",
+    "a file whose read failed is opened anew
+        reads 2: write a 0 hello = done; read a 0 = failed; read a 2 = 2 ll; read a 2 = failed; read a 3 = 2 lo",
+    "no file can be opened
+        open: write a 0 hello = failed; len a = failed; read a 0 = failed; cut a 0 = failed; sync a = failed; sync-names = failed; list =",
+    "the folder can't be listed
+        list: list = failed; sync-names = done; len a = absent",
+    "no length can be learned
+        length: write a 0 hi = done; len a = failed; len b = absent; write a 5 = failed; read a 0 = 2 hi--",
+    "nothing can be written
+        write: cut a 2 = done; write a 0 hello = failed; read a 0 = 2 \0\0--",
+    "no file can be cut: one that was absent is absent again
+        cut: write a 0 hi = done; cut a 1 = failed; write a 5 = failed; len a = 2; cut b 1 = failed; len b = absent",
+    "nothing can be made durable
+        sync: sync a = done; write a 0 hi = done; sync a = failed; sync-names = failed; len a = 2",
+    "no file can be renamed
+        rename: write a 0 hi = done; rename a b = failed; len a = 2; len b = absent",
+    "no file can be removed
+        remove: write a 0 hi = done; remove a = failed; len a = 2",
 ];
 
-static ROWS_2: [Row; 7] = [
-    Row {
-        name: "the folder can't be listed",
-        fails_from: u64::MAX,
-        broken: Some(Asked::List),
-        steps: &[
-            Step::ListFails,
-            Step::SyncNames(Did::Done),
-            Step::Len("a", Length::Absent),
-        ],
-    },
-    Row {
-        name: "no length can be learned",
-        fails_from: u64::MAX,
-        broken: Some(Asked::Length),
-        steps: &[
-            Step::WriteAt("a", 0, b"hi", Did::Done),
-            Step::Len("a", Length::Failed),
-            Step::Len("b", Length::Absent),
-            Step::WriteAt("a", 5, b"", Did::Failed),
-            Step::ReadAt("a", 0, ReadAt::Got(2), b"hi--"),
-        ],
-    },
-    Row {
-        name: "nothing can be written",
-        fails_from: u64::MAX,
-        broken: Some(Asked::Write),
-        steps: &[
-            Step::Cut("a", 2, Did::Done),
-            Step::WriteAt("a", 0, b"hello", Did::Failed),
-            Step::ReadAt("a", 0, ReadAt::Got(2), b"\0\0--"),
-        ],
-    },
-    Row {
-        name: "no file can be cut: one that was absent is absent again",
-        fails_from: u64::MAX,
-        broken: Some(Asked::Cut),
-        steps: &[
-            Step::WriteAt("a", 0, b"hi", Did::Done),
-            Step::Cut("a", 1, Did::Failed),
-            Step::WriteAt("a", 5, b"", Did::Failed),
-            Step::Len("a", Length::Is(2)),
-            Step::Cut("b", 1, Did::Failed),
-            Step::Len("b", Length::Absent),
-        ],
-    },
-    Row {
-        name: "nothing can be made durable",
-        fails_from: u64::MAX,
-        broken: Some(Asked::Sync),
-        steps: &[
-            Step::Sync("a", Did::Done),
-            Step::WriteAt("a", 0, b"hi", Did::Done),
-            Step::Sync("a", Did::Failed),
-            Step::SyncNames(Did::Failed),
-            Step::Len("a", Length::Is(2)),
-        ],
-    },
-    Row {
-        name: "no file can be renamed",
-        fails_from: u64::MAX,
-        broken: Some(Asked::Rename),
-        steps: &[
-            Step::WriteAt("a", 0, b"hi", Did::Done),
-            Step::Rename("a", "b", Did::Failed),
-            Step::Len("a", Length::Is(2)),
-            Step::Len("b", Length::Absent),
-        ],
-    },
-    Row {
-        name: "no file can be removed",
-        fails_from: u64::MAX,
-        broken: Some(Asked::Remove),
-        steps: &[
-            Step::WriteAt("a", 0, b"hi", Did::Done),
-            Step::Remove("a", Did::Failed),
-            Step::Len("a", Length::Is(2)),
-        ],
-    },
-];
-
-fn rows_1() -> &'static [Row] {
-    &ROWS_1
-}
-
-fn rows_2() -> &'static [Row] {
-    &ROWS_2
+/// Whether this is something that a disk is asked to do, its reads, or nothing.
+fn is_known(word: &str) -> bool {
+    for known in "nothing reads open list length write cut sync rename remove".split(' ') {
+        if is(known, word) {
+            return true;
+        }
+    }
+    false
 }
 
 /// Whether a folder of such a disk answers all calls of a row.
-fn all_go(rt: &impl Abort, own: &HostRuntime, row: &Row) -> bool {
+fn all_go(rt: &impl Abort, own: &HostRuntime, row: &'static str) -> bool {
+    let (_, row) = part(rt, row, "\n");
+    let (fails, steps) = part(rt, row.trim(), ":");
+    let (broken, from) = cut(fails);
     let slow = Slow {
         rt: own.clone().expect(rt, "memory"),
-        fails_from: row.fails_from,
-        broken: row.broken,
+        fails_from: if from.is_empty() {
+            u64::MAX
+        } else {
+            number(rt, from)
+        },
+        broken,
     };
     let mut folder = DirFolder::new(slow, own.alloc(), FOLDER).expect(rt, "memory");
-    all_answer(own.alloc(), &mut folder, row.steps)
+    is_known(broken) && all_answer(rt, own.alloc(), &mut folder, steps)
 }
 
 /// Whether an empty folder goes so.
-fn holds(rt: &impl Abort, own: &HostRuntime, row: &Row) -> bool {
+fn holds(rt: &impl Abort, own: &HostRuntime, row: &'static str) -> bool {
     let _ = fs::remove_dir_all(own, FOLDER);
     let is_made = fs::create_dir(own, FOLDER).is_ok();
     let all = is_made && all_go(rt, own, row);
@@ -360,9 +246,7 @@ fn holds(rt: &impl Abort, own: &HostRuntime, row: &Row) -> bool {
 
 #[test]
 fn rows(rt: HostRuntime) {
-    for part in &[rows_1(), rows_2()] {
-        for row in *part {
-            check(&rt, holds(&rt, &rt, row), row.name);
-        }
+    for row in &ROWS {
+        check(&rt, holds(&rt, &rt, row), row);
     }
 }

@@ -1,33 +1,18 @@
-use crate::folder_steps::{BY_BEGINNING, Step, all_answer, answers};
+//! Rows of a folder on the disk.
+//!
+//! A row is a text: its name, and steps with a `;` between them. A step is a call on the folder with its answer, or one of these:
+//!
+//! - `sub` makes a sub-folder, and `gone` removes the folder and all that is in it.
+//! - `replace PATH BYTES`: another process gives a file these bytes, as a new file in the place of the old one.
+//! - `finds PATH BYTES`: another process finds these bytes in a file.
+//! - `go PATH`: the object goes to another path, to the other folder, back to the folder, or through a file of it.
+
+use crate::folder_steps::{answers, steps_of};
+use crate::words::{cut, part};
 use crate::{check, same};
-use nsq_outside::{Did, Length, ReadAt};
 use nsq_system::DirFolder;
 use std::fs;
 use std::process::Abort;
-
-/// A step of a row.
-#[derive(Clone, Copy)]
-enum Do {
-    /// A call on the folder.
-    Call(Step),
-    /// Calls on the folder, one after another.
-    Calls(&'static [Step]),
-    /// Makes a sub-folder.
-    MakeSub,
-    /// Removes the folder and all that is in it.
-    RemoveAll,
-    /// Another process gives a file of the folder these bytes, as a new file in the place of the old one.
-    Replace(&'static str, &'static [u8]),
-    /// Another process finds these bytes in a file.
-    Finds(&'static str, &'static [u8]),
-    /// The object goes to another path: the other folder, back to the folder, or through a file of it.
-    GoTo(&'static str),
-}
-
-struct Row {
-    name: &'static str,
-    steps: &'static [Do],
-}
 
 /// The folder of each row, and another one. Both are there and empty when it begins.
 const FOLDER: &str = "outside_rows_folder";
@@ -39,163 +24,38 @@ const OTHER: &str = "outside_rows_other";
 /// Where another process writes a file first.
 const NEW: &str = "outside_rows_other/new";
 
-static ROWS_1: [Row; 3] = [
-    Row {
-        name: "files of a folder",
-        steps: &[
-            Do::Call(Step::Len("a", Length::Absent)),
-            Do::Call(Step::WriteAt("a", 2, b"one", Did::Done)),
-            Do::Call(Step::Len("a", Length::Is(5))),
-            Do::Call(Step::ReadAt("a", 1, ReadAt::Got(4), b"\0one--")),
-            Do::Call(Step::WriteAt("a", 7, b"", Did::Done)),
-            Do::Call(Step::Len("a", Length::Is(7))),
-            Do::Call(Step::WriteAt("a", 6, b"", Did::Done)),
-            Do::Call(Step::Len("a", Length::Is(7))),
-            Do::Call(Step::WriteAt("empty", 0, b"", Did::Done)),
-            Do::Call(Step::Len("empty", Length::Is(0))),
-            Do::Call(Step::Cut("a", 3, Did::Done)),
-            Do::Call(Step::Sync("a", Did::Done)),
-            Do::Call(Step::Rename("a", "b", Did::Done)),
-            Do::Call(Step::ReadAt("a", 0, ReadAt::Got(0), b"------")),
-            Do::Call(Step::Len("b", Length::Is(3))),
-        ],
-    },
-    Row {
-        name: "names of a folder",
-        steps: &[
-            Do::MakeSub,
-            Do::Call(Step::Cut("a", 0, Did::Done)),
-            Do::Call(Step::List(&["a"])),
-            Do::Call(Step::ListBy("su", &[])),
-            Do::Call(Step::SyncNames(Did::Done)),
-            Do::Call(Step::Remove("a", Did::Done)),
-            Do::Call(Step::Remove("a", Did::Done)),
-            Do::Call(Step::Len("a", Length::Absent)),
-            Do::Call(Step::Rename("a", "b", Did::Done)),
-            Do::Call(Step::Len("b", Length::Absent)),
-        ],
-    },
-    Row {
-        name: "what others add shows at the next listing of all names",
-        steps: &[
-            Do::Call(Step::List(&[])),
-            Do::Replace("outside_rows_folder/c", b"x"),
-            Do::Call(Step::ListBy("c", &[])),
-            Do::Call(Step::List(&["c"])),
-            Do::Call(Step::ListBy("c", &["c"])),
-        ],
-    },
+static ROWS: [&'static str; 11] = [
+    "files of a folder
+        len a = absent; write a 2 one = done; len a = 5; read a 1 = 4 \0one--; write a 7 = done; len a = 7; write a 6 = done; len a = 7;
+        write empty 0 = done; len empty = 0; cut a 3 = done; sync a = done; rename a b = done; read a 0 = 0 ------; len b = 3",
+    "names of a folder
+        sub; cut a 0 = done; list = a; list su =; sync-names = done; remove a = done; remove a = done; len a = absent;
+        rename a b = done; len b = absent",
+    "what others add shows at the next listing of all names
+        list =; replace outside_rows_folder/c x; list c =; list = c; list c = c",
+    "listings by a beginning
+        by-beginning",
+    "errors of a folder
+        sub; len sub = failed; write sub/a 0 one = failed; gone; len a = absent; write a 0 one = failed; list = failed;
+        sync-names = failed",
+    "a failed cut leaves what was
+        cut-far a = absent; write b 0 one = done; cut-far b = 3",
+    "a rename over an open file
+        write a 0 one = done; write b 0 two = done; rename a b = done; write b 3 ! = done; finds outside_rows_folder/b one!;
+        write a 0 new = done; finds outside_rows_folder/a new; finds outside_rows_folder/b one!",
+    "another folder
+        write a 0 left = done; list a = a; go outside_rows_other; len a = absent; list a =; write a 0 here = done; read a 0 = 4 here;
+        go outside_rows_folder; read a 0 = 4 left",
+    "a file that was removed is made anew
+        write a 0 one = done; remove a = done; write a 0 x = done; finds outside_rows_folder/a x",
+    // The write is at 2^62.
+    "a file stays open, until an error closes it
+        write a 0 old = done; replace outside_rows_folder/a new; read a 0 = 3 old; write a 4611686018427387904 x = failed;
+        read a 0 = 3 new",
+    "a path through a file
+        write a 0 one = done; go outside_rows_folder/a; len x = failed; read x 0 = failed; write x 0 y = failed; cut x 0 = failed;
+        sync x = failed; sync-names = failed; rename x y = failed; remove x = failed; list = failed",
 ];
-
-static ROWS_2: [Row; 1] = [Row {
-    name: "listings by a beginning",
-    steps: &[Do::Calls(BY_BEGINNING)],
-}];
-
-static ROWS_3: [Row; 4] = [
-    Row {
-        name: "errors of a folder",
-        steps: &[
-            Do::MakeSub,
-            Do::Call(Step::Len("sub", Length::Failed)),
-            Do::Call(Step::WriteAt("sub/a", 0, b"one", Did::Failed)),
-            Do::RemoveAll,
-            Do::Call(Step::Len("a", Length::Absent)),
-            Do::Call(Step::WriteAt("a", 0, b"one", Did::Failed)),
-            Do::Call(Step::ListFails),
-            Do::Call(Step::SyncNames(Did::Failed)),
-        ],
-    },
-    Row {
-        name: "a failed cut leaves what was",
-        steps: &[
-            Do::Call(Step::CutFar("a", Length::Absent)),
-            Do::Call(Step::WriteAt("b", 0, b"one", Did::Done)),
-            Do::Call(Step::CutFar("b", Length::Is(3))),
-        ],
-    },
-    Row {
-        name: "a rename over an open file",
-        steps: &[
-            Do::Call(Step::WriteAt("a", 0, b"one", Did::Done)),
-            Do::Call(Step::WriteAt("b", 0, b"two", Did::Done)),
-            Do::Call(Step::Rename("a", "b", Did::Done)),
-            Do::Call(Step::WriteAt("b", 3, b"!", Did::Done)),
-            Do::Finds("outside_rows_folder/b", b"one!"),
-            Do::Call(Step::WriteAt("a", 0, b"new", Did::Done)),
-            Do::Finds("outside_rows_folder/a", b"new"),
-            Do::Finds("outside_rows_folder/b", b"one!"),
-        ],
-    },
-    Row {
-        name: "another folder",
-        steps: &[
-            Do::Call(Step::WriteAt("a", 0, b"left", Did::Done)),
-            Do::Call(Step::ListBy("a", &["a"])),
-            Do::GoTo(OTHER),
-            Do::Call(Step::Len("a", Length::Absent)),
-            Do::Call(Step::ListBy("a", &[])),
-            Do::Call(Step::WriteAt("a", 0, b"here", Did::Done)),
-            Do::Call(Step::ReadAt("a", 0, ReadAt::Got(4), b"here")),
-            Do::GoTo(FOLDER),
-            Do::Call(Step::ReadAt("a", 0, ReadAt::Got(4), b"left")),
-        ],
-    },
-];
-
-static ROWS_4: [Row; 3] = [
-    Row {
-        name: "a file that was removed is made anew",
-        steps: &[
-            Do::Call(Step::WriteAt("a", 0, b"one", Did::Done)),
-            Do::Call(Step::Remove("a", Did::Done)),
-            Do::Call(Step::WriteAt("a", 0, b"x", Did::Done)),
-            Do::Finds("outside_rows_folder/a", b"x"),
-        ],
-    },
-    Row {
-        name: "a file stays open, until an error closes it",
-        steps: &[
-            Do::Call(Step::WriteAt("a", 0, b"old", Did::Done)),
-            Do::Replace("outside_rows_folder/a", b"new"),
-            Do::Call(Step::ReadAt("a", 0, ReadAt::Got(3), b"old")),
-            Do::Call(Step::WriteAt("a", 1 << 62, b"x", Did::Failed)),
-            Do::Call(Step::ReadAt("a", 0, ReadAt::Got(3), b"new")),
-        ],
-    },
-    Row {
-        name: "a path through a file",
-        steps: &[
-            Do::Call(Step::WriteAt("a", 0, b"one", Did::Done)),
-            Do::GoTo("outside_rows_folder/a"),
-            Do::Call(Step::Len("x", Length::Failed)),
-            Do::Call(Step::ReadFails("x", 0)),
-            Do::Call(Step::WriteAt("x", 0, b"y", Did::Failed)),
-            Do::Call(Step::Cut("x", 0, Did::Failed)),
-            Do::Call(Step::Sync("x", Did::Failed)),
-            Do::Call(Step::SyncNames(Did::Failed)),
-            Do::Call(Step::Rename("x", "y", Did::Failed)),
-            Do::Call(Step::Remove("x", Did::Failed)),
-            Do::Call(Step::ListFails),
-        ],
-    },
-];
-
-fn rows_1() -> &'static [Row] {
-    &ROWS_1
-}
-
-fn rows_2() -> &'static [Row] {
-    &ROWS_2
-}
-
-fn rows_3() -> &'static [Row] {
-    &ROWS_3
-}
-
-fn rows_4() -> &'static [Row] {
-    &ROWS_4
-}
 
 /// Makes the folders anew, which are empty then.
 fn make_folders(rt: &impl Abort, own: &HostRuntime) {
@@ -224,50 +84,52 @@ fn finds(own: &HostRuntime, path: &str, bytes: &[u8]) -> bool {
 }
 
 /// Whether a step goes so.
-fn goes(own: &HostRuntime, folder: &mut DirFolder<HostRuntime>, step: Do) -> bool {
-    match step {
-        Do::Call(call) => answers(own.alloc(), folder, call),
-        Do::Calls(calls) => all_answer(own.alloc(), folder, calls),
-        Do::GoTo(path) => folder.move_to(path).is_ok(),
-        _ => happens(own, step),
-    }
-}
-
-/// Whether others can do or find this.
-fn happens(own: &HostRuntime, step: Do) -> bool {
-    match step {
-        Do::MakeSub => fs::create_dir(own, SUB).is_ok(),
-        Do::RemoveAll => fs::remove_dir_all(own, FOLDER).is_ok(),
-        Do::Replace(path, bytes) => replaces(own, path, bytes),
-        Do::Finds(path, bytes) => finds(own, path, bytes),
-        _ => false,
+fn goes(
+    rt: &impl Abort,
+    own: &HostRuntime,
+    folder: &mut DirFolder<HostRuntime>,
+    step: &str,
+) -> bool {
+    let (what, rest) = cut(step);
+    let (path, bytes) = cut(rest);
+    match what {
+        "sub" => fs::create_dir(own, SUB).is_ok(),
+        "gone" => fs::remove_dir_all(own, FOLDER).is_ok(),
+        "replace" => replaces(own, path, bytes.as_bytes()),
+        "finds" => finds(own, path, bytes.as_bytes()),
+        "go" => folder.move_to(path).is_ok(),
+        _ => answers(rt, own.alloc(), folder, step),
     }
 }
 
 /// Whether the folder answers all steps so.
-fn all_go(own: &HostRuntime, folder: &mut DirFolder<HostRuntime>, steps: &[Do]) -> bool {
-    for step in steps {
-        if !goes(own, folder, *step) {
+fn all_go(
+    rt: &impl Abort,
+    own: &HostRuntime,
+    folder: &mut DirFolder<HostRuntime>,
+    steps: &str,
+) -> bool {
+    for step in steps_of(steps).split(';') {
+        if !goes(rt, own, folder, step.trim()) {
             return false;
         }
     }
     true
 }
 
-fn holds(rt: &impl Abort, own: &HostRuntime, row: &Row) -> bool {
+fn holds(rt: &impl Abort, own: &HostRuntime, row: &str) -> bool {
     make_folders(rt, own);
     let system = own.clone().expect(rt, "memory");
     let mut folder = DirFolder::new(system, own.alloc(), FOLDER).expect(rt, "memory");
-    let all = all_go(own, &mut folder, row.steps);
+    let (_, steps) = part(rt, row, "\n");
+    let all = all_go(rt, own, &mut folder, steps.trim());
     remove_folders(own);
     all
 }
 
 #[test]
 fn rows(rt: HostRuntime) {
-    for part in &[rows_1(), rows_2(), rows_3(), rows_4()] {
-        for row in *part {
-            check(&rt, holds(&rt, &rt, row), row.name);
-        }
+    for row in &ROWS {
+        check(&rt, holds(&rt, &rt, row), row);
     }
 }

@@ -1,121 +1,54 @@
+//! What an accept's errors mean. A row is a text: what the error means, Linux's number of it, and its name.
+
 use crate::check;
+use crate::words::{cut, is};
 use nsq_system::{NoCaller, no_caller};
 use std::io::Error;
+use std::process::Abort;
 
-struct Row {
-    name: &'static str,
-    /// Linux's number of the error.
-    code: i32,
-    means: NoCaller,
+static ROWS: [&'static str; 20] = [
+    "nobody 11 EAGAIN: nobody called",
+    "lost 1 EPERM: a firewall forbids the caller",
+    "lost 4 EINTR: an interrupted call",
+    "lost 64 ENONET",
+    "lost 71 EPROTO",
+    "lost 92 ENOPROTOOPT",
+    "lost 95 EOPNOTSUPP",
+    "lost 100 ENETDOWN",
+    "lost 101 ENETUNREACH",
+    "lost 103 ECONNABORTED: the caller gave up",
+    "lost 112 EHOSTDOWN",
+    "lost 113 EHOSTUNREACH",
+    "shortage 12 ENOMEM",
+    "shortage 23 ENFILE",
+    "shortage 24 EMFILE",
+    "shortage 105 ENOBUFS",
+    "broken 9 EBADF",
+    "broken 22 EINVAL: it doesn't listen",
+    "broken 88 ENOTSOCK",
+    "broken 2 ENOENT",
+];
+
+/// The word of what an error means.
+fn word_of(means: NoCaller) -> &'static str {
+    match means {
+        NoCaller::Nobody => "nobody",
+        NoCaller::Lost => "lost",
+        NoCaller::Shortage => "shortage",
+        NoCaller::Broken => "broken",
+    }
 }
 
-static ROWS: [Row; 20] = [
-    Row {
-        name: "EAGAIN: nobody called",
-        code: 11,
-        means: NoCaller::Nobody,
-    },
-    Row {
-        name: "EPERM: a firewall forbids the caller",
-        code: 1,
-        means: NoCaller::Lost,
-    },
-    Row {
-        name: "EINTR: an interrupted call",
-        code: 4,
-        means: NoCaller::Lost,
-    },
-    Row {
-        name: "ENONET",
-        code: 64,
-        means: NoCaller::Lost,
-    },
-    Row {
-        name: "EPROTO",
-        code: 71,
-        means: NoCaller::Lost,
-    },
-    Row {
-        name: "ENOPROTOOPT",
-        code: 92,
-        means: NoCaller::Lost,
-    },
-    Row {
-        name: "EOPNOTSUPP",
-        code: 95,
-        means: NoCaller::Lost,
-    },
-    Row {
-        name: "ENETDOWN",
-        code: 100,
-        means: NoCaller::Lost,
-    },
-    Row {
-        name: "ENETUNREACH",
-        code: 101,
-        means: NoCaller::Lost,
-    },
-    Row {
-        name: "ECONNABORTED: the caller gave up",
-        code: 103,
-        means: NoCaller::Lost,
-    },
-    Row {
-        name: "EHOSTDOWN",
-        code: 112,
-        means: NoCaller::Lost,
-    },
-    Row {
-        name: "EHOSTUNREACH",
-        code: 113,
-        means: NoCaller::Lost,
-    },
-    Row {
-        name: "ENOMEM",
-        code: 12,
-        means: NoCaller::Shortage,
-    },
-    Row {
-        name: "ENFILE",
-        code: 23,
-        means: NoCaller::Shortage,
-    },
-    Row {
-        name: "EMFILE",
-        code: 24,
-        means: NoCaller::Shortage,
-    },
-    Row {
-        name: "ENOBUFS",
-        code: 105,
-        means: NoCaller::Shortage,
-    },
-    Row {
-        name: "EBADF",
-        code: 9,
-        means: NoCaller::Broken,
-    },
-    Row {
-        name: "EINVAL: it doesn't listen",
-        code: 22,
-        means: NoCaller::Broken,
-    },
-    Row {
-        name: "ENOTSOCK",
-        code: 88,
-        means: NoCaller::Broken,
-    },
-    Row {
-        name: "ENOENT",
-        code: 2,
-        means: NoCaller::Broken,
-    },
-];
+fn holds(rt: &impl Abort, row: &str) -> bool {
+    let (means, rest) = cut(row);
+    let (code, _) = cut(rest);
+    let code = code.parse::<i32>().expect(rt, "a number");
+    is(means, word_of(no_caller(&Error::from_raw_os_error(code))))
+}
 
 #[test]
 fn rows(rt: HostRuntime) {
     for row in &ROWS {
-        let means = no_caller(&Error::from_raw_os_error(row.code));
-        check(&rt, means == row.means, row.name);
+        check(&rt, holds(&rt, row), row);
     }
 }

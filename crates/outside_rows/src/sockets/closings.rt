@@ -1,7 +1,10 @@
+//! Rows of how a connection ends while its peer still sends.
+
 ghost use Rattle.std.specs.Prelude.{◌<◌};
 ghost use Rattle.nsq_outside.specs.Streams.{IsAmountRead};
 
 use super::made_pair;
+use crate::words::{cut, is_first, is_number, kind_of, part};
 use crate::{check, same};
 use nsq_outside::{Kind, Read, Sink, Source, Write};
 use nsq_system::{Talker, TcpConn, hear_out};
@@ -64,104 +67,50 @@ impl Talker for Scripted {
     }
 }
 
-struct Hearing {
-    name: &'static str,
-    speech: Speech,
-    /// How often the peer is read from and waited for.
-    reads: u32,
-    waits: u32,
-}
-
-static HEARINGS: [Hearing; 8] = [
-    Hearing {
-        name: "the end is there",
-        speech: Speech::Ends(1),
-        reads: 1,
-        waits: 0,
-    },
-    Hearing {
-        name: "the end behind some pieces",
-        speech: Speech::Ends(5),
-        reads: 5,
-        waits: 0,
-    },
-    Hearing {
-        name: "a failure behind some pieces",
-        speech: Speech::Fails(3),
-        reads: 3,
-        waits: 0,
-    },
-    Hearing {
-        name: "silence",
-        speech: Speech::Silence,
-        reads: 201,
-        waits: 200,
-    },
-    Hearing {
-        name: "a peer that sends for ever",
-        speech: Speech::Flood,
-        reads: 4_096,
-        waits: 0,
-    },
-    Hearing {
-        name: "a peer that sends a byte now and then, for ever",
-        speech: Speech::Drip(2),
-        reads: 4_001,
-        waits: 2_000,
-    },
-    Hearing {
-        name: "a byte that comes just before it is silent",
-        speech: Speech::Drip(201),
-        reads: 2_011,
-        waits: 2_000,
-    },
-    Hearing {
-        name: "a byte that comes too late",
-        speech: Speech::Drip(202),
-        reads: 201,
-        waits: 200,
-    },
+/// Rows of a connection that hears a peer in memory out: a name, what the peer says, and how often it is read from and waited for.
+static HEARINGS: [&'static str; 8] = [
+    "the end is there: ends 1 = 1 0",
+    "the end behind some pieces: ends 5 = 5 0",
+    "a failure behind some pieces: fails 3 = 3 0",
+    "silence: silence = 201 200",
+    "a peer that sends for ever: flood = 4096 0",
+    "a peer that sends a byte now and then, for ever: drip 2 = 4001 2000",
+    "a byte that comes just before it is silent: drip 201 = 2011 2000",
+    "a byte that comes too late: drip 202 = 201 200",
 ];
 
-fn hearing_holds(row: &Hearing) -> bool {
+/// What these words say.
+fn speech_of(rt: &impl Abort, words: &str) -> Speech {
+    let (word, number) = cut(words);
+    match word {
+        "silence" => Speech::Silence,
+        "flood" => Speech::Flood,
+        "drip" => Speech::Drip(number.parse::<u32>().expect(rt, "a number")),
+        "ends" => Speech::Ends(number.parse::<u32>().expect(rt, "a number")),
+        "fails" => Speech::Fails(number.parse::<u32>().expect(rt, "a number")),
+        _ => panic!(rt; "{} is no speech", word),
+    }
+}
+
+fn hearing_holds(rt: &impl Abort, row: &str) -> bool {
+    let (_, rest) = part(rt, row, ": ");
+    let (speech, counts) = part(rt, rest, " = ");
+    let (reads, waits) = part(rt, counts, " ");
     let mut peer = Scripted {
-        speech: row.speech,
+        speech: speech_of(rt, speech),
         reads: 0,
         waits: 0,
     };
     hear_out(&mut peer);
-    peer.reads == row.reads && peer.waits == row.waits
+    is_number(u64::from(peer.reads), reads) && is_number(u64::from(peer.waits), waits)
 }
 
-/// A connection that is dropped while bytes of its peer are unread.
-struct Closing {
-    name: &'static str,
-    kind: Kind,
-    /// The peer sends so many bytes, as far as the system takes them while nobody reads.
-    sends: usize,
-    /// It sends no more after that.
-    stops: bool,
-}
-
-static CLOSINGS: [Closing; 3] = [
-    Closing {
-        name: "HTTP, and the peer goes on listening",
-        kind: Kind::Http,
-        sends: 1_000_000,
-        stops: false,
-    },
-    Closing {
-        name: "HTTP, and the peer has ended",
-        kind: Kind::Http,
-        sends: 1_000_000,
-        stops: true,
-    },
-    Closing {
-        name: "the TCP protocol, a few bytes",
-        kind: Kind::Tcp,
-        sends: 11,
-        stops: false,
-    },
+/// Rows of a connection that is dropped while bytes of its peer are unread: a name, the kind, how many bytes the peer sends, as far as the system
+/// takes them while nobody reads, and whether it goes on or sends no more after that.
+static CLOSINGS: [&'static str; 3] = [
+    "HTTP, and the peer goes on listening: http 1000000 goes-on",
+    "HTTP, and the peer has ended: http 1000000 stops",
+    "the TCP protocol, a few bytes: tcp 11 goes-on",
 ];
 
 const ANSWER: &[u8] = b"too large";
@@ -180,43 +129,41 @@ fn gets_all(rt: &impl Abort, peer: &mut TcpStream) -> bool {
     answered && peer.take_error().expect(rt, "what went wrong").is_none()
 }
 
-/// The peer sends what it has to, and its reads wait at most a second. How much the system took.
-fn sends(rt: &impl Abort, alloc: Global, peer: &mut TcpStream, row: &Closing) -> usize {
+/// The peer sends so many bytes, and its reads wait at most a second. How much the system took.
+fn sends(rt: &impl Abort, alloc: Global, peer: &mut TcpStream, count: &str) -> usize {
     peer.set_nonblocking(true).expect(rt, "a socket");
-    let bytes = vec![in alloc; 7; row.sends].expect(rt, "memory");
+    let bytes = seven(rt, alloc, count);
     let sent = peer.write(&bytes).expect(rt, "a socket");
     peer.set_nonblocking(false).expect(rt, "a socket");
     peer.set_read_timeout(Some(Duration::from_secs(1)))
         .expect(rt, "a socket");
-    if row.stops {
-        peer.shutdown(Shutdown::Write).expect(rt, "a socket");
-    }
     sent
 }
 
-fn closing_holds<R: Abort + Wait>(rt: &R, own: &HostRuntime, row: &Closing) -> bool {
-    let (conn, mut peer) = made_pair(rt, own, row.kind);
-    let sent = sends(rt, own.alloc(), &mut peer, row);
+/// So many bytes of the value 7.
+fn seven(rt: &impl Abort, alloc: Global, count: &str) -> Vec<u8> {
+    let count = count.parse::<usize>().expect(rt, "a number");
+    vec![in alloc; 7; count].expect(rt, "memory")
+}
+
+fn closing_holds<R: Abort + Wait>(rt: &R, own: &HostRuntime, row: &str) -> bool {
+    let (_, rest) = part(rt, row, ": ");
+    let (kind, rest) = part(rt, rest, " ");
+    let (count, then) = part(rt, rest, " ");
+    let (conn, mut peer) = made_pair(rt, own, kind_of(rt, kind));
+    let sent = sends(rt, own.alloc(), &mut peer, count);
+    if is_first(rt, then, "stops", "goes-on") {
+        peer.shutdown(Shutdown::Write).expect(rt, "a socket");
+    }
     let all = answers_and_closes(rt, conn);
     10 < sent && all && gets_all(rt, &mut peer)
 }
 
-/// A connection of `Kind::Http` that is dropped before the rest of its peer's request is there.
-struct Late {
-    name: &'static str,
-    /// Once the answer is there the peer sends so many bytes more.
-    sends: usize,
-}
-
-static LATES: [Late; 2] = [
-    Late {
-        name: "a body that comes behind the answer",
-        sends: 1_000_000,
-    },
-    Late {
-        name: "the peer ends behind the answer",
-        sends: 0,
-    },
+/// Rows of a connection of HTTP that is dropped before the rest of its peer's request is there: a name, and how many bytes more the peer sends
+/// once the answer is there.
+static LATES: [&'static str; 2] = [
+    "a body that comes behind the answer: 1000000",
+    "the peer ends behind the answer: 0",
 ];
 
 /// The peer's side: ten bytes, and once the answer is there the body and the end. Whether it gets the answer and no reset.
@@ -230,8 +177,9 @@ fn sends_late(rt: &impl Abort, mut peer: TcpStream, body: &[u8]) -> bool {
     seen == 1 && gets_all(rt, &mut peer)
 }
 
-fn late_holds<R: Abort + Wait + Threads + Sync>(rt: &R, own: &HostRuntime, row: &Late) -> bool {
-    let body = vec![in own.alloc(); 7; row.sends].expect(rt, "memory");
+fn late_holds<R: Abort + Wait + Threads + Sync>(rt: &R, own: &HostRuntime, row: &str) -> bool {
+    let (_, count) = part(rt, row, ": ");
+    let body = seven(rt, own.alloc(), count);
     let (conn, peer) = made_pair(rt, own, Kind::Http);
     let (heard, answered) = join(
         rt,
@@ -244,16 +192,16 @@ fn late_holds<R: Abort + Wait + Threads + Sync>(rt: &R, own: &HostRuntime, row: 
 #[test]
 fn hearings(rt: HostRuntime) {
     for row in &HEARINGS {
-        check(&rt, hearing_holds(row), row.name);
+        check(&rt, hearing_holds(&rt, row), row);
     }
 }
 
 #[test]
 fn closings(rt: HostRuntime) {
     for row in &CLOSINGS {
-        check(&rt, closing_holds(&rt, &rt, row), row.name);
+        check(&rt, closing_holds(&rt, &rt, row), row);
     }
     for row in &LATES {
-        check(&rt, late_holds(&rt, &rt, row), row.name);
+        check(&rt, late_holds(&rt, &rt, row), row);
     }
 }

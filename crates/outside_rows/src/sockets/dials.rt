@@ -1,5 +1,6 @@
 use super::text_of;
 use crate::check;
+use crate::words::{cut, is_first, is_number, part};
 use nsq_outside::{Dialer, Dialled};
 use nsq_system::{TcpConn, TcpDialer};
 use std::io;
@@ -41,38 +42,11 @@ impl Net for Network {
     }
 }
 
-/// Whom a dial asks for.
-#[derive(Clone, Copy)]
-enum Asked {
-    /// A port of this machine where nobody listens any more.
-    Nobody,
-    /// This address.
-    Address(&'static str),
-}
-
-struct Row {
-    name: &'static str,
-    /// Whether a name server answers.
-    has_names: bool,
-    /// Dials, each of which fails.
-    asked: &'static [Asked],
-    /// How often a dial failed then.
-    faults: u64,
-}
-
-static ROWS: [Row; 2] = [
-    Row {
-        name: "nobody there, and no address",
-        has_names: true,
-        asked: &[Asked::Nobody, Asked::Address("no port")],
-        faults: 2,
-    },
-    Row {
-        name: "no name server answers",
-        has_names: false,
-        asked: &[Asked::Address("lookupd.example:4160")],
-        faults: 1,
-    },
+/// A row is a text: a name, whether a name server answers (`names` or `silence`), dials with a `;` between them, each of which fails, and how
+/// often a dial failed then. A dial asks for a port of this machine where `nobody` listens any more, or is `to` an address.
+static ROWS: [&'static str; 2] = [
+    "nobody there, and no address: names, nobody; to no port = 2",
+    "no name server answers: silence, to lookupd.example:4160 = 1",
 ];
 
 /// Whether there is no connection.
@@ -95,32 +69,37 @@ fn fails<R: Abort + Wait>(
     rt: &R,
     own: &HostRuntime,
     dialer: &mut TcpDialer<Network>,
-    asked: Asked,
+    asked: &str,
 ) -> bool {
-    let address = match asked {
-        Asked::Nobody => nobody(rt, own),
-        Asked::Address(text) => String::from_str(own.alloc(), text).expect(rt, "memory"),
+    let (whom, address) = cut(asked);
+    let address = if is_first(rt, whom, "nobody", "to") {
+        nobody(rt, own)
+    } else {
+        String::from_str(own.alloc(), address).expect(rt, "memory")
     };
     is_failed(dialer.dial(rt, address.as_str()))
 }
 
 /// Whether each dial of a row fails and is counted.
-fn holds<R: Abort + Wait>(rt: &R, own: &HostRuntime, row: &Row) -> bool {
+fn holds<R: Abort + Wait>(rt: &R, own: &HostRuntime, row: &str) -> bool {
+    let (_, rest) = part(rt, row, ": ");
+    let (names, rest) = part(rt, rest, ", ");
+    let (dials, faults) = part(rt, rest, " = ");
     let network = Network {
         rt: own.clone().expect(rt, "memory"),
-        has_names: row.has_names,
+        has_names: is_first(rt, names, "names", "silence"),
     };
     let mut dialer = TcpDialer::new(network, own.alloc());
     let mut all = true;
-    for asked in row.asked {
-        all = fails(rt, own, &mut dialer, *asked) && all;
+    for asked in dials.split(';') {
+        all = fails(rt, own, &mut dialer, asked.trim()) && all;
     }
-    all && dialer.faults() == row.faults
+    all && is_number(dialer.faults(), faults)
 }
 
 #[test]
 fn rows(rt: HostRuntime) {
     for row in &ROWS {
-        check(&rt, holds(&rt, &rt, row), row.name);
+        check(&rt, holds(&rt, &rt, row), row);
     }
 }

@@ -1,6 +1,21 @@
+//! Rows of a connection and its peer.
+//!
+//! A row is a text: its name; the kind of the connection, how many milliseconds pass at least, and how many are too many; and lines of steps,
+//! each a number of rounds and steps with a `;` between them. A step is one of these:
+//!
+//! - `write BYTES`, `read BYTES` (what the bytes are that come) and `flush`, each with what it answers.
+//! - `overfill`, writes of 32 KiB, of which one in 2,000 fails. `busy`, 64 writes of 8 bytes, which take them all.
+//! - `faults`, how often a read and a write failed so far. `lost-writes`: no read failed so far, and a write did.
+//! - `peer sends BYTES`; `peer gets BYTES`, for which it waits; `peer gets-nothing`, none has come so far; `peer gets-end`, none will come any
+//!   more; `peer stops`: it sends nothing more, and still listens.
+//! - `drop`, the connection is dropped. `leave`, the peer closes its socket.
+
 use super::made_pair;
+use crate::words::{
+    bytes_of, cut, halves, is_did, is_number, is_read, is_write, kind_of, number, part,
+};
 use crate::{check, same};
-use nsq_outside::{Did, Kind, Read, Sink, Source, Write};
+use nsq_outside::{Kind, Sink, Source};
 use nsq_system::TcpConn;
 use std::alloc::Global;
 use std::io::{Read as _, Write as _};
@@ -9,284 +24,50 @@ use std::process::Abort;
 use std::sync::Wait;
 use std::time::{Duration, Instant};
 
-/// A call on the connection, with what it answers.
-#[derive(Clone, Copy)]
-enum Call {
-    /// A write of these bytes.
-    Write(&'static [u8], Write),
-    /// A write of these bytes, whatever it answers.
-    TryWrite(&'static [u8]),
-    /// A write of so many bytes of one value, which takes them all.
-    Fill(u8, usize),
-    /// Writes of 32 KiB, of which one in 2,000 fails.
-    Overfill,
-    /// 64 writes of 8 bytes, which take them all.
-    Busy,
-    /// A read, and what its bytes are.
-    Read(Read, &'static [u8]),
-    Flush(Did),
-    /// How often a read and a write failed so far.
-    Faults(u64, u64),
-    /// No read failed so far, and a write did.
-    LostWrites,
-}
-
-/// What the peer does or finds.
-#[derive(Clone, Copy)]
-enum Act {
-    Sends(&'static [u8]),
-    /// It waits for these bytes.
-    Gets(&'static [u8]),
-    /// It waits for so many bytes of one value.
-    GetsFill(u8, usize),
-    /// Nothing has come so far.
-    GetsNothing,
-    /// No byte will come any more.
-    GetsEnd,
-    /// It sends nothing more, and still listens.
-    Stops,
-}
-
-/// A step of a talk.
-#[derive(Clone, Copy)]
-enum Step {
-    Conn(Call),
-    Peer(Act),
-    /// The connection is dropped.
-    Drop,
-    /// The peer closes its socket.
-    Leave,
-}
-
-/// The steps, and then a number of rounds of these others, and then the last ones.
-struct Row {
-    name: &'static str,
-    kind: Kind,
-    steps: &'static [Step],
-    rounds: u32,
-    round: &'static [Step],
-    last: &'static [Step],
-    /// At least so many milliseconds pass, and fewer than so many.
-    least: u128,
-    most: u128,
-}
-
-const OK: &[u8] = &[0, 0, 0, 6, 0, 0, 0, 0, b'O', b'K'];
-
-const ERROR: &[u8] = &[0, 0, 0, 6, 0, 0, 0, 1, b'E', b'_'];
-
-/// Two frames, of which the second is an error frame.
-const TWO: &[u8] = &[0, 0, 0, 4, 0, 0, 0, 0, 0, 0, 0, 4, 0, 0, 0, 1];
-
-/// A frame whose data looks like an error frame.
-const INSIDE: &[u8] = &[0, 0, 0, 12, 0, 0, 0, 2, 0, 0, 0, 4, 0, 0, 0, 1];
-
-/// An error frame that isn't whole.
-const OPEN: &[u8] = &[0, 0, 0, 5, 0, 0, 0, 1];
-
-const LONG: u128 = 60_000;
-
-static ROWS_1: [Row; 5] = [
-    Row {
-        name: "gathered until the next read",
-        kind: Kind::Tcp,
-        steps: &[
-            Step::Conn(Call::Write(b"one", Write::Took(3))),
-            Step::Conn(Call::Write(b"two", Write::Took(3))),
-            Step::Peer(Act::GetsNothing),
-            Step::Peer(Act::Sends(b"here")),
-            Step::Conn(Call::Read(Read::Got(4), b"here")),
-            Step::Peer(Act::Gets(b"onetwo")),
-        ],
-        rounds: 0,
-        round: &[],
-        last: &[],
-        least: 0,
-        most: LONG,
-    },
-    Row {
-        name: "written through to HTTP",
-        kind: Kind::Http,
-        steps: &[
-            Step::Conn(Call::Write(b"HTTP/1.1", Write::Took(8))),
-            Step::Peer(Act::Gets(b"HTTP/1.1")),
-        ],
-        rounds: 0,
-        round: &[],
-        last: &[],
-        least: 0,
-        most: LONG,
-    },
-    Row {
-        name: "an error frame goes out at once, behind what was gathered",
-        kind: Kind::Tcp,
-        steps: &[
-            Step::Conn(Call::Write(OK, Write::Took(10))),
-            Step::Peer(Act::GetsNothing),
-            Step::Conn(Call::Write(ERROR, Write::Took(10))),
-            Step::Peer(Act::Gets(OK)),
-            Step::Peer(Act::Gets(ERROR)),
-        ],
-        rounds: 0,
-        round: &[],
-        last: &[],
-        least: 0,
-        most: LONG,
-    },
-    Row {
-        name: "two frames whose last is an error frame go out at once",
-        kind: Kind::Tcp,
-        steps: &[
-            Step::Conn(Call::Write(TWO, Write::Took(16))),
-            Step::Peer(Act::Gets(TWO)),
-        ],
-        rounds: 0,
-        round: &[],
-        last: &[],
-        least: 0,
-        most: LONG,
-    },
-    Row {
-        name: "what only looks like an error frame is gathered",
-        kind: Kind::Tcp,
-        steps: &[
-            Step::Conn(Call::Write(INSIDE, Write::Took(16))),
-            Step::Peer(Act::GetsNothing),
-            Step::Conn(Call::Write(OPEN, Write::Took(8))),
-            Step::Peer(Act::GetsNothing),
-            Step::Conn(Call::Flush(Did::Done)),
-            Step::Peer(Act::Gets(INSIDE)),
-            Step::Peer(Act::Gets(OPEN)),
-        ],
-        rounds: 0,
-        round: &[],
-        last: &[],
-        least: 0,
-        most: LONG,
-    },
-];
-
-static ROWS_2: [Row; 7] = [
-    Row {
-        name: "more than is gathered goes out in order",
-        kind: Kind::Tcp,
-        steps: &[
-            Step::Conn(Call::Fill(1, 10_000)),
-            Step::Conn(Call::Fill(2, 10_000)),
-            Step::Conn(Call::Fill(3, 20_000)),
-            Step::Drop,
-            Step::Peer(Act::GetsFill(1, 10_000)),
-            Step::Peer(Act::GetsFill(2, 10_000)),
-            Step::Peer(Act::GetsFill(3, 20_000)),
-            Step::Peer(Act::GetsEnd),
-        ],
-        rounds: 0,
-        round: &[],
-        last: &[],
-        least: 0,
-        most: LONG,
-    },
-    Row {
-        name: "sent when it is dropped",
-        kind: Kind::Tcp,
-        steps: &[
-            Step::Conn(Call::Write(b"bye", Write::Took(3))),
-            Step::Drop,
-            Step::Peer(Act::Gets(b"bye")),
-            Step::Peer(Act::GetsEnd),
-        ],
-        rounds: 0,
-        round: &[],
-        last: &[],
-        least: 0,
-        most: LONG,
-    },
-    Row {
-        name: "a peer that has sent all that it has to say may still listen",
-        kind: Kind::Tcp,
-        steps: &[
-            Step::Peer(Act::Stops),
-            Step::Conn(Call::Read(Read::End, b"")),
-            Step::Conn(Call::Write(b"bye", Write::Took(3))),
-            Step::Conn(Call::Read(Read::End, b"")),
-            Step::Peer(Act::Gets(b"bye")),
-            Step::Conn(Call::Faults(0, 0)),
-        ],
-        rounds: 0,
-        round: &[],
-        last: &[],
-        least: 0,
-        most: LONG,
-    },
-    Row {
-        name: "the end stays the end, also where bytes can't be sent any more",
-        kind: Kind::Tcp,
-        steps: &[Step::Leave, Step::Conn(Call::Read(Read::End, b""))],
-        rounds: 10,
-        round: &[
-            Step::Conn(Call::TryWrite(b"nobody reads")),
-            Step::Conn(Call::Read(Read::End, b"")),
-        ],
-        last: &[
-            Step::Conn(Call::LostWrites),
-            Step::Conn(Call::Write(b"nobody reads", Write::Failed)),
-        ],
-        least: 0,
-        most: LONG,
-    },
-    Row {
-        name: "a peer that closes with bytes that it didn't read resets the connection",
-        kind: Kind::Tcp,
-        steps: &[
-            Step::Conn(Call::Write(b"unread", Write::Took(6))),
-            Step::Conn(Call::Flush(Did::Done)),
-            Step::Peer(Act::Gets(b"u")),
-            Step::Leave,
-            Step::Conn(Call::Read(Read::Failed, b"")),
-            Step::Conn(Call::Faults(1, 0)),
-            Step::Conn(Call::Read(Read::Failed, b"")),
-            Step::Conn(Call::Write(b"more", Write::Failed)),
-            Step::Conn(Call::Faults(2, 1)),
-        ],
-        rounds: 0,
-        round: &[],
-        last: &[],
-        least: 0,
-        most: LONG,
-    },
-    Row {
-        name: "a peer that never reads is given 5 s",
-        kind: Kind::Tcp,
-        steps: &[Step::Conn(Call::Overfill), Step::Conn(Call::Faults(0, 1))],
-        rounds: 0,
-        round: &[],
-        last: &[],
-        least: 4_000,
-        most: LONG,
-    },
+static ROWS: [&'static str; 12] = [
+    "gathered until the next read
+        tcp 0 60000
+        1: write one = 3; write two = 3; peer gets-nothing; peer sends here; read here = 4; peer gets onetwo",
+    "written through to HTTP
+        http 0 60000
+        1: write HTTP/1.1 = 8; peer gets HTTP/1.1",
+    "an error frame goes out at once, behind what was gathered
+        tcp 0 60000
+        1: write \0\0\0\x06\0\0\0\0OK = 10; peer gets-nothing; write \0\0\0\x06\0\0\0\x01E_ = 10; peer gets \0\0\0\x06\0\0\0\0OK; peer gets \0\0\0\x06\0\0\0\x01E_",
+    "two frames whose last is an error frame go out at once
+        tcp 0 60000
+        1: write \0\0\0\x04\0\0\0\0\0\0\0\x04\0\0\0\x01 = 16; peer gets \0\0\0\x04\0\0\0\0\0\0\0\x04\0\0\0\x01",
+    // A frame whose data looks like an error frame, and an error frame that isn't whole.
+    "what only looks like an error frame is gathered
+        tcp 0 60000
+        1: write \0\0\0\x0c\0\0\0\x02\0\0\0\x04\0\0\0\x01 = 16; peer gets-nothing; write \0\0\0\x05\0\0\0\x01 = 8; peer gets-nothing; flush = done
+        1: peer gets \0\0\0\x0c\0\0\0\x02\0\0\0\x04\0\0\0\x01; peer gets \0\0\0\x05\0\0\0\x01",
+    "more than is gathered goes out in order
+        tcp 0 60000
+        1: write 1*10000 = 10000; write 2*10000 = 10000; write 3*20000 = 20000; drop
+        1: peer gets 1*10000; peer gets 2*10000; peer gets 3*20000; peer gets-end",
+    "sent when it is dropped
+        tcp 0 60000
+        1: write bye = 3; drop; peer gets bye; peer gets-end",
+    "a peer that has sent all that it has to say may still listen
+        tcp 0 60000
+        1: peer stops; read = end; write bye = 3; read = end; peer gets bye; faults 0 0",
+    "the end stays the end, also where bytes can't be sent any more
+        tcp 0 60000
+        1: leave; read = end
+        10: write nobody reads = any; read = end
+        1: lost-writes; write nobody reads = failed",
+    "a peer that closes with bytes that it didn't read resets the connection
+        tcp 0 60000
+        1: write unread = 6; flush = done; peer gets u; leave; read = failed; faults 1 0; read = failed; write more = failed; faults 2 1",
+    "a peer that never reads is given 5 s
+        tcp 4000 60000
+        1: overfill; faults 0 1",
     // A round of 64 messages is followed by a read, which would hold up the next round.
-    Row {
-        name: "a busy writer does not wait",
-        kind: Kind::Tcp,
-        steps: &[],
-        rounds: 250,
-        round: &[
-            Step::Conn(Call::Busy),
-            Step::Conn(Call::Read(Read::Nothing, b"")),
-        ],
-        last: &[],
-        least: 0,
-        most: 2_500,
-    },
+    "a busy writer does not wait
+        tcp 0 2500
+        250: busy; read = nothing",
 ];
-
-fn rows_1() -> &'static [Row] {
-    &ROWS_1
-}
-
-fn rows_2() -> &'static [Row] {
-    &ROWS_2
-}
 
 /// A connection and its peer.
 #[derive(Drop)]
@@ -307,36 +88,14 @@ fn made(rt: &impl Abort, own: &HostRuntime, kind: Kind) -> Pair {
 }
 
 /// Whether a write of these bytes, of which there are some, answers so.
-fn writes<R: Wait>(rt: &R, conn: &mut TcpConn, bytes: &[u8], answer: Write) -> bool {
-    !bytes.is_empty() && conn.write(rt, bytes) == answer
-}
-
-/// Whether there are bytes. Then they are written, whatever that answers.
-fn tries<R: Wait>(rt: &R, conn: &mut TcpConn, bytes: &[u8]) -> bool {
-    if bytes.is_empty() {
-        return false;
-    }
-    let _ = conn.write(rt, bytes);
-    true
-}
-
-/// Whether a write of so many bytes of one value takes them all.
-fn fills<R: Abort + Wait>(
-    rt: &R,
-    alloc: Global,
-    conn: &mut TcpConn,
-    byte: u8,
-    count: usize,
-) -> bool {
-    let bytes = vec![in alloc; byte; count].expect(rt, "memory");
-    writes(rt, conn, &bytes, Write::Took(count))
+fn writes<R: Wait>(rt: &R, conn: &mut TcpConn, bytes: &[u8], answer: &str) -> bool {
+    !bytes.is_empty() && is_write(conn.write(rt, bytes), answer)
 }
 
 /// Whether one of many writes of 32 KiB fails.
-fn overfills<R: Abort + Wait>(rt: &R, alloc: Global, conn: &mut TcpConn) -> bool {
-    let bytes = vec![in alloc; 7; 32_768].expect(rt, "memory");
+fn overfills<R: Wait>(rt: &R, conn: &mut TcpConn, bytes: &[u8]) -> bool {
     for _ in 0..2_000 {
-        if writes(rt, conn, &bytes, Write::Failed) {
+        if writes(rt, conn, bytes, "failed") {
             return true;
         }
     }
@@ -347,29 +106,36 @@ fn overfills<R: Abort + Wait>(rt: &R, alloc: Global, conn: &mut TcpConn) -> bool
 fn is_busy<R: Wait>(rt: &R, conn: &mut TcpConn) -> bool {
     let mut all = true;
     for _ in 0..64 {
-        all = conn.write(rt, b"12345678") == Write::Took(8) && all;
+        all = writes(rt, conn, b"12345678", "8") && all;
     }
     all
 }
 
 /// Whether a read answers so, and gives these bytes.
-fn reads<R: Wait>(rt: &R, conn: &mut TcpConn, answer: Read, bytes: &[u8]) -> bool {
+fn reads<R: Wait>(rt: &R, conn: &mut TcpConn, answer: &str, bytes: &[u8]) -> bool {
     let mut into = [0u8; 64];
-    conn.read(rt, &mut into) == answer && into.starts_with(bytes)
+    is_read(conn.read(rt, &mut into), answer) && into.starts_with(bytes)
+}
+
+/// Whether a read and a write failed so often so far.
+fn is_faulty(conn: &TcpConn, want: &str) -> bool {
+    let (reads, writes) = cut(want);
+    is_number(conn.read_faults(), reads) && is_number(conn.write_faults(), writes)
 }
 
 /// Whether the connection answers a call so.
-fn answers<R: Abort + Wait>(rt: &R, alloc: Global, conn: &mut TcpConn, call: Call) -> bool {
-    match call {
-        Call::Write(bytes, answer) => writes(rt, conn, bytes, answer),
-        Call::TryWrite(bytes) => tries(rt, conn, bytes),
-        Call::Fill(byte, count) => fills(rt, alloc, conn, byte, count),
-        Call::Overfill => overfills(rt, alloc, conn),
-        Call::Busy => is_busy(rt, conn),
-        Call::Read(answer, bytes) => reads(rt, conn, answer, bytes),
-        Call::Flush(did) => conn.flush() == did,
-        Call::Faults(read, write) => conn.read_faults() == read && conn.write_faults() == write,
-        Call::LostWrites => conn.read_faults() == 0 && conn.write_faults() > 0,
+fn answers<R: Abort + Wait>(rt: &R, alloc: Global, conn: &mut TcpConn, step: &str) -> bool {
+    let (call, answer) = halves(step, " = ");
+    let (what, rest) = cut(call);
+    match what {
+        "write" => writes(rt, conn, &bytes_of(rt, alloc, rest), answer),
+        "overfill" => overfills(rt, conn, &bytes_of(rt, alloc, "7*32768")),
+        "busy" => is_busy(rt, conn),
+        "read" => reads(rt, conn, answer, rest.as_bytes()),
+        "flush" => is_did(conn.flush(), answer),
+        "faults" => is_faulty(conn, rest),
+        "lost-writes" => conn.read_faults() == 0 && conn.write_faults() > 0,
+        _ => false,
     }
 }
 
@@ -378,12 +144,6 @@ fn gets(rt: &impl Abort, alloc: Global, peer: &mut TcpStream, want: &[u8]) -> bo
     let mut came = vec![in alloc; 0; want.len()].expect(rt, "memory");
     peer.read_exact(&mut came).expect(rt, "bytes");
     same(&came, want)
-}
-
-/// Whether so many bytes of one value come next.
-fn gets_fill(rt: &impl Abort, alloc: Global, peer: &mut TcpStream, byte: u8, count: usize) -> bool {
-    let want = vec![in alloc; byte; count].expect(rt, "memory");
-    gets(rt, alloc, peer, &want)
 }
 
 /// Whether nothing has come so far.
@@ -395,76 +155,83 @@ fn gets_nothing(rt: &impl Abort, peer: &mut TcpStream) -> bool {
 }
 
 /// Whether the peer can do or finds this.
-fn finds(rt: &impl Abort, alloc: Global, peer: &mut TcpStream, act: Act) -> bool {
-    match act {
-        Act::Sends(bytes) => peer.write_all(bytes).is_ok(),
-        Act::Gets(bytes) => gets(rt, alloc, peer, bytes),
-        Act::GetsFill(byte, count) => gets_fill(rt, alloc, peer, byte, count),
-        Act::GetsNothing => gets_nothing(rt, peer),
-        Act::GetsEnd => peer.read(&mut [0u8; 8]).expect(rt, "the end") == 0,
-        Act::Stops => peer.shutdown(Shutdown::Write).is_ok(),
+fn finds(rt: &impl Abort, alloc: Global, peer: &mut TcpStream, act: &str) -> bool {
+    let (what, bytes) = cut(act);
+    match what {
+        "sends" => peer.write_all(bytes.as_bytes()).is_ok(),
+        "gets" => gets(rt, alloc, peer, &bytes_of(rt, alloc, bytes)),
+        "gets-nothing" => gets_nothing(rt, peer),
+        "gets-end" => peer.read(&mut [0u8; 8]).expect(rt, "the end") == 0,
+        "stops" => peer.shutdown(Shutdown::Write).is_ok(),
+        _ => false,
     }
 }
 
 /// Whether a step goes so. Who is gone takes no step.
-fn goes<R: Abort + Wait>(rt: &R, alloc: Global, pair: &mut Pair, step: Step) -> bool {
-    match step {
-        Step::Conn(call) => match &mut pair.conn {
-            Some(conn) => answers(rt, alloc, conn, call),
-            None => false,
-        },
-        Step::Peer(act) => match &mut pair.peer {
-            Some(peer) => finds(rt, alloc, peer, act),
-            None => false,
-        },
-        Step::Drop => {
+fn goes<R: Abort + Wait>(rt: &R, alloc: Global, pair: &mut Pair, step: &str) -> bool {
+    let (who, act) = cut(step);
+    match who {
+        "drop" => {
             pair.conn = None;
             true
         }
-        Step::Leave => {
+        "leave" => {
             pair.peer = None;
             true
         }
+        "peer" => match &mut pair.peer {
+            Some(peer) => finds(rt, alloc, peer, act),
+            None => false,
+        },
+        _ => match &mut pair.conn {
+            Some(conn) => answers(rt, alloc, conn, step),
+            None => false,
+        },
     }
 }
 
 /// Whether all these steps go so.
-fn all_go<R: Abort + Wait>(rt: &R, alloc: Global, pair: &mut Pair, steps: &[Step]) -> bool {
-    for step in steps {
-        if !goes(rt, alloc, pair, *step) {
+fn all_go<R: Abort + Wait>(rt: &R, alloc: Global, pair: &mut Pair, steps: &str) -> bool {
+    for step in steps.split(';') {
+        if !goes(rt, alloc, pair, step.trim()) {
             return false;
         }
     }
     true
 }
 
-/// Whether the steps of a row go so, with their rounds.
-fn talk_goes<R: Abort + Wait>(rt: &R, alloc: Global, pair: &mut Pair, row: &Row) -> bool {
-    let mut all = all_go(rt, alloc, pair, row.steps);
-    for _ in 0..row.rounds {
-        all = all_go(rt, alloc, pair, row.round) && all;
+/// Whether the rounds of a row go so.
+fn talk_goes<R: Abort + Wait>(rt: &R, alloc: Global, pair: &mut Pair, lines: &str) -> bool {
+    let mut all = true;
+    for line in lines.split('\n') {
+        let (rounds, steps) = part(rt, line.trim(), ":");
+        for _ in 0..number(rt, rounds) {
+            all = all_go(rt, alloc, pair, steps) && all;
+        }
     }
-    all_go(rt, alloc, pair, row.last) && all
-}
-
-fn talk_holds<R: Abort + Wait>(rt: &R, own: &HostRuntime, row: &Row) -> bool {
-    let mut pair = made(rt, own, row.kind);
-    talk_goes(rt, own.alloc(), &mut pair, row)
+    all
 }
 
 /// Whether a talk goes so, and takes as long as its row says.
-fn holds<R: Abort + Wait>(rt: &R, own: &HostRuntime, row: &Row) -> bool {
+fn holds<R: Abort + Wait>(rt: &R, own: &HostRuntime, row: &str) -> bool {
+    let (_, row) = part(rt, row, "\n");
+    let (head, lines) = part(rt, row, "\n");
+    let (kind, times) = part(rt, head.trim(), " ");
+    let (least, most) = part(rt, times, " ");
     let start = Instant::now(own).expect(rt, "a clock");
-    let all = talk_holds(rt, own, row);
+    let all = talk_holds(rt, own, kind_of(rt, kind), lines);
     let waited = start.elapsed(own).expect(rt, "a clock").as_millis();
-    all && row.least <= waited && waited < row.most
+    all && u128::from(number(rt, least)) <= waited && waited < u128::from(number(rt, most))
+}
+
+fn talk_holds<R: Abort + Wait>(rt: &R, own: &HostRuntime, kind: Kind, lines: &str) -> bool {
+    let mut pair = made(rt, own, kind);
+    talk_goes(rt, own.alloc(), &mut pair, lines)
 }
 
 #[test]
 fn rows(rt: HostRuntime) {
-    for part in &[rows_1(), rows_2()] {
-        for row in *part {
-            check(&rt, holds(&rt, &rt, row), row.name);
-        }
+    for row in &ROWS {
+        check(&rt, holds(&rt, &rt, row), row);
     }
 }

@@ -1,9 +1,10 @@
 //! A connection in memory that takes few bytes at a time, and whose reads and writes are watched.
 
 use crate::lists::push;
-use nsq_fakes::{MemConn, Piece};
+use crate::text::number;
+use nsq_fakes::MemConn;
 use nsq_outside::{Conn, Read, Sink, Source, Write, get, put};
-use session_scripts::Trace;
+use session_scripts::{Trace, pieces_of};
 use std::alloc::Global;
 use std::process::Abort;
 use std::sync::Wait;
@@ -19,49 +20,56 @@ pub enum Fails {
     Write(u64),
 }
 
-/// What is done as a connection is read.
+/// What fails of a connection, by its words: the read or the write of a number, or nothing.
+pub fn failing(rt: &impl Abort, words: &str) -> Fails {
+    match words.split_once(' ') {
+        Some(("read", count)) => Fails::Read(number(rt, count)),
+        Some(("write", count)) => Fails::Write(number(rt, count)),
+        None if words.is_empty() || words == "nothing" => Fails::Nothing,
+        _ => panic!(rt; "nothing fails by {words}"),
+    }
+}
+
+/// What is done at a read, and what must be.
 #[derive(Clone, Copy)]
 pub struct Moment {
     /// What the clock shows from then on, in nanoseconds.
     pub at: u64,
-    /// Whether it is marked how much was written before.
-    pub marked: bool,
+    /// How many bytes must be written before; any number where it is none.
+    pub written: Option<usize>,
 }
 
-/// The reads of a connection.
+/// The reads of a connection, as they are planned.
 #[derive(Drop)]
 pub struct Reads<'a> {
     pub clock: &'a AtomicU64,
-    /// What is done at each read. The clock stays at those past them, and they are marked.
     pub moments: &'a [Moment],
     /// How many reads there were.
     pub count: usize,
-    /// How many bytes were written before each read that is marked. One for which there is no memory is missing.
-    pub marks: Vec<usize>,
+    /// Whether one was otherwise than planned.
+    pub wrong: bool,
 }
 
 impl Reads<'_> {
     /// A read comes, and so many bytes were written before it.
     fn note(&mut self, written: usize) {
-        let next = self.moments.get(self.count).copied();
-        self.count = self.count.saturating_add(1);
-        if let Some(moment) = next {
-            self.clock.store(moment.at, Ordering::SeqCst);
-            if !moment.marked {
-                return;
+        match self.moments.get(self.count) {
+            Some(moment) => {
+                self.clock.store(moment.at, Ordering::SeqCst);
+                self.wrong = self.wrong || moment.written.unwrap_or(written) != written;
             }
+            None => self.wrong = true,
         }
-        let _ = self.marks.push(written);
+        self.count = self.count.saturating_add(1);
     }
 }
 
 /// Who watches a connection.
 #[derive(Drop)]
 pub enum Watch<'a> {
-    Nobody,
     /// Its calls are noted here by their letters, `r` for a read and `w` for a write.
     Letters(&'a Trace),
-    /// The clock is set at each read, and it is marked how many bytes were written before it.
+    /// The clock is set at each read, and it is seen how many bytes were written before it.
     Reads(Reads<'a>),
 }
 
@@ -79,11 +87,11 @@ impl WatchedConn<'_> {
         self.inner.bytes_written()
     }
 
-    /// How many bytes were written before each read that is marked.
-    pub fn marks(&self) -> &[usize] {
+    /// Whether all its reads came, and as planned.
+    pub fn went(&self) -> bool {
         match &self.watch {
-            Watch::Reads(reads) => &reads.marks,
-            _ => &[],
+            Watch::Reads(reads) => !reads.wrong && reads.count == reads.moments.len(),
+            _ => false,
         }
     }
 }
@@ -94,7 +102,6 @@ pub fn let_go(_conn: WatchedConn<'_>) {}
 // A read comes, and so many bytes were written before it.
 fn note_read(watch: &mut Watch<'_>, written: usize) {
     match watch {
-        Watch::Nobody => {}
         Watch::Letters(trace) => trace.note(b'r'),
         Watch::Reads(reads) => reads.note(written),
     }
@@ -107,24 +114,16 @@ fn note_write(watch: &Watch<'_>) {
     }
 }
 
-// The numbers of the calls that fail.
-fn numbers(rt: &impl Abort, alloc: Global, number: Option<u64>) -> Vec<u64> {
-    let mut numbers = Vec::new(alloc);
-    if let Some(number) = number {
-        push(rt, &mut numbers, number);
+/// A connection in memory that gives these pieces, and at which this fails. An empty piece is a read that gives nothing.
+pub fn conn_of(rt: &impl Abort, alloc: Global, pieces: &[Vec<u8>], fails: Fails) -> MemConn {
+    let pieces = pieces_of(alloc, pieces).expect(rt, "memory");
+    let mut reads = Vec::new(alloc);
+    let mut writes = Vec::new(alloc);
+    match fails {
+        Fails::Nothing => {}
+        Fails::Read(number) => push(rt, &mut reads, number),
+        Fails::Write(number) => push(rt, &mut writes, number),
     }
-    numbers
-}
-
-/// A connection in memory that gives these pieces, and at which this fails.
-pub fn conn_of(rt: &impl Abort, alloc: Global, pieces: Vec<Piece>, fails: Fails) -> MemConn {
-    let (read, write) = match fails {
-        Fails::Nothing => (None, None),
-        Fails::Read(number) => (Some(number), None),
-        Fails::Write(number) => (None, Some(number)),
-    };
-    let reads = numbers(rt, alloc, read);
-    let writes = numbers(rt, alloc, write);
     MemConn::new(alloc, pieces, reads, writes).expect(rt, "memory")
 }
 

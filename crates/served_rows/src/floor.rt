@@ -1,6 +1,6 @@
-//! A clock that shows what it is set to, a journal that forgets its entries, and a floor in memory over them, opened with the options of a setting.
+//! A clock that shows what it is set to, a journal that forgets its entries, and a floor in memory over them, opened with the options of a row.
 
-ghost use Rattle.std.specs.Prelude.{◌≡◌, IfOk, false};
+ghost use Rattle.std.specs.Prelude.{◌≡◌, false};
 ghost use Rattle.nsq_base.specs.Options.{IsInRange};
 
 use crate::lists::push;
@@ -14,59 +14,63 @@ use std::alloc::Global;
 use std::process::Abort;
 use std::sync::atomic::{AtomicU64, Ordering};
 
-pub const SECOND: u64 = 1_000_000_000;
-
-/// The options that aren't the defaults, what the clock shows at the opening, and the folder's calls that fail.
-#[derive(Clone, Copy)]
-pub struct Setting {
-    /// The moment of the opening, in nanoseconds.
-    pub began: u64,
-    /// How many messages a topic or a channel keeps in memory.
-    pub memory: u64,
-    /// How long a client has for a message, in nanoseconds.
-    pub timeout: u64,
-    /// The most bytes of a message.
-    pub most: u32,
-    /// Whether a stop is served.
-    pub stops: bool,
-    /// The calls of the folder that fail, with `, ` between them: the numbers from one to before another of those of a name, as in `Rename 0 to 2`.
-    pub fails: &'static str,
-}
-
-/// The default options, an opening at moment 0, and a folder of which no call fails.
-pub const PLAIN: Setting = Setting {
-    began: 0,
-    memory: 10_000,
-    timeout: 60 * SECOND,
-    most: 1_048_576,
-    stops: false,
-    fails: "",
-};
-
-/// What these lines say of their floor behind `with`: the moment at which it `began`, how many messages it keeps in `memory`, a message's `timeout`, the
-/// `most` bytes of a message, `stops served`, or the calls of its folder that it `fails`.
-pub fn setting_of(rt: &impl Abort, lines: &'static str) -> Setting {
-    let mut setting = PLAIN;
+/// The default options but for what a row's lines say behind `with`: how many messages a topic or a channel keeps in `memory`, a message's `timeout`, the
+/// `most` bytes of a message, and `stops served`. Behind `began` they say what the clock shows at the opening, and behind `fails` which calls of the folder
+/// fail, as in `Rename 0 to 2`: the numbers from one to before another of those of a name.
+pub fn options_of(
+    rt: &impl Abort,
+    alloc: Global,
+    lines: &str,
+    clock: &AtomicU64,
+    fails: &mut Vec<Failing>,
+) -> Options
+    ensures { IsInRange result }
+{
+    let mut options = Options::defaults(alloc).expect(rt, "memory");
     for line in lines.split('\n') {
-        let (word, rest) = cut(line.trim());
-        if word == "with" {
-            set(rt, &mut setting, rest);
+        match cut(line) {
+            ("with", words) => set(rt, &mut options, clock, fails, words),
+            _ => {}
         }
     }
-    setting
+    assert!(rt; options.in_range(), "options that none has");
+    options
 }
 
 // This is said of a floor.
-fn set(rt: &impl Abort, setting: &mut Setting, words: &'static str) {
+fn set(
+    rt: &impl Abort,
+    options: &mut Options,
+    clock: &AtomicU64,
+    fails: &mut Vec<Failing>,
+    words: &str,
+) {
     match cut(words) {
-        ("began", at) => setting.began = moment(rt, at),
-        ("memory", count) => setting.memory = number(rt, count),
-        ("timeout", time) => setting.timeout = moment(rt, time),
-        ("most", size) => setting.most = size.parse::<u32>().expect(rt, "a number"),
-        ("stops", "served") => setting.stops = true,
-        ("fails", calls) => setting.fails = calls,
+        ("began", at) => clock.store(moment(rt, at), Ordering::SeqCst),
+        ("memory", count) => options.mem_queue_size = number(rt, count),
+        ("timeout", time) => options.msg_timeout = moment(rt, time),
+        ("most", size) => options.max_msg_size = size.parse::<u32>().expect(rt, "a number"),
+        ("stops", "served") => options.http_stop = true,
+        ("fails", calls) => fail(rt, fails, calls),
         _ => panic!(rt; "no floor is opened with {words}"),
     }
+}
+
+// These calls of a folder fail.
+fn fail(rt: &impl Abort, fails: &mut Vec<Failing>, calls: &str) {
+    let (name, numbers) = cut(calls);
+    let (from, to) = part(rt, numbers, " to ");
+    let call = match name {
+        "WriteAt" => FolderCall::WriteAt,
+        "Rename" => FolderCall::Rename,
+        _ => panic!(rt; "{name} is no call of a folder"),
+    };
+    let calls = Failing {
+        call,
+        from: number(rt, from),
+        to: number(rt, to),
+    };
+    push(rt, fails, calls);
 }
 
 /// A clock that shows the moment that stands here.
@@ -120,77 +124,34 @@ pub type MemFloor<'a> = Floor<MemFolder, Shown<'a>, Forgotten>;
 /// What a floor in memory stands on.
 type MemKit<'a> = Kit<MemFolder, Shown<'a>, Forgotten>;
 
-/// A floor of epoch 1 over an empty folder, opened as a setting says, with these options; its clock is this.
+/// A floor of epoch 1 over an empty folder of which these calls fail, opened with these options; its clock is this.
 pub fn floor_of<'a>(
     rt: &impl Abort,
     alloc: Global,
-    setting: Setting,
     options: &Options,
-    moment: &'a AtomicU64,
-) -> Result<MemFloor<'a>, Memory>
+    clock: &'a AtomicU64,
+    fails: Vec<Failing>,
+) -> MemFloor<'a>
     requires { IsInRange options.now }
 {
-    moment.store(setting.began, Ordering::SeqCst);
-    let kit = kit_of(rt, alloc, setting.fails, moment)?;
+    let kit = kit_of(rt, alloc, clock, fails);
     match Floor::new(alloc, kit, options, 1) {
-        Ok(floor) => Ok(floor),
-        Err(_) => Err(Memory),
-    }
-}
-
-// The calls of a folder that fail, as a setting says.
-fn failing(rt: &impl Abort, alloc: Global, fails: &str) -> Vec<Failing> {
-    let mut failing = Vec::new(alloc);
-    for calls in fails.split_terminator(", ") {
-        let (name, numbers) = cut(calls);
-        let (from, to) = part(rt, numbers, " to ");
-        let calls = Failing {
-            call: call_of(rt, name),
-            from: number(rt, from),
-            to: number(rt, to),
-        };
-        push(rt, &mut failing, calls);
-    }
-    failing
-}
-
-// The call of a folder with this name.
-fn call_of(rt: &impl Abort, name: &str) -> FolderCall {
-    match name {
-        "WriteAt" => FolderCall::WriteAt,
-        "Rename" => FolderCall::Rename,
-        _ => panic!(rt; "{name} is no call of a folder"),
+        Ok(floor) => floor,
+        Err(_) => panic!(rt; "memory"),
     }
 }
 
 fn kit_of<'a>(
     rt: &impl Abort,
     alloc: Global,
-    fails: &str,
-    moment: &'a AtomicU64,
-) -> Result<MemKit<'a>, Memory>
-    ensures { IfOk result (λ kit. kit.journal.aside ≡ false) }
+    clock: &'a AtomicU64,
+    fails: Vec<Failing>,
+) -> MemKit<'a>
+    ensures { result.journal.aside ≡ false }
 {
-    let failing = failing(rt, alloc, fails);
-    Ok(Kit {
-        folder: MemFolder::new(alloc, Vec::new(alloc), failing)?,
-        clock: Shown { moment },
+    Kit {
+        folder: MemFolder::new(alloc, Vec::new(alloc), fails).expect(rt, "memory"),
+        clock: Shown { moment: clock },
         journal: Forgotten { aside: false },
-    })
-}
-
-/// The options of a setting.
-pub fn options_of(alloc: Global, setting: Setting) -> Result<Options, Memory>
-    ensures { IfOk result IsInRange }
-{
-    let mut options = Options::defaults(alloc)?;
-    options.mem_queue_size = setting.memory;
-    options.msg_timeout = setting.timeout;
-    options.max_msg_size = setting.most;
-    options.http_stop = setting.stops;
-    if options.in_range() {
-        Ok(options)
-    } else {
-        Err(Memory)
     }
 }

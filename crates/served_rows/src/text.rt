@@ -3,12 +3,12 @@
 //! In a text that stands for bytes `\n`, `\r` and `\0` stand for the same bytes as in Rust, and `\x` with two digits for that byte. A moment is in seconds,
 //! `5s`, or one nanosecond before them, `5s-1`.
 
-use crate::conn::Fails;
-use crate::floor::SECOND;
 use crate::lists::{push, put};
 use std::alloc::Global;
 use std::process::Abort;
 use v2_session::Ended;
+
+const SECOND: u64 = 1_000_000_000;
 
 /// The first word of a text, and what stands behind it.
 pub fn cut(text: &str) -> (&str, &str) {
@@ -109,24 +109,13 @@ fn times_of<'a>(rt: &impl Abort, run: &'a str) -> (&'a str, u64) {
     }
 }
 
-/// What fails of a connection, by its words: the read or the write of a number, or nothing.
-pub fn failing(rt: &impl Abort, words: &str) -> Fails {
-    match words.split_once(' ') {
-        Some(("read", count)) => Fails::Read(number(rt, count)),
-        Some(("write", count)) => Fails::Write(number(rt, count)),
-        None if words.is_empty() || words == "nothing" => Fails::Nothing,
-        _ => panic!(rt; "nothing fails by {words}"),
-    }
-}
-
-/// How a V2 connection ends, by its word.
-pub fn ended_by(rt: &impl Abort, word: &str) -> Ended {
-    match word {
-        "end" => Ended::EndOfInput,
-        "closed" => Ended::Closed,
-        "read fault" => Ended::ReadFault,
-        "write fault" => Ended::WriteFault,
-        "memory" => Ended::Memory,
-        _ => panic!(rt; "nothing ends by {word}"),
+/// The word for how a V2 connection ended.
+pub fn word_of(ended: Ended) -> &'static str {
+    match ended {
+        Ended::EndOfInput => "end",
+        Ended::Closed => "closed",
+        Ended::ReadFault => "read fault",
+        Ended::WriteFault => "write fault",
+        Ended::Memory => "memory",
     }
 }

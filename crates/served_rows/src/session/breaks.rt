@@ -1,442 +1,266 @@
 //! Conversations that are broken off at each place: by each answer that ends one, by a stop, by reads and writes that fail.
 
-use super::letters::{first, frames, length_of, put_frame};
-use super::lines::{ANSWERS, CALLS, ENDED, SENT, Talk, pieces_in};
-use super::served::{Setting, Wanted, goes, plain};
+use super::letters::{length_of, put_frames};
+use super::served::{Case, case_of, goes, write_all};
 use crate::conn::Fails;
-use crate::lists::{copied, push};
-use crate::text::{column, ended_by, spread};
+use crate::lists::{push, put, same};
+use crate::text::{column, cut, number};
 use std::alloc::Global;
 use std::process::Abort;
 use std::sync::Wait;
-use v2_session::Ended;
 
-static TALKS: [Talk; 9] = [
-    "a subscription|  V2SUB t c\nRDY 2\n//FIN 0000010000000000\nPUB t\n\0\0\0\x02hi/|bioqmhmiiqomig|bnrcwcnwnwnwnrnrccwnwnrg|end",
-    "a full round of messages|  V2NOP\n/|b+m*64+qmig|b+nw*64+rcnwnrg|end",
-    "errors that leave the connection open|  V2FIN 00000100/00000000\nREQ 0000010000000000 0\nNOP\n/|biiffqig|bnrnrcwcwcnrg|end",
-    "a bad word behind a command|  V2PUB t\n\0\0\0\x02hiBAD\n/|bmioeg|bnwnrcwfwg|closed",
-    "a bad magic|  V1/|bieg|bnrfwg|closed",
-    "a reply that closes behind another|  V2CLS\nCLS\nNOP\n/|bikeg|bnrcwcwg|closed",
-    "no memory for a command|  V2NOP\nPUB t\n\0\0\0\x02hi/|bmiq-g|bnwnrccwg|memory",
-    "no memory for a push||bm-g|bnwnwg|memory",
-    "no memory as it begins||-|bw|memory",
-];
+// Conversations, in the columns of all.
+static TALKS: &'static str = r#"
+a subscription|  V2SUB t c\nRDY 2\n//FIN 0000010000000000\nPUB t\n\0\0\0\x02hi/|bioqmhmiiqomig|bnrcwcnwnwnwnrnrccwnwnrg|end
+a full round of messages|  V2NOP\n/|b+m*64+qmig|b+nw*64+rcnwnrg|end
+errors that leave the connection open|  V2FIN 00000100/00000000\nREQ 0000010000000000 0\nNOP\n/|biiffqig|bnrnrcwcwcnrg|end
+a bad word behind a command|  V2PUB t\n\0\0\0\x02hiBAD\n/|bmioeg|bnwnrcwfwg|closed
+a bad magic|  V1/|bieg|bnrfwg|closed
+a reply that closes behind another|  V2CLS\nCLS\nNOP\n/|bikeg|bnrcwcwg|closed
+no memory for a command|  V2NOP\nPUB t\n\0\0\0\x02hi/|bmiq-g|bnwnrccwg|memory
+no memory for a push||bm-g|bnwnwg|memory
+no memory as it begins||-|bw|memory
+"#;
 
-fn talks() -> &'static [Talk] {
-    &TALKS
-}
+// What breaks a conversation off, in columns between `|`: its name, itself, and how the conversation ends then.
+//
+// - `answer`, a letter, and those of turns: one of these turns gets that answer;
+// - `stop`: from a turn on the daemon has stopped;
+// - `read`: a read fails; `end`: the client sends no more;
+// - `write`: a write fails; behind it may stand how many bytes each takes.
+static BREAKS: &'static str = r#"
+too long a silence|answer l n|closed
+a channel that is deleted|answer d nc|closed
+a daemon that stops for one turn|answer s ncf|closed
+an error that closes|answer e cf|closed
+a client that isn't there, or is there already|answer x bncf|closed
+no memory|answer - bncf|memory
+a daemon that stops|stop|closed
+a read that fails|read|read fault
+a client that sends no more|end|end
+a write that fails|write|write fault
+a write of a part that fails|write 7|write fault
+"#;
 
-/// What breaks a conversation off.
+// The answers to the Gone, in columns between `|`: what it is, its letter, how often memory was wanting for it, and how a connection ends then that would be
+// closed.
+static GOINGS: &'static str = r#"
+its Gone is noted|g|0|closed
+there is no memory for its Gone|-|1|memory
+it isn't there as it goes|x|0|closed
+"#;
+
+/// What came up to a turn, a read or a write of a conversation.
 #[derive(Clone, Copy)]
-enum Cause {
-    /// A turn of one of these letters gets this answer.
-    Answer(u8, &'static [u8]),
-    /// From a turn on the daemon has stopped.
-    Stop,
-    /// A read fails.
-    Read,
-    /// The client sends no more.
-    End,
-    /// A write fails, where each takes so many bytes.
-    Write(usize),
-}
-
-/// What breaks a conversation off, and how it ends then.
-struct Break {
-    name: &'static str,
-    cause: Cause,
-    ended: Ended,
-}
-
-static BREAKS: [Break; 11] = [
-    Break {
-        name: "too long a silence",
-        cause: Cause::Answer(b'l', b"n"),
-        ended: Ended::Closed,
-    },
-    Break {
-        name: "a channel that is deleted",
-        cause: Cause::Answer(b'd', b"nc"),
-        ended: Ended::Closed,
-    },
-    Break {
-        name: "a daemon that stops for one turn",
-        cause: Cause::Answer(b's', b"ncf"),
-        ended: Ended::Closed,
-    },
-    Break {
-        name: "an error that closes",
-        cause: Cause::Answer(b'e', b"cf"),
-        ended: Ended::Closed,
-    },
-    Break {
-        name: "a client that isn't there, or is there already",
-        cause: Cause::Answer(b'x', b"bncf"),
-        ended: Ended::Closed,
-    },
-    Break {
-        name: "no memory",
-        cause: Cause::Answer(b'-', b"bncf"),
-        ended: Ended::Memory,
-    },
-    Break {
-        name: "a daemon that stops",
-        cause: Cause::Stop,
-        ended: Ended::Closed,
-    },
-    Break {
-        name: "a read that fails",
-        cause: Cause::Read,
-        ended: Ended::ReadFault,
-    },
-    Break {
-        name: "a client that sends no more",
-        cause: Cause::End,
-        ended: Ended::EndOfInput,
-    },
-    Break {
-        name: "a write that fails",
-        cause: Cause::Write(usize::MAX),
-        ended: Ended::WriteFault,
-    },
-    Break {
-        name: "a write of a part that fails",
-        cause: Cause::Write(7),
-        ended: Ended::WriteFault,
-    },
-];
-
-fn causes() -> &'static [Break] {
-    &BREAKS
-}
-
-/// The answer to the Gone, how often memory was wanting for it, and how a connection ends then that would be closed.
-struct Going {
-    name: &'static str,
-    answer: u8,
-    wanted: u64,
-    closed: Ended,
-}
-
-static GOINGS: [Going; 3] = [
-    Going {
-        name: "its Gone is noted",
-        answer: b'g',
-        wanted: 0,
-        closed: Ended::Closed,
-    },
-    Going {
-        name: "there is no memory for its Gone",
-        answer: b'-',
-        wanted: 1,
-        closed: Ended::Memory,
-    },
-    Going {
-        name: "it isn't there as it goes",
-        answer: b'x',
-        wanted: 0,
-        closed: Ended::Closed,
-    },
-];
-
-fn goings() -> &'static [Going] {
-    &GOINGS
-}
-
-/// A turn, a read or a write of a conversation.
-#[derive(Clone, Copy)]
-struct Event {
+struct Place {
+    /// Its letter.
     letter: u8,
-    /// How many turns were taken with it.
+    /// How many turns, reads and writes there were with it.
     turns: usize,
+    reads: usize,
+    writes: usize,
     /// How many bytes were written before it.
     written: usize,
+    /// How many are written with it, and how many bytes of the last turn's frame are left behind it.
+    writing: usize,
+    left: usize,
 }
 
-/// A conversation laid out: its answers, what is written, and its events.
-#[derive(Drop)]
-struct Laid {
-    script: Vec<u8>,
-    written: Vec<u8>,
-    events: Vec<Event>,
-}
-
-/// A conversation that is broken off: how it is served and what must be seen of it, but for its Gone.
-#[derive(Drop)]
-struct Broken {
-    setting: Setting,
-    wanted: Wanted,
-}
-
-// Lays a conversation out where each write takes at most so many bytes.
-fn lay_out(rt: &impl Abort, alloc: Global, talk: Talk, takes: usize) -> Laid {
-    let script = spread(rt, alloc, column(talk, ANSWERS));
-    let trace = spread(rt, alloc, column(talk, CALLS));
-    let mut events = Vec::new(alloc);
-    push_events(rt, &mut events, &script, &trace, takes);
-    Laid {
-        written: frames(rt, alloc, &script),
-        script,
-        events,
-    }
-}
-
-// The events of these turns, reads and writes.
-fn push_events(
-    rt: &impl Abort,
-    events: &mut Vec<Event>,
-    script: &[u8],
-    trace: &[u8],
-    takes: usize,
-) {
-    let mut turns = 0usize;
-    let mut written = 0usize;
-    for letter in trace {
-        if *letter == b'w' {
-            let length = length_of(last(first(script, turns)));
-            push_writes(rt, events, turns, written, length, takes);
-            written = written.saturating_add(length);
-        } else {
-            turns = turns.saturating_add(usize::from(*letter != b'r'));
-            let event = Event {
-                letter: *letter,
-                turns,
-                written,
-            };
-            push(rt, events, event);
+// Goes on to the call of this letter, where a write takes at most so many bytes.
+fn step(place: &mut Place, script: &[u8], letter: u8, takes: usize) {
+    place.letter = letter;
+    place.written = place.written.saturating_add(place.writing);
+    place.writing = 0;
+    match letter {
+        b'r' => place.reads = place.reads.saturating_add(1),
+        b'w' => {
+            place.writes = place.writes.saturating_add(1);
+            place.writing = takes.min(place.left);
+            place.left = place.left.saturating_sub(place.writing);
+        }
+        _ => {
+            let answer = script.get(place.turns).copied().unwrap_or(b'?');
+            place.left = length_of(answer);
+            place.turns = place.turns.saturating_add(1);
         }
     }
 }
 
-// The writes of a frame of so many bytes.
-fn push_writes(
-    rt: &impl Abort,
-    events: &mut Vec<Event>,
-    turns: usize,
-    written: usize,
-    length: usize,
-    takes: usize,
-) {
+const START: Place = Place {
+    letter: b'?',
+    turns: 0,
+    reads: 0,
+    writes: 0,
+    written: 0,
+    writing: 0,
+    left: 0,
+};
+
+// The letters of a conversation's calls where each write takes at most so many bytes.
+fn letters_of(rt: &impl Abort, alloc: Global, talk: &Case, takes: usize) -> Vec<u8> {
     let takes = takes.max(1);
-    for place in 0..length {
-        if place % takes == 0 {
-            let event = Event {
-                letter: b'w',
-                turns,
-                written: written.saturating_add(place),
-            };
-            push(rt, events, event);
-        }
-    }
-}
-
-// The last of these letters.
-fn last(letters: &[u8]) -> u8 {
-    letters.last().copied().unwrap_or(b'?')
-}
-
-// How many of the first so many events have this letter.
-fn count_of(events: &[Event], at: usize, letter: u8) -> usize {
-    let (before, _) = events.split_at(at.min(events.len()));
-    let mut count = 0usize;
-    for event in before {
-        count = count.saturating_add(usize::from(event.letter == letter));
-    }
-    count
-}
-
-// The letters of the events up to this one.
-fn letters_to(rt: &impl Abort, alloc: Global, events: &[Event], at: usize) -> Vec<u8> {
-    let (before, _) = events.split_at(at.saturating_add(1).min(events.len()));
     let mut letters = Vec::new(alloc);
-    for event in before {
-        push(rt, &mut letters, event.letter);
+    let mut place = START;
+    for letter in &talk.trace {
+        let count = if *letter == b'w' {
+            (place.left.saturating_sub(1) / takes).saturating_add(1)
+        } else {
+            1
+        };
+        for _ in 0..count {
+            step(&mut place, &talk.script, *letter, takes);
+            push(rt, &mut letters, *letter);
+        }
     }
     letters
 }
 
-// A conversation up to this event, which is its last.
-fn broken_at(
-    rt: &impl Abort,
-    alloc: Global,
-    talk: Talk,
-    laid: &Laid,
-    at: usize,
-    event: Event,
-) -> Broken {
-    let pieces = pieces_in(rt, alloc, column(talk, SENT));
-    let script = copied(rt, alloc, first(&laid.script, event.turns));
-    let written = copied(rt, alloc, first(&laid.written, event.written));
-    let trace = letters_to(rt, alloc, &laid.events, at);
-    Broken {
-        setting: plain(pieces, script),
-        wanted: Wanted {
-            ended: ended_by(rt, column(talk, ENDED)),
-            wanted: 0,
-            written,
-            trace,
-        },
+// The call of this number of a conversation, counted from 0; its end behind all of them.
+fn place_at(script: &[u8], letters: &[u8], takes: usize, at: usize) -> Place {
+    let mut place = START;
+    for number in 0..at.saturating_add(1) {
+        let letter = letters.get(number).copied().unwrap_or(b'?');
+        step(&mut place, script, letter, takes);
     }
+    place
 }
 
-// The last turn gets this answer, and its frame is written.
-fn answer(rt: &impl Abort, broken: &mut Broken, letter: u8) {
-    let _ = broken.setting.script.pop();
-    push(rt, &mut broken.setting.script, letter);
-    if length_of(letter) > 0 {
-        push(rt, &mut broken.wanted.trace, b'w');
-    }
-    put_frame(rt, &mut broken.wanted.written, letter, 0);
+// Ends a conversation with the call of this number, where such a one stands.
+fn end_at(rt: &impl Abort, case: &mut Case, letters: &[u8], at: usize, place: Place) {
+    let (before, _) = letters.split_at(at.saturating_add(1).min(letters.len()));
+    write_all(rt, case);
+    case.written.truncate(place.written);
+    case.script.truncate(place.turns);
+    case.trace.clear();
+    put(rt, &mut case.trace, before);
 }
 
-// The write of this number fails, where each takes so many bytes.
-fn fail_write(broken: &mut Broken, takes: usize, number: u64) {
-    broken.setting.takes = takes;
-    broken.setting.fails = Fails::Write(number);
-    if last(&broken.setting.script) == b'-' {
-        broken.wanted.ended = Ended::Memory;
-    }
-}
-
-// The connection goes.
-fn go(rt: &impl Abort, broken: &mut Broken, going: &Going) {
-    push(rt, &mut broken.setting.script, going.answer);
-    push(rt, &mut broken.wanted.trace, b'g');
-    broken.wanted.wanted = going.wanted;
-    if broken.wanted.ended == Ended::Closed {
-        broken.wanted.ended = going.closed;
-    }
-}
-
-// The first event from this one on at which a stop is seen.
-fn seen_from(events: &[Event], at: usize) -> Option<(usize, Event)> {
-    for place in at..events.len() {
-        match events.get(place) {
-            Some(event) if b"ncf".contains(&event.letter) => return Some((place, *event)),
-            _ => {}
+// The number of the first call from this one on at which a stop is seen, or that of all calls.
+fn seen_from(letters: &[u8], at: usize) -> usize {
+    for number in at..letters.len() {
+        if matches!(letters.get(number), Some(b'n' | b'c' | b'f')) {
+            return number;
         }
     }
-    None
+    letters.len()
 }
 
-// Breaks a conversation off at its last event, the one of this number that has its letter, and says whether it can be.
-fn breaks(rt: &impl Abort, broken: &mut Broken, event: Event, number: usize, cause: Cause) -> bool {
-    match cause {
-        Cause::Answer(letter, turns) if turns.contains(&event.letter) => {
-            answer(rt, broken, letter);
-        }
-        Cause::Read if event.letter == b'r' => broken.setting.fails = Fails::Read(number as u64),
-        Cause::End if event.letter == b'r' => broken.setting.pieces.truncate(number),
-        Cause::Write(takes) if event.letter == b'w' => fail_write(broken, takes, number as u64),
-        _ => return false,
+// Breaks a conversation off by a stop before the call of this number, which is a turn: at the call at which the stop is seen, if there is one.
+fn stop_at(rt: &impl Abort, case: &mut Case, letters: &[u8], at: usize, ended: &'static str) {
+    let turn = place_at(&case.script, letters, usize::MAX, at);
+    let seen = seen_from(letters, at);
+    let place = place_at(&case.script, letters, usize::MAX, seen);
+    end_at(rt, case, letters, seen, place);
+    case.stops = turn.turns.saturating_sub(1);
+    if seen < letters.len() {
+        case.ended = ended;
+    } else if matches!(case.script.last(), Some(b'g')) {
+        let _ = case.script.pop();
+        let _ = case.trace.pop();
     }
-    true
 }
 
-// Breaks a conversation off at an event, if that is one at which it can be.
+// A turn of one of the letters behind this one gets its answer, if the last call is such a one.
+fn answer(rt: &impl Abort, case: &mut Case, letter: u8, words: &str) -> bool {
+    let (answer, turns) = cut(words);
+    let _ = case.script.pop();
+    put(rt, &mut case.script, answer.as_bytes());
+    let before = case.written.len();
+    put_frames(rt, &mut case.written, answer.as_bytes());
+    if case.written.len() > before {
+        push(rt, &mut case.trace, b'w');
+    }
+    turns.as_bytes().contains(&letter)
+}
+
+// Breaks a conversation off at its last call, and says whether it can be.
+fn breaks(rt: &impl Abort, case: &mut Case, place: Place, takes: usize, cause: &str) -> bool {
+    match cut(cause) {
+        ("answer", words) => answer(rt, case, place.letter, words),
+        ("read", "") => {
+            case.fails = Fails::Read(place.reads.saturating_sub(1) as u64);
+            place.letter == b'r'
+        }
+        ("end", "") => {
+            case.pieces.truncate(place.reads.saturating_sub(1));
+            place.letter == b'r'
+        }
+        ("write", _) => {
+            case.takes = takes;
+            case.fails = Fails::Write(place.writes.saturating_sub(1) as u64);
+            if matches!(case.script.last(), Some(b'-')) {
+                case.ended = "memory";
+            }
+            place.letter == b'w'
+        }
+        _ => panic!(rt; "nothing breaks off by {cause}"),
+    }
+}
+
+// Breaks a conversation off at the call of this number, and says whether it can be.
 fn break_at(
     rt: &impl Abort,
-    alloc: Global,
-    talk: Talk,
-    laid: &Laid,
+    case: &mut Case,
+    letters: &[u8],
     at: usize,
-    one: &Break,
-) -> Option<Broken> {
-    let event = laid.events.get(at).copied()?;
-    let mut broken = broken_at(rt, alloc, talk, laid, at, event);
-    broken.wanted.ended = one.ended;
-    let number = count_of(&laid.events, at, event.letter);
-    if breaks(rt, &mut broken, event, number, one.cause) {
-        Some(broken)
-    } else {
-        None
+    takes: usize,
+    one: &'static str,
+) -> bool {
+    let place = place_at(&case.script, letters, takes, at);
+    let (cause, ended) = (column(one, 1), column(one, 2));
+    if same(cause.as_bytes(), b"stop") {
+        stop_at(rt, case, letters, at, ended);
+        return place.letter != b'r' && place.letter != b'w';
     }
+    end_at(rt, case, letters, at, place);
+    case.ended = ended;
+    breaks(rt, case, place, takes, cause)
 }
 
-// Breaks a conversation off by a stop before this event, if it is a turn.
-fn stop_at(rt: &impl Abort, alloc: Global, talk: Talk, laid: &Laid, at: usize) -> Option<Broken> {
-    let event = laid.events.get(at).copied()?;
-    if event.letter == b'r' || event.letter == b'w' {
-        return None;
-    }
-    let mut broken = stopped(rt, alloc, talk, laid, at);
-    broken.setting.stops = event.turns.saturating_sub(1);
-    Some(broken)
-}
-
-// A conversation up to the first event from this one on at which a stop is seen, or whole.
-fn stopped(rt: &impl Abort, alloc: Global, talk: Talk, laid: &Laid, at: usize) -> Broken {
-    match seen_from(&laid.events, at) {
-        Some((place, seen)) => {
-            let mut broken = broken_at(rt, alloc, talk, laid, place, seen);
-            broken.wanted.ended = Ended::Closed;
-            broken
+// The connection goes, if it began.
+fn go(rt: &impl Abort, case: &mut Case, going: &'static str) {
+    if matches!(case.script.first(), Some(b'b')) {
+        put(rt, &mut case.script, column(going, 1).as_bytes());
+        push(rt, &mut case.trace, b'g');
+        case.wanted = number(rt, column(going, 2));
+        if same(case.ended.as_bytes(), b"closed") {
+            case.ended = column(going, 3);
         }
-        None => whole(rt, alloc, talk, laid),
     }
 }
 
-// A whole conversation, but for its Gone.
-fn whole(rt: &impl Abort, alloc: Global, talk: Talk, laid: &Laid) -> Broken {
-    let all = Event {
-        letter: b'?',
-        turns: usize::MAX,
-        written: usize::MAX,
-    };
-    let mut broken = broken_at(rt, alloc, talk, laid, laid.events.len(), all);
-    if last(&broken.setting.script) == b'g' {
-        let _ = broken.setting.script.pop();
-        let _ = broken.wanted.trace.pop();
-    }
-    broken
-}
-
-// Whether a conversation that is broken off at an event goes so.
+// Whether a conversation that is broken off at the call of this number goes so, to its Gone, if it can be broken off there.
 fn holds<R: Abort + Wait>(
     rt: &R,
     alloc: Global,
-    talk: Talk,
-    laid: &Laid,
-    at: usize,
-    one: &Break,
-    going: &Going,
+    talk: &'static str,
+    letters: &[u8],
+    (at, takes): (usize, usize),
+    one: &'static str,
+    going: &'static str,
 ) -> bool {
-    let broken = match one.cause {
-        Cause::Stop => stop_at(rt, alloc, talk, laid, at),
-        _ => break_at(rt, alloc, talk, laid, at, one),
-    };
-    match broken {
-        Some(broken) => goes_at_last(rt, alloc, broken, going),
-        None => true,
-    }
+    let mut case = case_of(rt, alloc, talk);
+    let can = break_at(rt, &mut case, letters, at, takes, one);
+    go(rt, &mut case, going);
+    !can || goes(rt, alloc, &case)
 }
 
-// Whether a conversation that is broken off goes so, to its Gone.
-fn goes_at_last<R: Abort + Wait>(rt: &R, alloc: Global, mut broken: Broken, going: &Going) -> bool {
-    if matches!(broken.setting.script.first(), Some(b'b')) {
-        go(rt, &mut broken, going);
-    }
-    let Broken { setting, wanted } = broken;
-    goes(rt, alloc, setting, &wanted)
-}
-
-// The first place at which a conversation that is broken off so goes otherwise, and how it goes there.
+// The first call at which a conversation that is broken off so goes otherwise, and how it goes there.
 fn wrong<R: Abort + Wait>(
     rt: &R,
     alloc: Global,
-    talk: Talk,
-    one: &Break,
+    talk: &'static str,
+    one: &'static str,
 ) -> Option<(usize, &'static str)> {
-    let takes = match one.cause {
-        Cause::Write(takes) => takes,
-        _ => usize::MAX,
+    let takes = match column(one, 1).split_once("write ") {
+        Some((_, takes)) => takes.parse::<usize>().expect(rt, "a number"),
+        None => usize::MAX,
     };
-    let laid = lay_out(rt, alloc, talk, takes);
-    for at in 0..laid.events.len() {
-        for going in goings() {
-            if !holds(rt, alloc, talk, &laid, at, one, going) {
-                return Some((at, going.name));
+    let letters = letters_of(rt, alloc, &case_of(rt, alloc, talk), takes);
+    for at in 0..letters.len() {
+        for going in GOINGS.trim().split('\n') {
+            if !holds(rt, alloc, talk, &letters, (at, takes), one, going) {
+                return Some((at, going));
             }
         }
     }
@@ -445,10 +269,10 @@ fn wrong<R: Abort + Wait>(
 
 #[test]
 fn rows(rt: HostRuntime) {
-    for talk in talks() {
-        for one in causes() {
+    for talk in TALKS.trim().split('\n') {
+        for one in BREAKS.trim().split('\n') {
             let wrong = wrong(&rt, rt.alloc(), talk, one);
-            assert!(rt; wrong.is_none(), "{}, {}: {:?}", talk, one.name, wrong);
+            assert!(rt; wrong.is_none(), "{}, {}: {:?}", talk, one, wrong);
         }
     }
 }

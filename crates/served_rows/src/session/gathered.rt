@@ -1,13 +1,13 @@
 //! Connections whose writes are gathered until the next read, as those over TCP are: what leaves together.
 
-use super::lines::{ANSWERS, CALLS, SENT, Talk, pieces_in};
+use super::lines::{ANSWERS, CALLS, SENT, pieces_in};
 use crate::conn::{Fails, conn_of};
 use crate::lists::same;
 use crate::text::{column, spread};
 use nsq_fakes::MemConn;
 use nsq_outside::{Conn, Faults, Read, Sink, Source, Write, get};
 use nsq_system::Outbox;
-use session_scripts::{Trace, floor_of, pieces_of, serve_by};
+use session_scripts::{Trace, floor_of, serve_by};
 use std::alloc::Global;
 use std::io;
 use std::process::Abort;
@@ -101,27 +101,22 @@ impl Conn for GatheringConn<'_> {
     ghost write_keeps = { λ a b h. (refl, refl, ap has_ended h, le_of_eq (sym (ap read_faults_of h))) };
 }
 
-static ROWS: [Talk; 8] = [
-    "the pushes of a full round leave together|  V2NOP\n/|b+m*64+qig|b+nw*64+srcnrg",
-    "the pushes of each round leave before its read|//|b+m*130+ig|b+nw*64+sr+nw*64+sr+nw*2+nsrg",
-    "the replies to a piece leave together|  V2+PUB t\n\0\0\0\x01a*1000/|bi+o*1000+ig|bnr+cw*1000+nsrg",
-    "replies and the pushes behind them leave together|  V2SUB t c\nRDY 9\n/|bioqmmhig|bnrcwcnwnwnwnsrg",
-    "a batch of FINs sends nothing|  V2/FIN 0000010000000000\n*780/|bii+q*780+ig|bnrnr+c*780+nrg",
-    "what doesn't fit any more leaves first|  V2+CLS\n*1000/|bi+k*1000+ig|bnr+cw*910+cws+cw*89+nsrg",
-    "an error leaves at once, with what was gathered|  V2PUB t\n\0\0\0\x01aFIN 0000010000000000\nNOP\n/|biofqig|bnrcwcwscnrg",
-    "the frame for want of memory leaves at once|  V2NOP\n/|bmi-g|bnwnsrcwsg",
-];
-
-fn all_rows() -> &'static [Talk] {
-    &ROWS
-}
+static ROWS: &'static str = r#"
+the pushes of a full round leave together|  V2NOP\n/|b+m*64+qig|b+nw*64+srcnrg
+the pushes of each round leave before its read|//|b+m*130+ig|b+nw*64+sr+nw*64+sr+nw*2+nsrg
+the replies to a piece leave together|  V2+PUB t\n\0\0\0\x01a*1000/|bi+o*1000+ig|bnr+cw*1000+nsrg
+replies and the pushes behind them leave together|  V2SUB t c\nRDY 9\n/|bioqmmhig|bnrcwcnwnwnwnsrg
+a batch of FINs sends nothing|  V2/FIN 0000010000000000\n*780/|bii+q*780+ig|bnrnr+c*780+nrg
+what doesn't fit any more leaves first|  V2+CLS\n*1000/|bi+k*1000+ig|bnr+cw*910+cws+cw*89+nsrg
+an error leaves at once, with what was gathered|  V2PUB t\n\0\0\0\x01aFIN 0000010000000000\nNOP\n/|biofqig|bnrcwcwscnrg
+the frame for want of memory leaves at once|  V2NOP\n/|bmi-g|bnwnsrcwsg
+"#;
 
 // A connection that gives a row's pieces, and notes its calls in a trace.
-fn gathering<'a>(rt: &impl Abort, alloc: Global, row: Talk, trace: &'a Trace) -> GatheringConn<'a> {
+fn gathering<'a>(rt: &impl Abort, alloc: Global, row: &str, trace: &'a Trace) -> GatheringConn<'a> {
     let pieces = pieces_in(rt, alloc, column(row, SENT));
-    let pieces = pieces_of(alloc, &pieces).expect(rt, "memory");
     GatheringConn {
-        inner: conn_of(rt, alloc, pieces, Fails::Nothing),
+        inner: conn_of(rt, alloc, &pieces, Fails::Nothing),
         outbox: Outbox::new(alloc, NotedWriter { trace }).expect(rt, "memory"),
         failed: Faults::none(),
         trace,
@@ -129,7 +124,7 @@ fn gathering<'a>(rt: &impl Abort, alloc: Global, row: Talk, trace: &'a Trace) ->
 }
 
 // Whether a connection's calls come in this order.
-fn holds<R: Abort + Wait>(rt: &R, alloc: Global, row: Talk) -> bool {
+fn holds<R: Abort + Wait>(rt: &R, alloc: Global, row: &str) -> bool {
     let wanted = spread(rt, alloc, column(row, CALLS));
     let trace = Trace::new(alloc, wanted.len().saturating_add(16)).expect(rt, "memory");
     let script = spread(rt, alloc, column(row, ANSWERS));
@@ -141,7 +136,7 @@ fn holds<R: Abort + Wait>(rt: &R, alloc: Global, row: Talk) -> bool {
 
 #[test]
 fn rows(rt: HostRuntime) {
-    for row in all_rows() {
+    for row in ROWS.trim().split('\n') {
         let holds = holds(&rt, rt.alloc(), row);
         assert!(rt; holds, "{row}");
     }

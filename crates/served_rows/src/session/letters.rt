@@ -1,7 +1,6 @@
 //! Letters of answers, and what a client gets of them.
 
 use crate::lists::{push, put};
-use std::alloc::Global;
 use std::process::Abort;
 
 const OK: &[u8] = b"\0\0\0\x06\0\0\0\0OK";
@@ -19,13 +18,7 @@ const HEARTBEAT: &[u8] = b"\0\0\0\x0f\0\0\0\0_heartbeat_";
 /// A message but for its body, one byte.
 const MESSAGE: &[u8] = b"\0\0\0\x1f\0\0\0\x0212345678aaiiiiiiiiiiiiiiii";
 
-/// The first ones of these bytes, at most so many.
-pub fn first(bytes: &[u8], count: usize) -> &[u8] {
-    bytes.split_at(count.min(bytes.len())).0
-}
-
-/// The frame of the answer with this letter: a reply, a message but for its body or a heartbeat, or with `-` that for want of
-/// memory; nothing of other letters.
+// The frame of the answer with this letter: a reply, a message but for its body or a heartbeat, or with `-` that for want of memory; nothing of other letters.
 fn text_of(letter: u8) -> &'static [u8] {
     match letter {
         b'o' => OK,
@@ -46,21 +39,29 @@ pub fn length_of(letter: u8) -> usize {
         .saturating_add(usize::from(letter == b'm'))
 }
 
-/// Adds what a client gets of the answer with this letter: a message is of this number.
-pub fn put_frame(rt: &impl Abort, bytes: &mut Vec<u8>, letter: u8, number: u8) {
-    put(rt, bytes, text_of(letter));
-    if letter == b'm' {
-        push(rt, bytes, number);
+/// Adds the frames of these letters in order, their messages numbered from 0 on.
+pub fn put_frames(rt: &impl Abort, bytes: &mut Vec<u8>, letters: &[u8]) {
+    let mut number = 0u8;
+    for letter in letters {
+        put(rt, bytes, text_of(*letter));
+        if *letter == b'm' {
+            push(rt, bytes, number);
+            number = number.wrapping_add(1);
+        }
     }
 }
 
-/// The frames of these letters in order, their messages numbered from 0 on.
-pub fn frames(rt: &impl Abort, alloc: Global, letters: &[u8]) -> Vec<u8> {
-    let mut bytes = Vec::new(alloc);
-    let mut number = 0u8;
-    for letter in letters {
-        put_frame(rt, &mut bytes, *letter, number);
-        number = number.wrapping_add(u8::from(*letter == b'm'));
+/// Adds the letters of the calls that are answered so, with a read behind each Idle, and of the writes of their frames.
+pub fn put_calls(rt: &impl Abort, calls: &mut Vec<u8>, answers: &[u8]) {
+    for letter in answers {
+        let call: &[u8] = match *letter {
+            b'b' => b"b",
+            b'm' => b"nw",
+            b'i' => b"nr",
+            b'q' => b"c",
+            b'g' => b"g",
+            _ => b"cw",
+        };
+        put(rt, calls, call);
     }
-    bytes
 }

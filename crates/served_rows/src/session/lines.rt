@@ -1,13 +1,10 @@
-//! Conversations as lines in columns.
+//! Conversations as lines in columns between `|`, of which the last ones may be missing: what a conversation is, and those that are named below. Texts are in
+//! runs, with `+` between them; one behind which `*` and a number stand comes so many times.
 
 use crate::lists::push;
 use crate::text::spread;
 use std::alloc::Global;
 use std::process::Abort;
-
-/// A conversation, in columns between `|` of which the last ones may be missing: what it is, and those that are named below. Texts are in runs, with `+` between
-/// them; one behind which `*` and a number stand comes so many times.
-pub type Talk = &'static str;
 
 /// What the client sends, in pieces, each with `/` behind it; an empty one is a read that gives nothing.
 pub const SENT: usize = 1;
@@ -27,7 +24,7 @@ pub const WRITTEN: usize = 5;
 /// The read or the write that fails, by its number.
 pub const FAILS: usize = 6;
 
-/// Whether memory is wanting for the Gone.
+/// Whether memory is wanting `once`, for the Gone.
 pub const WANTED: usize = 7;
 
 /// The pieces of a column.

@@ -1,16 +1,18 @@
-//! A connection that is served from its first byte to its end at a floor that answers by a script, and what is seen of it.
+//! A connection that is served from its first byte to its end at a floor that answers by a script, and what must be seen of it.
 
-use crate::conn::{Fails, Watch, WatchedConn, conn_of, let_go};
+use super::letters::put_frames;
+use super::lines::{ANSWERS, CALLS, ENDED, FAILS, SENT, WANTED, WRITTEN, pieces_in};
+use crate::conn::{Fails, Watch, WatchedConn, conn_of, failing, let_go};
 use crate::lists::{copied, same};
-use session_scripts::{Trace, floor_of, pieces_of, serve_by};
+use crate::text::{column, spread, word_of};
+use session_scripts::{Trace, floor_of, serve_by};
 use std::alloc::Global;
 use std::process::Abort;
 use std::sync::Wait;
-use v2_session::Ended;
 
-/// A connection that is to be served, and what it is served by.
+/// A connection that is to be served, what it is served by, and what must be seen of it.
 #[derive(Drop)]
-pub struct Setting {
+pub struct Case {
     /// What the client sends, in pieces; an empty one is a read that gives nothing.
     pub pieces: Vec<Vec<u8>>,
     /// The letters of the floor's answers.
@@ -20,76 +22,72 @@ pub struct Setting {
     pub takes: usize,
     /// From the turn of this number on the daemon has stopped.
     pub stops: usize,
-}
-
-/// A connection that sends these pieces and is answered so; no read and no write fails, and the daemon goes on.
-pub fn plain(pieces: Vec<Vec<u8>>, script: Vec<u8>) -> Setting {
-    Setting {
-        pieces,
-        script,
-        fails: Fails::Nothing,
-        takes: usize::MAX,
-        stops: usize::MAX,
-    }
-}
-
-/// How a connection was served.
-#[derive(Drop)]
-pub struct Served {
-    pub ended: Ended,
-    /// How often memory was wanting for the Gone.
+    /// How it must end.
+    pub ended: &'static str,
+    /// How often memory must be wanting for the Gone.
     pub wanted: u64,
     pub written: Vec<u8>,
     /// The letters of all turns, reads and writes, in their order.
     pub trace: Vec<u8>,
-    /// How the first command that came to the floor prints.
-    pub command: Option<String>,
+    /// How the first command must print that comes to the floor; empty where that isn't looked at.
+    pub command: &'static str,
 }
 
-/// Serves a connection, and keeps at most so many letters of its calls.
-pub fn serve<R: Abort + Wait>(rt: &R, alloc: Global, setting: Setting, room: usize) -> Served {
-    let Setting {
-        pieces,
-        script,
-        fails,
-        takes,
-        stops,
-    } = setting;
-    let pieces = pieces_of(alloc, &pieces).expect(rt, "memory");
-    let trace = Trace::new(alloc, room).expect(rt, "memory");
-    let mut conn = WatchedConn {
-        inner: conn_of(rt, alloc, pieces, fails),
-        most: takes,
-        watch: Watch::Letters(&trace),
-    };
-    let mut floor = floor_of(script, stops, &trace);
-    let (ended, wanted) = serve_by(rt, alloc, &mut conn, &mut floor);
-    let written = copied(rt, alloc, conn.written());
-    let_go(conn);
-    Served {
-        ended,
-        wanted,
+/// The case that a line says.
+pub fn case_of(rt: &impl Abort, alloc: Global, line: &'static str) -> Case {
+    let mut written = Vec::new(alloc);
+    put_frames(rt, &mut written, &spread(rt, alloc, column(line, WRITTEN)));
+    Case {
+        pieces: pieces_in(rt, alloc, column(line, SENT)),
+        script: spread(rt, alloc, column(line, ANSWERS)),
+        fails: failing(rt, column(line, FAILS)),
+        takes: usize::MAX,
+        stops: usize::MAX,
+        ended: column(line, ENDED),
+        wanted: wanted_by(rt, column(line, WANTED)),
         written,
-        trace: trace.letters(alloc).expect(rt, "memory"),
-        command: floor.command.take(),
+        trace: spread(rt, alloc, column(line, CALLS)),
+        command: "",
     }
 }
 
-/// What must be seen of a connection.
-#[derive(Drop)]
-pub struct Wanted {
-    pub ended: Ended,
-    pub wanted: u64,
-    pub written: Vec<u8>,
-    pub trace: Vec<u8>,
+// How often memory is wanting for a Gone, by its word.
+fn wanted_by(rt: &impl Abort, word: &str) -> u64 {
+    match word {
+        "" => 0,
+        "once" => 1,
+        _ => panic!(rt; "memory isn't wanting {word}"),
+    }
+}
+
+/// The frames of all answers must be written.
+pub fn write_all(rt: &impl Abort, case: &mut Case) {
+    put_frames(rt, &mut case.written, &case.script);
 }
 
 /// Whether a connection is served so.
-pub fn goes<R: Abort + Wait>(rt: &R, alloc: Global, setting: Setting, wanted: &Wanted) -> bool {
-    let room = wanted.trace.len().saturating_add(16);
-    let served = serve(rt, alloc, setting, room);
-    served.ended == wanted.ended
-        && served.wanted == wanted.wanted
-        && same(&served.written, &wanted.written)
-        && same(&served.trace, &wanted.trace)
+pub fn goes<R: Abort + Wait>(rt: &R, alloc: Global, case: &Case) -> bool {
+    let trace = Trace::new(alloc, case.trace.len().saturating_add(16)).expect(rt, "memory");
+    let mut conn = WatchedConn {
+        inner: conn_of(rt, alloc, &case.pieces, case.fails),
+        most: case.takes,
+        watch: Watch::Letters(&trace),
+    };
+    let mut floor = floor_of(copied(rt, alloc, &case.script), case.stops, &trace);
+    let (ended, wanted) = serve_by(rt, alloc, &mut conn, &mut floor);
+    let is_seen = wanted == case.wanted
+        && same(word_of(ended).as_bytes(), case.ended.as_bytes())
+        && same(conn.written(), &case.written)
+        && same(&trace.letters(alloc).expect(rt, "memory"), &case.trace)
+        && is_command(&floor.command, case.command);
+    let_go(conn);
+    is_seen
+}
+
+// Whether the first command that came to a floor prints so, where that is looked at.
+fn is_command(came: &Option<String>, prints: &str) -> bool {
+    match came {
+        Some(text) if !prints.is_empty() => same(text.as_bytes(), prints.as_bytes()),
+        _ => prints.is_empty(),
+    }
 }

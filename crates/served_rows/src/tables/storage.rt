@@ -1,25 +1,18 @@
 //! Topics and channels that keep no message in memory.
 
-static ROWS: [&'static str; 3] = [
-    r#"a message that waits stands in the topic's file
-        with memory 0
-        leaves t.diskqueue.000000.dat \0\0\0\x1b\0\0\0\0\0\0\0\0\0\00000010000000000a
-        client, end:
-            0s|  V2PUB t\n\0\0\0\x01a|OK"#,
-    r#"a message is sent from the channel's file
-        with memory 0
-        client, end:
-            0s|  V2PUB t\n\0\0\0\x01a|OK
-        client, end:
-            0s|  V2SUB t c\nRDY 1\n|OK, first 0000010000000000a"#,
-    r#"a channel without a file has nothing to send
-        with memory 0
-        client, end:
-            0s|  V2PUB t\n\0\0\0\x01a|OK
-        client, end:
-            0s|  V2SUB t c#ephemeral\nRDY 1\n|OK"#,
-];
+pub static ROWS: &'static str = r#"
+a message that waits stands in the topic's file
+with memory 0
+client-cut end: 0s|  V2PUB t\n\0\0\0\x01a|OK
+leaves t.diskqueue.000000.dat \0\0\0\x1b\0\0\0\0\0\0\0\0\0\00000010000000000a
 
-pub fn rows() -> &'static [&'static str] {
-    &ROWS
-}
+a message is sent from the channel's file
+with memory 0
+client end: 0s|  V2PUB t\n\0\0\0\x01a|OK
+client-cut end: 0s|  V2SUB t c\nRDY 1\n|OK, first 0000010000000000a
+
+a channel without a file has nothing to send
+with memory 0
+client end: 0s|  V2PUB t\n\0\0\0\x01a|OK
+client-cut end: 0s|  V2SUB t c#ephemeral\nRDY 1\n|OK
+"#;

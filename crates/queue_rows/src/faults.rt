@@ -1,155 +1,64 @@
 //! Each call of the folder fails in turn: whether the answers are right all the same, and the list is what it should be, in the files
 //! too. What the plain program finds in them judges.
+//!
+//! A row is a text: its name; how many calls of the folder fail in turn, from the first on, more than the moves make; and the moves of a new
+//! queue. With `put` the next letter is put, in a record of 40 bytes, which counts where it was stored. With `take` the first letter is taken,
+//! or the folder fails; with `sync` a save is made, whatever its answer, and with `save` one that doesn't fail; with `empty` the list is emptied,
+//! or the folder fails; with `count` the queue has as many records as there are letters. With `delete` the queue is deleted, and where that fails
+//! saved.
 
-ghost use Rattle.std.specs.Prelude.{◌≡◌, ◌≤◌};
-
+use crate::folders::folder_failing;
 use crate::plain::found;
 use crate::same;
-use crate::script::{ROLLING, empties, folder_of, let_folder_go, let_go, syncs};
-use disk_queue::{Deleted, Emptied, Put, Queue, Sync, Take};
+use crate::stand::{ROLLING, Stand, let_go, stand_of};
+use crate::text::{cut, number, part, unknown};
+use disk_queue::{Emptied, Put, Sync, Take};
 use nsq_base::Bodies;
-use nsq_fakes::{Failing, FolderCall, MemFolder};
+use nsq_fakes::{FolderCall, MemFolder};
 use queue_plain::Found;
 use std::alloc::Global;
 use std::process::Abort;
 
-// Calls of a new queue, of which every call of the folder in turn fails.
-struct Trial {
-    name: &'static str,
-    moves: &'static [Move],
-    // Whether the queue is deleted at the end, and where that fails saved.
-    deletes: bool,
-    // The calls with the numbers below this one fail, one at a time. The moves make fewer.
-    calls: u64,
-}
-
-#[derive(Clone, Copy)]
-enum Move {
-    // The next letter is put, in a record of 40 bytes. It counts where it was stored.
-    Put,
-    // The first letter is taken, or the folder fails.
-    Take,
-    // A save is made, whatever its answer.
-    Sync,
-    // A save that doesn't fail.
-    Save,
-    // The list is emptied, or the folder fails.
-    Empty,
-    // The queue has as many records as there are letters.
-    Count,
-}
-
-static TRIALS: [Trial; 4] = [
-    Trial {
-        name: "writing",
-        moves: &[
-            Move::Put,
-            Move::Sync,
-            Move::Put,
-            Move::Put,
-            Move::Sync,
-            Move::Save,
-            Move::Count,
-        ],
-        deletes: false,
-        calls: 40,
-    },
-    Trial {
-        name: "reading",
-        moves: &[
-            Move::Put,
-            Move::Put,
-            Move::Take,
-            Move::Put,
-            Move::Take,
-            Move::Take,
-            Move::Sync,
-            Move::Save,
-        ],
-        deletes: false,
-        calls: 50,
-    },
-    Trial {
-        name: "emptying",
-        moves: &[Move::Put, Move::Put, Move::Put, Move::Empty, Move::Sync],
-        deletes: false,
-        calls: 30,
-    },
-    Trial {
-        name: "deleting",
-        moves: &[Move::Put, Move::Put, Move::Put],
-        deletes: true,
-        calls: 30,
-    },
+static TRIALS: [&'static str; 4] = [
+    "writing: 40 put sync put put sync save count",
+    "reading: 50 put put take put take take sync save",
+    "emptying: 30 put put put empty sync",
+    "deleting: 30 put put put delete",
 ];
 
-// What a queue should have: records of 40 bytes, of the letters from `first` on and below `next`.
+// What a queue should have: records of 40 bytes, of the letters from `first` on and below `next`. The call with that number fails.
 #[derive(Drop)]
 struct Letters {
     first: u8,
     next: u8,
+    failing: u64,
 }
 
 // Whether all is right where the call of the folder with that number fails.
-fn holds(rt: &impl Abort, alloc: Global, trial: &Trial, failing: u64) -> bool {
-    let fails = [Failing {
-        call: FolderCall::Any,
-        from: failing,
-        to: failing.saturating_add(1),
-    }];
-    let mut folder = folder_of(rt, alloc, &[], &fails);
-    let mut queue = Queue::fresh(alloc, "q", ROLLING).expect(rt, "memory");
+fn holds(rt: &impl Abort, alloc: Global, moves: &str, failing: u64) -> bool {
+    let folder = folder_failing(rt, alloc, "", failing);
+    let mut stand = stand_of(rt, alloc, "q", ROLLING, folder);
     let mut letters = Letters {
         first: b'a',
         next: b'a',
-    };
-    let right = goes(
-        rt,
-        alloc,
-        &mut queue,
-        &mut folder,
-        &mut letters,
-        trial.moves,
         failing,
-    );
-    let ended = ends(queue, &mut folder, &mut letters, trial.deletes, failing);
-    let found = right && ended && finds_letters(rt, alloc, &folder, &letters);
-    let_folder_go(folder);
-    found
-}
-
-// Whether the queue's deletion is right, where it is deleted.
-fn ends(
-    queue: Queue,
-    folder: &mut MemFolder,
-    letters: &mut Letters,
-    deletes: bool,
-    failing: u64,
-) -> bool {
-    if deletes {
-        delete(queue, folder, letters, failing)
-    } else {
-        let_go(queue);
-        true
-    }
+    };
+    let right = goes(rt, alloc, &mut stand, &mut letters, moves)
+        && finds_letters(rt, alloc, &stand.folder, &letters);
+    let_go(stand);
+    right
 }
 
 // Makes the moves up to one that goes wrong.
 fn goes(
     rt: &impl Abort,
     alloc: Global,
-    queue: &mut Queue,
-    folder: &mut MemFolder,
+    stand: &mut Stand,
     letters: &mut Letters,
-    moves: &[Move],
-    failing: u64,
-) -> bool
-    requires least { queue.old.options.least ≤ 40 }
-    requires limit { queue.old.options.limit ≤ 60 }
-    requires none { queue.old.staged.count ≡ 0 }
-{
-    for a_move in moves {
-        if !is_right(rt, alloc, queue, folder, letters, *a_move, failing) {
+    moves: &str,
+) -> bool {
+    for word in moves.split(' ') {
+        if !is_right(rt, alloc, stand, letters, word) {
             return false;
         }
     }
@@ -160,56 +69,39 @@ fn goes(
 fn is_right(
     rt: &impl Abort,
     alloc: Global,
-    queue: &mut Queue,
-    folder: &mut MemFolder,
+    stand: &mut Stand,
     letters: &mut Letters,
-    a_move: Move,
-    failing: u64,
-) -> bool
-    requires least { queue.old.options.least ≤ 40 }
-    requires limit { queue.old.options.limit ≤ 60 }
-    requires none { queue.old.staged.count ≡ 0 }
-    ensures options { queue.new.options ≡ queue.old.options }
-    ensures none_now { queue.new.staged.count ≡ 0 }
-{
-    match a_move {
-        Move::Put => {
-            put(queue, folder, letters);
+    word: &str,
+) -> bool {
+    match word {
+        "put" => put(rt, stand, letters),
+        "take" => take(rt, stand, letters),
+        "sync" => {
+            stand.sync();
             true
         }
-        Move::Take => take(queue, folder, letters),
-        Move::Sync => {
-            syncs(queue, folder, Sync::Failed);
-            true
-        }
-        Move::Save => !syncs(queue, folder, Sync::Failed),
-        Move::Empty => empty(rt, alloc, queue, folder, letters, failing),
-        Move::Count => queue.depth() == letters.next.saturating_sub(letters.first) as u128,
+        "save" => stand.sync() != Sync::Failed,
+        "empty" => empty(rt, alloc, stand, letters),
+        "count" => stand.queue.depth() == letters.next.saturating_sub(letters.first) as u128,
+        "delete" => delete(rt, alloc, stand, letters),
+        _ => unknown(rt, word),
     }
 }
 
-fn put(queue: &mut Queue, folder: &mut MemFolder, letters: &mut Letters)
-    requires least { queue.old.options.least ≤ 40 }
-    requires none { queue.old.staged.count ≡ 0 }
-    ensures options { queue.new.options ≡ queue.old.options }
-    ensures none_now { queue.new.staged.count ≡ 0 }
-{
-    let bytes = [letters.next; 40];
-    if let Put::Stored(_) = queue.put(folder, &bytes) {
+fn put(rt: &impl Abort, stand: &mut Stand, letters: &mut Letters) -> bool {
+    if let Put::Stored(_) = stand.put(rt, &[letters.next; 40]) {
         letters.next = letters.next.saturating_add(1);
     }
+    true
 }
 
-fn take(queue: &mut Queue, folder: &mut MemFolder, letters: &mut Letters) -> bool
-    requires limit { queue.old.options.limit ≤ 60 }
-    requires none { queue.old.staged.count ≡ 0 }
-    ensures options { queue.new.options ≡ queue.old.options }
-    ensures none_now { queue.new.staged.count ≡ 0 }
-{
+fn take(rt: &impl Abort, stand: &mut Stand, letters: &mut Letters) -> bool {
     let mut into = [0; 60];
-    match queue.take(folder, &mut into) {
+    match stand.take(rt, &mut into) {
         Take::Got(size, _) => {
-            let right = letters.first < letters.next && same(&into[..size], &[letters.first; 40]);
+            let right = letters.first < letters.next
+                && size == 40
+                && into.starts_with(&[letters.first; 40]);
             letters.first = letters.first.saturating_add(1);
             right
         }
@@ -220,23 +112,23 @@ fn take(queue: &mut Queue, folder: &mut MemFolder, letters: &mut Letters) -> boo
 }
 
 // Once the list is emptied an opening finds nothing.
-fn empty(
-    rt: &impl Abort,
-    alloc: Global,
-    queue: &mut Queue,
-    folder: &mut MemFolder,
-    letters: &mut Letters,
-    failing: u64,
-) -> bool
-    ensures options { queue.new.options ≡ queue.old.options }
-    ensures staged { queue.new.staged ≡ queue.old.staged }
-{
-    let before = folder.called().len() as u64;
-    if !empties(queue, folder, Emptied::Done) {
+fn empty(rt: &impl Abort, alloc: Global, stand: &mut Stand, letters: &mut Letters) -> bool {
+    let before = stand.folder.called().len() as u64;
+    if stand.empty() != Emptied::Done {
         return true;
     }
     letters.first = letters.next;
-    may_be_done(folder, before, failing) && finds_letters(rt, alloc, folder, letters)
+    may_be_done(&stand.folder, before, letters.failing)
+        && finds_letters(rt, alloc, &stand.folder, letters)
+}
+
+fn delete(rt: &impl Abort, alloc: Global, stand: &mut Stand, letters: &mut Letters) -> bool {
+    let before = stand.folder.called().len() as u64;
+    if !stand.delete(rt, alloc, "q") {
+        return true;
+    }
+    letters.first = letters.next;
+    may_be_done(&stand.folder, before, letters.failing)
 }
 
 // Whether the call that fails, where it came behind the first so many, is a removal.
@@ -247,22 +139,6 @@ fn may_be_done(folder: &MemFolder, before: u64, failing: u64) -> bool {
     match folder.called().get(failing as usize) {
         Some(called) => called.call == FolderCall::Remove,
         None => true,
-    }
-}
-
-fn delete(queue: Queue, folder: &mut MemFolder, letters: &mut Letters, failing: u64) -> bool {
-    let before = folder.called().len() as u64;
-    match queue.delete(folder) {
-        Deleted::Done => {
-            letters.first = letters.next;
-            may_be_done(folder, before, failing)
-        }
-        Deleted::Fault(kept) => {
-            let mut kept = kept;
-            kept.sync(folder);
-            let_go(kept);
-            true
-        }
     }
 }
 
@@ -289,9 +165,11 @@ fn are(found: &Bodies, letters: &Letters) -> bool {
 #[test]
 fn rows(rt: HostRuntime) {
     for row in &TRIALS {
-        for failing in 0..row.calls {
-            let holds = holds(&rt, rt.alloc(), row, failing);
-            assert!(rt; holds, "{}: call {failing} fails", row.name);
+        let (_, trial) = part(&rt, row, ": ");
+        let (calls, moves) = cut(trial);
+        for failing in 0..number(&rt, calls) {
+            let holds = holds(&rt, rt.alloc(), moves, failing);
+            assert!(rt; holds, "{}: call {failing} fails", row);
         }
     }
 }

@@ -1,295 +1,147 @@
 //! What queue files are called, what their bytes are, and what the plain program finds in them.
+//!
+//! A row is a text: its name; a word for what is looked at, and that; and behind `=>` what it is, or `none`.
+//!
+//! - `found`: a queue, the greatest size of a record, of which the least is 26, and behind `in` the files; the records' bodies, oldest
+//!   first, and behind `but` the numbers of the bad files.
+//! - `split`: the least size of a record, of which the greatest is 60, and bytes; that they are `whole`, or the place of what is no
+//!   record and the size that is read there.
+//! - `meta`: a text of metadata; how far the list of file 0 goes, which is read from its start.
+//! - `data`, `metadata`, `temporary`, `aside`, `channel`: what is named; its name.
+//! - `number`: a file's name; its number in the queue `t`.
 
-use crate::plain::{are, copied};
-use crate::same;
-use crate::script::File;
+use crate::folders::named_files;
+use crate::plain::are;
+use crate::text::{bytes_of, cut, number, part, size, unknown};
+use crate::{check, same};
 use queue_image::{Positions, file_names, laws, read_meta};
-use queue_plain::{Found, Row, found_queue, records_of};
+use queue_plain::{Found, Listing, Row, found_queue, records_of};
 use std::alloc::Global;
 use std::process::Abort;
 
-// What is found of a queue among files.
-struct Finding {
-    name: &'static str,
-    files: &'static [File],
-    queue: &'static str,
-    // The greatest size of a record; the least is 26.
-    limit: u32,
-    // The records' bodies, oldest first; None where the metadata is bad.
-    bodies: Option<&'static [&'static [u8]]>,
-    // The numbers of the bad files.
-    bad: &'static [u64],
-}
-
-static FINDINGS: [Finding; 7] = [
-    Finding {
-        name: "three records in two files",
-        files: &[
-            File {
-                name: "q.diskqueue.meta.dat",
-                bytes: b"3\n0,0\n1,44\n",
-            },
-            File {
-                name: "q.diskqueue.000001.dat",
-                bytes: b"\0\0\0\x28cccccccccccccccccccccccccccccccccccccccc",
-            },
-            File {
-                name: "q.diskqueue.000000.dat",
-                bytes: b"\0\0\0\x28aaaaaaaaaaaaaaaaaaaaaaaaaaaaaaaaaaaaaaaa\0\0\0\x28bbbbbbbbbbbbbbbbbbbbbbbbbbbbbbbbbbbbbbbb",
-            },
-            File {
-                name: "r.diskqueue.000000.dat",
-                bytes: b"of another queue",
-            },
-        ],
-        queue: "q",
-        limit: 60,
-        bodies: Some(&[
-            b"aaaaaaaaaaaaaaaaaaaaaaaaaaaaaaaaaaaaaaaa",
-            b"bbbbbbbbbbbbbbbbbbbbbbbbbbbbbbbbbbbbbbbb",
-            b"cccccccccccccccccccccccccccccccccccccccc",
-        ]),
-        bad: &[],
-    },
-    Finding {
-        name: "nothing is left after three takes",
-        files: &[
-            File {
-                name: "q.diskqueue.meta.dat",
-                bytes: b"0\n1,44\n1,44\n",
-            },
-            File {
-                name: "q.diskqueue.000001.dat",
-                bytes: b"\0\0\0\x28cccccccccccccccccccccccccccccccccccccccc",
-            },
-        ],
-        queue: "q",
-        limit: 60,
-        bodies: Some(&[]),
-        bad: &[],
-    },
-    Finding {
-        name: "no file is the queue's",
-        files: &[
-            File {
-                name: "q.diskqueue.meta.dat",
-                bytes: b"0\n1,44\n1,44\n",
-            },
-            File {
-                name: "q.diskqueue.000001.dat",
-                bytes: b"\0\0\0\x28cccccccccccccccccccccccccccccccccccccccc",
-            },
-        ],
-        queue: "r",
-        limit: 60,
-        bodies: Some(&[]),
-        bad: &[],
-    },
-    Finding {
-        name: "three messages of a channel",
-        files: &[
-            File {
-                name: "t:c.diskqueue.000000.dat",
-                bytes: b"\0\0\0\x1bccccccccccccccccccccccccccc\0\0\0\x1bbbbbbbbbbbbbbbbbbbbbbbbbbbb\0\0\0\x1baaaaaaaaaaaaaaaaaaaaaaaaaaa",
-            },
-            File {
-                name: "t:c.diskqueue.meta.dat",
-                bytes: b"3\n0,0\n0,93\n",
-            },
-        ],
-        queue: "t:c",
-        limit: 16_777_242,
-        bodies: Some(&[
-            b"ccccccccccccccccccccccccccc",
-            b"bbbbbbbbbbbbbbbbbbbbbbbbbbb",
-            b"aaaaaaaaaaaaaaaaaaaaaaaaaaa",
-        ]),
-        bad: &[],
-    },
-    Finding {
-        name: "a damaged file is left out, and an absent one at the end is bad",
-        files: &[
-            File {
-                name: "q.diskqueue.meta.dat",
-                bytes: b"3\n0,0\n1099511627776,44\n",
-            },
-            File {
-                name: "q.diskqueue.000000.dat",
-                bytes: b"\0\0\0\x28aaaaaaaaaaaaaaaaaaaaaaaaaaaaaaaaaaaaaaaa\0\0\0\x19bbbbbbbbbbbbbbbbbbbbbbbbb",
-            },
-            File {
-                name: "q.diskqueue.000007.dat",
-                bytes: b"\0\0\0\x28cccccccccccccccccccccccccccccccccccccccc",
-            },
-        ],
-        queue: "q",
-        limit: 60,
-        bodies: Some(&[b"cccccccccccccccccccccccccccccccccccccccc"]),
-        bad: &[0, 1_099_511_627_776],
-    },
-    Finding {
-        name: "bad metadata",
-        files: &[File {
-            name: "t.diskqueue.meta.dat",
-            bytes: b"1\n0\n",
-        }],
-        queue: "t",
-        limit: 60,
-        bodies: None,
-        bad: &[],
-    },
-    Finding {
-        name: "no file at all",
-        files: &[],
-        queue: "t",
-        limit: 60,
-        bodies: Some(&[]),
-        bad: &[],
-    },
+static ROWS: [&'static str; 33] = [
+    "three records in two files: found q 60 in q.diskqueue.meta.dat is 3/0,0/1,44/; q.diskqueue.000001.dat is size 40+40*c;
+            q.diskqueue.000000.dat is size 40+40*a+size 40+40*b; r.diskqueue.000000.dat is of another queue
+        => 40*a; 40*b; 40*c but",
+    "nothing is left after three takes: found q 60 in q.diskqueue.meta.dat is 0/1,44/1,44/; q.diskqueue.000001.dat is size 40+40*c => but",
+    "no file is the queue's: found r 60 in q.diskqueue.meta.dat is 0/1,44/1,44/; q.diskqueue.000001.dat is size 40+40*c => but",
+    "three messages of a channel: found t:c 16777242 in t:c.diskqueue.000000.dat is size 27+27*c+size 27+27*b+size 27+27*a;
+            t:c.diskqueue.meta.dat is 3/0,0/0,93/
+        => 27*c; 27*b; 27*a but",
+    "a damaged file is left out, and an absent one at the end is bad: found q 60 in q.diskqueue.meta.dat is 3/0,0/1099511627776,44/;
+            q.diskqueue.000000.dat is size 40+40*a+size 25+25*b; q.diskqueue.000007.dat is size 40+40*c
+        => 40*c but 0; 1099511627776",
+    "bad metadata: found t 60 in t.diskqueue.meta.dat is 1/0/ => none",
+    "no file at all: found t 60 in => but",
+    "a size below the least: split 26 size 40+40*a+size 25+25*b => 44 25",
+    "the least size: split 25 size 40+40*a+size 25+25*b => whole",
+    "metadata: meta 3/0,0/0,93/ => 93",
+    "a number of 40 digits: meta 0000000000000000000000000000000000000003/0,0/0,93/ => 93",
+    "one number of two: meta 1/0/ => none",
+    "no third line: meta 3/0,0/ => none",
+    "an open line: meta 3/0,0/0,93 => none",
+    "a line more: meta 3/0,0/0,93// => none",
+    "a letter: meta 3/0,0/0,9x/ => none",
+    "no depth: meta /0,0/0,93/ => none",
+    "a number of 41 digits: meta 00000000000000000000000000000000000000003/0,0/0,93/ => none",
+    "a place past 2^62: meta 3/0,0/0,4611686018427387905/ => none",
+    "a file past 2^40: meta 3/0,0/1099511627777,93/ => none",
+    "a read place past the write place: meta 3/0,94/0,93/ => none",
+    "a read file past the write file: meta 3/1,0/0,93/ => none",
+    "a data file: data t 0 => t.diskqueue.000000.dat",
+    "a data file with a great number: data t 1000000 => t.diskqueue.1000000.dat",
+    "a file of metadata: metadata t => t.diskqueue.meta.dat",
+    "its temporary: temporary t => t.diskqueue.meta.dat.tmp",
+    "a file that is set aside: aside t.diskqueue.000000.dat => t.diskqueue.000000.dat.bad",
+    "a channel: channel t c => t:c",
+    "six digits: number t.diskqueue.000012.dat => 12",
+    "seven digits: number t.diskqueue.0000012.dat => none",
+    "two digits: number t.diskqueue.12.dat => none",
+    "another queue's: number t:c.diskqueue.000012.dat => none",
+    "no number: number t.diskqueue.meta.dat => none",
 ];
 
-fn findings() -> &'static [Finding] {
-    &FINDINGS
-}
-
-// Whether this is what the row says.
-fn is_found(found: &Found, row: &Finding) -> bool {
-    match found {
-        Found::Records(listing) => match row.bodies {
-            Some(bodies) => are(&listing.bodies, bodies) && listing.bad.as_slice() == row.bad,
-            None => false,
-        },
-        Found::BadMeta => row.bodies.is_none(),
+// Whether what is looked at is what the row says.
+fn holds(rt: &impl Abort, alloc: Global, row: &str) -> bool {
+    let (_, rest) = part(rt, row, ": ");
+    let (what, answer) = part(rt, rest, "=>");
+    let (word, what) = cut(what.trim());
+    let answer = answer.trim();
+    match word {
+        "found" => finds(rt, alloc, what, answer),
+        "split" => splits(rt, alloc, what, answer),
+        "meta" => says(rt, alloc, what, answer),
+        "number" => is_numbered(rt, alloc, what, answer),
+        _ => same(name_of(rt, alloc, word, what).as_bytes(), answer.as_bytes()),
     }
 }
 
-// Whether the plain program finds what the row says.
-fn finds(rt: &impl Abort, alloc: Global, row: &Finding) -> bool {
-    let files = copied(rt, alloc, row.files);
-    let found = found_queue(alloc, files.as_slice(), row.queue, 26, row.limit);
-    is_found(&found.expect(rt, "memory"), row)
+// Whether the plain program finds that.
+fn finds(rt: &impl Abort, alloc: Global, what: &str, answer: &str) -> bool {
+    let (queue, files) = part(rt, what, " in");
+    let (name, limit) = cut(queue);
+    let files = named_files(rt, alloc, files);
+    let found = found_queue(alloc, files.as_slice(), name, 26, size(rt, limit));
+    match found.expect(rt, "memory") {
+        Found::Records(listing) => is_listed(rt, alloc, &listing, answer),
+        Found::BadMeta => same(answer.as_bytes(), b"none"),
+    }
 }
 
-// What bytes are as a row of records.
-struct Splitting {
-    name: &'static str,
-    bytes: &'static [u8],
-    least: u32,
-    // The place of what is no record, and the size that is read there; None for a whole row.
-    damage: Option<(usize, u32)>,
+// Whether these bodies are found, and these numbers of bad files.
+fn is_listed(rt: &impl Abort, alloc: Global, listing: &Listing, answer: &str) -> bool {
+    match answer.split_once("but") {
+        Some((bodies, bad)) => are(rt, alloc, &listing.bodies, bodies)
+            && are_numbers(rt, &listing.bad, bad),
+        None => false,
+    }
 }
 
-static SPLITTINGS: [Splitting; 2] = [
-    Splitting {
-        name: "a size below the least",
-        bytes: b"\0\0\0\x28aaaaaaaaaaaaaaaaaaaaaaaaaaaaaaaaaaaaaaaa\0\0\0\x19bbbbbbbbbbbbbbbbbbbbbbbbb",
-        least: 26,
-        damage: Some((44, 25)),
-    },
-    Splitting {
-        name: "the least size",
-        bytes: b"\0\0\0\x28aaaaaaaaaaaaaaaaaaaaaaaaaaaaaaaaaaaaaaaa\0\0\0\x19bbbbbbbbbbbbbbbbbbbbbbbbb",
-        least: 25,
-        damage: None,
-    },
-];
+// Whether these are the numbers, one by one.
+fn are_numbers(rt: &impl Abort, found: &[u64], numbers: &str) -> bool {
+    let mut place = 0usize;
+    let mut all = true;
+    for word in numbers.split(';') {
+        let word = word.trim();
+        if !word.is_empty() {
+            all = all && is_number(found.get(place), number(rt, word));
+            place = place.saturating_add(1);
+        }
+    }
+    all && place == found.len()
+}
 
-// Whether this is what the row says.
-fn is_split(found: &Row, damage: Option<(usize, u32)>) -> bool {
+fn is_number(found: Option<&u64>, number: u64) -> bool {
     match found {
-        Row::Whole(_) => damage.is_none(),
-        Row::Damaged { place, size } => match damage {
-            Some(damage) => *place == damage.0 && *size == damage.1,
+        Some(found) => *found == number,
+        None => false,
+    }
+}
+
+// Whether the bytes are that as a row of records.
+fn splits(rt: &impl Abort, alloc: Global, what: &str, answer: &str) -> bool {
+    let (least, bytes) = cut(what);
+    let bytes = bytes_of(rt, alloc, bytes);
+    match records_of(alloc, &bytes, size(rt, least), 60).expect(rt, "memory") {
+        Row::Whole(_) => same(answer.as_bytes(), b"whole"),
+        Row::Damaged { place, size: read } => match answer.split_once(" ") {
+            Some((at, told)) => number(rt, at) == place as u64 && size(rt, told) == read,
             None => false,
         },
     }
 }
 
-// Whether the bytes are what the row says. Its records have at most 60 bytes.
-fn splits(rt: &impl Abort, alloc: Global, row: &Splitting) -> bool {
-    let found = records_of(alloc, row.bytes, row.least, 60).expect(rt, "memory");
-    is_split(&found, row.damage)
+// The number that is told; None for `none`.
+fn told(rt: &impl Abort, answer: &str) -> Option<u64> {
+    match answer {
+        "none" => None,
+        _ => Some(number(rt, answer)),
+    }
 }
 
-// What a metadata text says.
-struct Meta {
-    name: &'static str,
-    text: &'static [u8],
-    // How far the list of file 0 goes, which is read from its start; None for a text that is no metadata.
-    end: Option<u64>,
-}
-
-static METAS: [Meta; 13] = [
-    Meta {
-        name: "metadata",
-        text: b"3\n0,0\n0,93\n",
-        end: Some(93),
-    },
-    Meta {
-        name: "a number of 40 digits",
-        text: b"0000000000000000000000000000000000000003\n0,0\n0,93\n",
-        end: Some(93),
-    },
-    Meta {
-        name: "one number of two",
-        text: b"1\n0\n",
-        end: None,
-    },
-    Meta {
-        name: "no third line",
-        text: b"3\n0,0\n",
-        end: None,
-    },
-    Meta {
-        name: "an open line",
-        text: b"3\n0,0\n0,93",
-        end: None,
-    },
-    Meta {
-        name: "a line more",
-        text: b"3\n0,0\n0,93\n\n",
-        end: None,
-    },
-    Meta {
-        name: "a letter",
-        text: b"3\n0,0\n0,9x\n",
-        end: None,
-    },
-    Meta {
-        name: "no depth",
-        text: b"\n0,0\n0,93\n",
-        end: None,
-    },
-    Meta {
-        name: "a number of 41 digits",
-        text: b"00000000000000000000000000000000000000003\n0,0\n0,93\n",
-        end: None,
-    },
-    Meta {
-        name: "a place past 2^62",
-        text: b"3\n0,0\n0,4611686018427387905\n",
-        end: None,
-    },
-    Meta {
-        name: "a file past 2^40",
-        text: b"3\n0,0\n1099511627777,93\n",
-        end: None,
-    },
-    Meta {
-        name: "a read place past the write place",
-        text: b"3\n0,94\n0,93\n",
-        end: None,
-    },
-    Meta {
-        name: "a read file past the write file",
-        text: b"3\n1,0\n0,93\n",
-        end: None,
-    },
-];
-
-// Whether the text says what the row says.
-fn says(row: &Meta) -> bool {
-    let positions = match row.end {
+// Whether the text says that.
+fn says(rt: &impl Abort, alloc: Global, text: &str, answer: &str) -> bool {
+    let positions = match told(rt, answer) {
         Some(end) => Some(Positions {
             read_file: 0,
             read_at: 0,
@@ -298,102 +150,26 @@ fn says(row: &Meta) -> bool {
         }),
         None => None,
     };
-    read_meta(row.text) == positions
+    read_meta(&bytes_of(rt, alloc, text)) == positions
 }
 
-// What is named.
-#[derive(Clone, Copy)]
-enum Named {
-    Data(&'static str, u64),
-    Metadata(&'static str),
-    Temporary(&'static str),
-    Aside(&'static str),
-    Channel(&'static str, &'static str),
+// Whether the file has that number.
+fn is_numbered(rt: &impl Abort, alloc: Global, file: &str, answer: &str) -> bool {
+    file_names::number_of(alloc, "t", file.as_bytes()).expect(rt, "memory") == told(rt, answer)
 }
-
-// What something is called.
-struct Naming {
-    is: &'static str,
-    of: Named,
-}
-
-static NAMINGS: [Naming; 6] = [
-    Naming {
-        is: "t.diskqueue.000000.dat",
-        of: Named::Data("t", 0),
-    },
-    Naming {
-        is: "t.diskqueue.1000000.dat",
-        of: Named::Data("t", 1_000_000),
-    },
-    Naming {
-        is: "t.diskqueue.meta.dat",
-        of: Named::Metadata("t"),
-    },
-    Naming {
-        is: "t.diskqueue.meta.dat.tmp",
-        of: Named::Temporary("t"),
-    },
-    Naming {
-        is: "t.diskqueue.000000.dat.bad",
-        of: Named::Aside("t.diskqueue.000000.dat"),
-    },
-    Naming {
-        is: "t:c",
-        of: Named::Channel("t", "c"),
-    },
-];
 
 // What it is called.
-fn name_of(rt: &impl Abort, alloc: Global, named: Named) -> String {
-    let name = match named {
-        Named::Data(queue, number) => file_names::data_file(alloc, queue, number),
-        Named::Metadata(queue) => file_names::meta_file(alloc, queue),
-        Named::Temporary(queue) => file_names::meta_temp(alloc, queue),
-        Named::Aside(file) => file_names::set_aside(alloc, file),
-        Named::Channel(topic, channel) => file_names::channel_queue(alloc, topic, channel),
+fn name_of(rt: &impl Abort, alloc: Global, word: &str, what: &str) -> String {
+    let (one, other) = cut(what);
+    let name = match word {
+        "data" => file_names::data_file(alloc, one, number(rt, other)),
+        "metadata" => file_names::meta_file(alloc, what),
+        "temporary" => file_names::meta_temp(alloc, what),
+        "aside" => file_names::set_aside(alloc, what),
+        "channel" => file_names::channel_queue(alloc, one, other),
+        _ => unknown(rt, word),
     };
     name.expect(rt, "memory")
-}
-
-// Whether the row's name is given.
-fn is_named(rt: &impl Abort, alloc: Global, row: &Naming) -> bool {
-    let name = name_of(rt, alloc, row.of);
-    same(name.as_bytes(), row.is.as_bytes())
-}
-
-// The number of a file of the queue `t`.
-struct Numbering {
-    file: &'static str,
-    number: Option<u64>,
-}
-
-static NUMBERINGS: [Numbering; 5] = [
-    Numbering {
-        file: "t.diskqueue.000012.dat",
-        number: Some(12),
-    },
-    Numbering {
-        file: "t.diskqueue.0000012.dat",
-        number: None,
-    },
-    Numbering {
-        file: "t.diskqueue.12.dat",
-        number: None,
-    },
-    Numbering {
-        file: "t:c.diskqueue.000012.dat",
-        number: None,
-    },
-    Numbering {
-        file: "t.diskqueue.meta.dat",
-        number: None,
-    },
-];
-
-// Whether the file has the row's number.
-fn is_numbered(rt: &impl Abort, alloc: Global, row: &Numbering) -> bool {
-    file_names::number_of(alloc, "t", row.file.as_bytes()).expect(rt, "memory") == row.number
 }
 
 // Each law is called once.
@@ -406,46 +182,10 @@ fn call_laws() {
     laws::openings();
 }
 
-// The name of the first row of files, of records or of metadata that doesn't hold, if any.
-fn wrong_text(rt: &impl Abort, alloc: Global) -> Option<&'static str> {
-    for row in findings() {
-        if !finds(rt, alloc, row) {
-            return Some(row.name);
-        }
-    }
-    for row in &SPLITTINGS {
-        if !splits(rt, alloc, row) {
-            return Some(row.name);
-        }
-    }
-    for row in &METAS {
-        if !says(row) {
-            return Some(row.name);
-        }
-    }
-    None
-}
-
-// The first row's name or file that doesn't hold, if any.
-fn wrong_name(rt: &impl Abort, alloc: Global) -> Option<&'static str> {
-    for row in &NAMINGS {
-        if !is_named(rt, alloc, row) {
-            return Some(row.is);
-        }
-    }
-    for row in &NUMBERINGS {
-        if !is_numbered(rt, alloc, row) {
-            return Some(row.file);
-        }
-    }
-    None
-}
-
 #[test]
 fn rows(rt: HostRuntime) {
-    let text = wrong_text(&rt, rt.alloc());
-    assert!(rt; text.is_none(), "{}", text.unwrap_or(""));
-    let name = wrong_name(&rt, rt.alloc());
-    assert!(rt; name.is_none(), "{}", name.unwrap_or(""));
+    for row in &ROWS {
+        check(&rt, holds(&rt, rt.alloc(), row), row);
+    }
     call_laws();
 }

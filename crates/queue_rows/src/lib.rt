@@ -8,6 +8,8 @@ use std::process::Abort;
 #[cfg(test)]
 mod faults;
 #[cfg(test)]
+mod folders;
+#[cfg(test)]
 mod image;
 #[cfg(test)]
 mod opening;
@@ -20,7 +22,11 @@ mod plain;
 #[cfg(test)]
 mod reading;
 #[cfg(test)]
+mod room;
+#[cfg(test)]
 mod script;
+#[cfg(test)]
+mod stand;
 #[cfg(test)]
 mod text;
 #[cfg(test)]

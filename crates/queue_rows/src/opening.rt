@@ -1,65 +1,34 @@
 //! What an opening makes of a queue's files.
 
 use crate::check;
+use crate::folders::{folder_failing, folder_told, let_folder_go};
 use crate::plain::{are, found};
-use crate::script::{File, SHORT, folder_of, folder_told, let_folder_go, let_go};
-use crate::text::part;
+use crate::stand::{SHORT, let_queue_go};
+use crate::text::{part, unknown};
 use disk_queue::{Open, Queue};
-use nsq_fakes::{Failing, FolderCall, MemFolder};
+use nsq_fakes::MemFolder;
 use queue_plain::Found;
 use std::alloc::Global;
 use std::process::Abort;
 
 // A good file 1, a read one below it, a damaged write file 3, one above it, and no file 2.
-static DAMAGED_FILES: [File; 8] = [
-    File {
-        name: "q.diskqueue.meta.dat",
-        bytes: b"3\n1,0\n3,5\n",
-    },
-    File {
-        name: "q.diskqueue.000000.dat",
-        bytes: b"\0\0\0\x01z",
-    },
-    File {
-        name: "q.diskqueue.000001.dat",
-        bytes: b"\0\0\0\x01a\0\0\0\x02bc",
-    },
-    File {
-        name: "q.diskqueue.000003.dat",
-        bytes: b"\0\0\0\x02de",
-    },
-    File {
-        name: "q.diskqueue.000003.dat.bad",
-        bytes: b"old",
-    },
-    File {
-        name: "q.diskqueue.000004.dat",
-        bytes: b"above",
-    },
-    File {
-        name: "q.diskqueue.000005.dat.bad",
-        bytes: b"kept",
-    },
-    File {
-        name: "q:c.diskqueue.000000.dat",
-        bytes: b"another",
-    },
-];
+const DAMAGED_FILES: &str =
+    "q.diskqueue.meta.dat is 3/1,0/3,5/; q.diskqueue.000000.dat is size 1+z; q.diskqueue.000001.dat is size 1+a+size 2+bc;
+    q.diskqueue.000003.dat is size 2+de; q.diskqueue.000003.dat.bad is old; q.diskqueue.000004.dat is above;
+    q.diskqueue.000005.dat.bad is kept; q:c.diskqueue.000000.dat is another";
 
 static ROWS: [&'static str; 8] = [
     "the depth is not trusted
         queue: q short
         files: q.diskqueue.meta.dat is 7/0,5/0,11/; q.diskqueue.000000.dat is size 1+a+size 2+bc+size 1+d
-        fails:
-        steps: open => 1
+        fails: steps: open => 1
         left: q.diskqueue.meta.dat is 1/0,5/0,11/; q.diskqueue.000000.dat is size 1+a+size 2+bc",
     "a damaged write file
         queue: q short
         files: q.diskqueue.meta.dat is 3/1,0/3,5/; q.diskqueue.000000.dat is size 1+z; q.diskqueue.000001.dat is size 1+a+size 2+bc;
             q.diskqueue.000003.dat is size 2+de; q.diskqueue.000003.dat.bad is old; q.diskqueue.000004.dat is above;
             q.diskqueue.000005.dat.bad is kept; q:c.diskqueue.000000.dat is another
-        fails:
-        steps: open => 2; look q.diskqueue.meta.dat is 2/1,0/4,0/; look q.diskqueue.000000.dat absent; look q.diskqueue.000003.dat absent;
+        fails: steps: open => 2; look q.diskqueue.meta.dat is 2/1,0/4,0/; look q.diskqueue.000000.dat absent; look q.diskqueue.000003.dat absent;
             look q.diskqueue.000003.dat.bad is size 2+de; look q.diskqueue.000004.dat.bad is above;
             look q.diskqueue.000005.dat.bad is kept; look q:c.diskqueue.000000.dat is another; look q.diskqueue.000004.dat empty;
             put f => stored, not due
@@ -67,39 +36,33 @@ static ROWS: [&'static str; 8] = [
     "a damaged read file
         queue: q short
         files: q.diskqueue.meta.dat is 9/1,5/2,5/; q.diskqueue.000001.dat is size 1+a+zeros 3; q.diskqueue.000002.dat is size 1+b+size 1+c
-        fails:
-        steps: open => 1
+        fails: steps: open => 1
         left: q.diskqueue.meta.dat is 1/1,0/2,5/; q.diskqueue.000001.dat.bad is size 1+a+zeros 3; q.diskqueue.000002.dat is size 1+b",
     "the last number
         queue: q short
         files: q.diskqueue.meta.dat is 9/0,0/1099511627776,4/; q.diskqueue.000000.dat is size 1+a;
             q.diskqueue.1099511627776.dat is size 1+b
-        fails:
-        steps: open => 1
+        fails: steps: open => 1
         left: q.diskqueue.meta.dat is 1/0,0/1099511627776,0/; q.diskqueue.1099511627776.dat.bad is size 1+b;
             q.diskqueue.1099511627776.dat empty",
     "without metadata
         queue: q short
         files: q.diskqueue.000000.dat is size 1+a; q.diskqueue.000007.dat is seven; q:c.diskqueue.000000.dat is another
-        fails:
-        steps: open => 0
+        fails: steps: open => 0
         left: q.diskqueue.meta.dat is 0/0,0/0,0/; q.diskqueue.000000.dat empty; q.diskqueue.000000.dat.bad is size 1+a;
             q.diskqueue.000007.dat.bad is seven; q.diskqueue.000007.dat absent; q:c.diskqueue.000000.dat is another",
     "an empty list begins at the start of its file
         queue: q short
         files: q.diskqueue.meta.dat is 4/3,5/3,5/; q.diskqueue.000003.dat is size 1+a+zeros 2
-        fails:
-        steps: open => 0
+        fails: steps: open => 0
         left: q.diskqueue.meta.dat is 0/3,0/3,0/; q.diskqueue.000003.dat empty; q.diskqueue.000003.dat.bad absent",
     "a great gap is passed over at once
         queue: q short
         files: q.diskqueue.meta.dat is 0/0,0/1099511627776,0/; q.diskqueue.000005.dat empty
-        fails:
-        steps: open => 0
+        fails: steps: open => 0
         left: q.diskqueue.meta.dat is 0/1099511627776,0/1099511627776,0/; q.diskqueue.000005.dat absent",
     "what was taken is not found
-        queue: q short
-        files: fails:
+        queue: q short files: fails:
         steps: put 40*a => stored, not due; put 40*b => stored, not due; put 40*c => stored, done; take 40*a => got 40, not due;
             take 40*b => got 40, not due; take 40*c => got 40, done; open => 0
         left: q.diskqueue.000000.dat absent; q.diskqueue.meta.dat is 0/1,0/1,0/",
@@ -132,7 +95,7 @@ fn opened(alloc: Global, folder: &mut MemFolder) -> Result<u128, Open> {
     match Queue::open(alloc, folder, "q", SHORT) {
         Ok(queue) => {
             let depth = queue.depth();
-            let_go(queue);
+            let_queue_go(queue);
             Ok(depth)
         }
         Err(why) => Err(why),
@@ -149,18 +112,15 @@ fn answers(rt: &impl Abort, alloc: Global, row: &str) -> bool {
     match answer {
         "good" => opened.is_ok(),
         "bad" => matches!(opened, Err(Open::BadMeta)),
-        _ => panic!(rt; "{} is no answer of an opening", answer),
+        _ => unknown(rt, answer),
     }
 }
 
-// The records of the good ones between the positions.
-static LEFT: [&[u8]; 2] = [b"a", b"bc"];
-
-// Whether the plain program finds these, whatever files are bad.
+// Whether the plain program finds the records of the good ones between the positions, whatever files are bad.
 fn finds_left(rt: &impl Abort, alloc: Global, folder: &MemFolder) -> bool {
     match found(rt, alloc, folder, 1) {
         Found::BadMeta => false,
-        Found::Records(listing) => are(&listing.bodies, &LEFT),
+        Found::Records(listing) => are(rt, alloc, &listing.bodies, "a; bc"),
     }
 }
 
@@ -176,12 +136,7 @@ fn is_found_again(rt: &impl Abort, alloc: Global, folder: &mut MemFolder) -> boo
 
 // The same of the damaged files, where the call with that number fails.
 fn opens_again(rt: &impl Abort, alloc: Global, failing: u64) -> bool {
-    let fails = [Failing {
-        call: FolderCall::Any,
-        from: failing,
-        to: failing.saturating_add(1),
-    }];
-    let mut folder = folder_of(rt, alloc, &DAMAGED_FILES, &fails);
+    let mut folder = folder_failing(rt, alloc, DAMAGED_FILES, failing);
     let right = is_found_again(rt, alloc, &mut folder);
     let_folder_go(folder);
     right

@@ -1,11 +1,11 @@
-//! The plain program's part: the files that it is given, and what it finds of the queue `q` in a folder in memory. It judges rows whose
-//! files aren't written out.
+//! The plain program's part: what it finds of the queue `q` in a folder in memory. It judges rows whose files aren't written out.
 
+use crate::folders::put_file;
 use crate::same;
-use crate::script::File;
-use nsq_base::{Bodies, Body};
+use crate::text::bytes_of;
+use nsq_base::Bodies;
 use nsq_fakes::MemFolder;
-use queue_plain::{Found, NamedFile, found_queue};
+use queue_plain::{Found, found_queue};
 use std::alloc::Global;
 use std::process::Abort;
 
@@ -24,36 +24,23 @@ pub fn found(rt: &impl Abort, alloc: Global, folder: &MemFolder, least: u32) -> 
     let mut files = Vec::new(alloc);
     for name in &FILES {
         if let Some(bytes) = folder.file(name) {
-            copy_file(rt, alloc, name, bytes, &mut files);
+            put_file(rt, alloc, &mut files, name, bytes);
         }
     }
     found_queue(alloc, files.as_slice(), "q", least, 60).expect(rt, "memory")
 }
 
-/// Whether these are the bodies, one by one.
-pub fn are(found: &Bodies, expected: &[&[u8]]) -> bool {
-    if found.count() != expected.len() {
-        return false;
-    }
+/// Whether these are the bodies that are told, one by one, with a `;` between them.
+pub fn are(rt: &impl Abort, alloc: Global, found: &Bodies, bodies: &str) -> bool {
+    let mut place = 0usize;
     let mut all = true;
-    for i in 0..expected.len() {
-        all = all && same(found.get(i).bytes(), expected[i]);
+    for body in bodies.split(';') {
+        let body = body.trim();
+        if !body.is_empty() {
+            let body = bytes_of(rt, alloc, body);
+            all = all && place < found.count() && same(found.get(place).bytes(), &body);
+            place = place.saturating_add(1);
+        }
     }
-    all
-}
-
-/// The files as the plain program takes them.
-pub fn copied(rt: &impl Abort, alloc: Global, files: &[File]) -> Vec<NamedFile> {
-    let mut all = Vec::new(alloc);
-    for file in files {
-        copy_file(rt, alloc, file.name, file.bytes, &mut all);
-    }
-    all
-}
-
-// Puts a copy of a file behind these.
-fn copy_file(rt: &impl Abort, alloc: Global, name: &str, bytes: &[u8], files: &mut Vec<NamedFile>) {
-    let name = Body::copy(alloc, name.as_bytes()).expect(rt, "memory");
-    let bytes = Body::copy(alloc, bytes).expect(rt, "memory");
-    files.push(NamedFile { name, bytes }).expect(rt, "memory");
+    all && place == found.count()
 }

@@ -1,8 +1,12 @@
 //! The words of rows that are texts.
 //!
-//! Bytes are told in pieces with a `+` between them: `40*a` is that letter 40 times, `size 40` that number in four bytes, highest first, and
-//! `zeros 3` so many bytes 0. Each other piece stands for itself, but for `/`, which is the end of a line.
+//! Bytes are told in pieces with a `+` between them: `40*a` is that letter 40 times, `size 40` that number in four bytes, highest first,
+//! `zeros 3` so many bytes 0, `blanks 3` so many blanks, and `byte 255` that one. Each other piece stands for itself, but for `/`, which is
+//! the end of a line.
 
+use crate::same;
+use backlog::{Depths, PutAll};
+use disk_queue::Sync;
 use nsq_fakes::{Failing, FolderCall};
 use std::alloc::Global;
 use std::process::Abort;
@@ -25,6 +29,11 @@ pub fn part<'a>(rt: &impl Abort, text: &'a str, mark: &str) -> (&'a str, &'a str
     text.split_once(mark).expect(rt, "a mark in a row")
 }
 
+/// Stops the test: nobody knows this word.
+pub fn unknown<T>(rt: &impl Abort, word: &str) -> T {
+    panic!(rt; "{} is no word of a row", word)
+}
+
 /// The number that a word says.
 pub fn number(rt: &impl Abort, word: &str) -> u64 {
     word.parse::<u64>().expect(rt, "a number in a row")
@@ -39,7 +48,7 @@ pub fn size(rt: &impl Abort, word: &str) -> u32 {
 pub fn letter(rt: &impl Abort, word: &str) -> u8 {
     match word.as_bytes() {
         [letter] => *letter,
-        _ => panic!(rt; "{} is no letter", word),
+        _ => unknown(rt, word),
     }
 }
 
@@ -48,8 +57,64 @@ pub fn is_done(rt: &impl Abort, answer: &str) -> bool {
     match answer {
         "done" => true,
         "failed" | "fault" => false,
-        _ => panic!(rt; "{} is not done or failed", answer),
+        _ => unknown(rt, answer),
     }
+}
+
+/// Whether what is drawn has the letter and the delay that are told, or is none where `none` is.
+pub fn is_drawn(rt: &impl Abort, drawn: Option<(u64, u64)>, told: &str) -> bool {
+    let (word, rest) = cut(told);
+    match drawn {
+        Some((letter, delay)) => match word.as_bytes() {
+            [told] => u64::from(*told) == letter && number(rt, rest) == delay,
+            _ => false,
+        },
+        None => same(told.as_bytes(), b"none"),
+    }
+}
+
+/// The answer of a save.
+pub fn sync_of(rt: &impl Abort, answer: &str) -> Sync {
+    match answer {
+        "not due" => Sync::NotDue,
+        "done" => Sync::Done,
+        "failed" => Sync::Failed,
+        _ => unknown(rt, answer),
+    }
+}
+
+/// So many messages in memory, and so many on disk.
+pub fn depths_of(rt: &impl Abort, numbers: &str) -> Depths {
+    let (ring, disk) = cut(numbers);
+    Depths {
+        ring: number(rt, ring),
+        disk: u128::from(number(rt, disk)),
+    }
+}
+
+/// What is answered where messages are put together, and how many are left.
+pub fn all_put_of(rt: &impl Abort, answer: &str) -> (PutAll, usize) {
+    let (answer, left) = part(rt, answer, ", ");
+    let left = match left.split_once(" left") {
+        Some((left, "")) => number(rt, left) as usize,
+        _ => unknown(rt, left),
+    };
+    match answer {
+        "done" => (PutAll::Done, left),
+        "fault" => (PutAll::Fault, left),
+        _ => unknown(rt, answer),
+    }
+}
+
+/// What stands in a row of steps: what it is about, how many messages find room in memory, the calls of the folder that fail, and the
+/// steps.
+pub fn script_of<'a>(rt: &impl Abort, row: &'a str) -> [&'a str; 4] {
+    let (_, rest) = part(rt, row, "\n");
+    let (_, rest) = part(rt, rest, ": ");
+    let (about, rest) = part(rt, rest, "memory:");
+    let (memory, rest) = part(rt, rest, "fails:");
+    let (fails, steps) = part(rt, rest, "steps:");
+    [about.trim(), memory.trim(), fails, steps]
 }
 
 /// The bytes that a text tells.
@@ -69,6 +134,13 @@ fn add_piece(rt: &impl Abort, bytes: &mut Vec<u8>, piece: &str) {
             bytes.extend_from_slice(&number).expect(rt, "memory");
         }
         "zeros" => add_run(rt, bytes, number(rt, count), 0),
+        "blanks" => add_run(rt, bytes, number(rt, count), b' '),
+        "byte" => add_run(
+            rt,
+            bytes,
+            1,
+            count.parse::<u8>().expect(rt, "a byte in a row"),
+        ),
         _ => add_text(rt, bytes, piece),
     }
 }
@@ -87,9 +159,8 @@ fn add_text(rt: &impl Abort, bytes: &mut Vec<u8>, piece: &str) {
 }
 
 fn add_run(rt: &impl Abort, bytes: &mut Vec<u8>, times: u64, byte: u8) {
-    for _ in 0..times {
-        bytes.push(byte).expect(rt, "memory");
-    }
+    let end = bytes.len().saturating_add(times as usize);
+    bytes.resize(end, byte).expect(rt, "memory");
 }
 
 /// The method of the folder that a word names.
@@ -104,7 +175,7 @@ pub fn call_of(rt: &impl Abort, word: &str) -> FolderCall {
         "SyncNames" => FolderCall::SyncNames,
         "Rename" => FolderCall::Rename,
         "Remove" => FolderCall::Remove,
-        _ => panic!(rt; "{} is no call of a folder", word),
+        _ => unknown(rt, word),
     }
 }
 

@@ -1,7 +1,6 @@
 //! Rows of a topic's queue: worked examples of its calls, and random calls beside a plain list. It has nothing but tests.
 
 mod bench;
-mod calls;
 mod plain;
 mod random;
 mod script;

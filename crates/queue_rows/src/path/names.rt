@@ -1,229 +1,89 @@
 //! Texts of a file of names, and what each keeps.
+//!
+//! A row is a line: its name, a text, and behind `=>` what it keeps: its epoch, and with a `;` before each the topics and behind each its
+//! channels, which may be `paused`; or that it is `bad`.
 
+use crate::text::{bytes_of, part};
 use crate::{check, same};
-use path_plain::{KeptChannel, KeptTopic, read_names};
+use itoa::Buffer;
+use path_plain::{KeptNames, KeptTopic, read_names};
 use std::alloc::Global;
 use std::process::Abort;
 
-/// A topic: its name, whether it is paused, and the name and the pause of each channel.
-struct Listed {
-    name: &'static [u8],
-    paused: bool,
-    channels: &'static [(&'static [u8], bool)],
-}
-
-/// What a text keeps.
-struct Kept {
-    epoch: u32,
-    topics: &'static [Listed],
-}
-
-/// A text, and what it keeps; None where it is bad.
-struct Row {
-    name: &'static str,
-    text: &'static [u8],
-    kept: Option<Kept>,
-}
-
-static ROWS_1: [Row; 15] = [
-    Row {
-        name: "a topic, as it is written",
-        text: br#"{"id_epoch":1,"topics":[{"channels":[],"name":"t","paused":false}],"version":"1.0.0"}"#,
-        kept: Some(Kept {
-            epoch: 1,
-            topics: &[Listed {
-                name: b"t",
-                paused: false,
-                channels: &[],
-            }],
-        }),
-    },
-    Row {
-        name: "no topic, as it is written",
-        text: br#"{"id_epoch":1,"topics":[],"version":"1.0.0"}"#,
-        kept: Some(Kept {
-            epoch: 1,
-            topics: &[],
-        }),
-    },
-    Row {
-        name: "no member",
-        text: b"{}",
-        kept: Some(Kept {
-            epoch: 0,
-            topics: &[],
-        }),
-    },
-    Row {
-        name: "members that are null",
-        text: br#"{"id_epoch":null,"topics":null}"#,
-        kept: Some(Kept {
-            epoch: 0,
-            topics: &[],
-        }),
-    },
-    Row {
-        name: "the greatest epoch",
-        text: br#"{"id_epoch":16777215}"#,
-        kept: Some(Kept {
-            epoch: 16_777_215,
-            topics: &[],
-        }),
-    },
-    Row {
-        name: "an epoch above the greatest",
-        text: br#"{"id_epoch":16777216}"#,
-        kept: None,
-    },
-    Row {
-        name: "an epoch below 0",
-        text: br#"{"id_epoch":-1}"#,
-        kept: None,
-    },
-    Row {
-        name: "an epoch that isn't whole",
-        text: br#"{"id_epoch":1.5}"#,
-        kept: None,
-    },
-    Row {
-        name: "an epoch that is a text",
-        text: br#"{"id_epoch":"1"}"#,
-        kept: None,
-    },
-    Row {
-        name: "an array",
-        text: b"[]",
-        kept: None,
-    },
-    Row {
-        name: "a text that breaks off",
-        text: b"{",
-        kept: None,
-    },
-    Row {
-        name: "bytes that aren't UTF-8",
-        text: b"{\"a\":\"\xff\"}",
-        kept: None,
-    },
-    Row {
-        name: "topics that are no list",
-        text: br#"{"topics":1}"#,
-        kept: None,
-    },
-    Row {
-        name: "a topic that is no object",
-        text: br#"{"topics":["t"]}"#,
-        kept: None,
-    },
-    Row {
-        name: "a topic without a name",
-        text: br#"{"topics":[{"paused":true}]}"#,
-        kept: None,
-    },
+static ROWS: [&'static str; 20] = [
+    r#"a topic, as it is written: {"id_epoch":1,"topics":[{"channels":[],"name":"t","paused":false}],"version":"1.0.0"} => epoch 1; topic t"#,
+    r#"no topic, as it is written: {"id_epoch":1,"topics":[],"version":"1.0.0"} => epoch 1"#,
+    "no member: {} => epoch 0",
+    r#"members that are null: {"id_epoch":null,"topics":null} => epoch 0"#,
+    r#"the greatest epoch: {"id_epoch":16777215} => epoch 16777215"#,
+    r#"an epoch above the greatest: {"id_epoch":16777216} => bad"#,
+    r#"an epoch below 0: {"id_epoch":-1} => bad"#,
+    r#"an epoch that isn't whole: {"id_epoch":1.5} => bad"#,
+    r#"an epoch that is a text: {"id_epoch":"1"} => bad"#,
+    "an array: [] => bad",
+    "a text that breaks off: { => bad",
+    r#"bytes that aren't UTF-8: {"a":"+byte 255+"} => bad"#,
+    r#"topics that are no list: {"topics":1} => bad"#,
+    r#"a topic that is no object: {"topics":["t"]} => bad"#,
+    r#"a topic without a name: {"topics":[{"paused":true}]} => bad"#,
+    r#"a name against the grammar: {"topics":[{"name":"a b"}]} => bad"#,
+    r#"a pause that is a number: {"topics":[{"name":"t","paused":1}]} => bad"#,
+    r#"a topic twice: {"topics":[{"name":"t"},{"name":"t"}]} => bad"#,
+    r#"a channel twice: {"topics":[{"name":"t","channels":[{"name":"c"},{"name":"c"}]}]} => bad"#,
+    r#"topics and channels out of order, an ephemeral topic, an unknown member: {"topics":[{"name":"u","x":[1]},{"name":"e#ephemeral"},{"name":"t","paused":true,"channels":[{"name":"d","paused":null},{"name":"c","paused":true}]}]} => epoch 0; topic t paused; channel c paused; channel d; topic u"#,
 ];
 
-static ROWS_2: [Row; 5] = [
-    Row {
-        name: "a name against the grammar",
-        text: br#"{"topics":[{"name":"a b"}]}"#,
-        kept: None,
-    },
-    Row {
-        name: "a pause that is a number",
-        text: br#"{"topics":[{"name":"t","paused":1}]}"#,
-        kept: None,
-    },
-    Row {
-        name: "a topic twice",
-        text: br#"{"topics":[{"name":"t"},{"name":"t"}]}"#,
-        kept: None,
-    },
-    Row {
-        name: "a channel twice",
-        text: br#"{"topics":[{"name":"t","channels":[{"name":"c"},{"name":"c"}]}]}"#,
-        kept: None,
-    },
-    Row {
-        name: "topics and channels out of order, an ephemeral topic, an unknown member",
-        text: br#"{"topics":[{"name":"u","x":[1]},{"name":"e#ephemeral"},{"name":"t","paused":true,"channels":[{"name":"d","paused":null},{"name":"c","paused":true}]}]}"#,
-        kept: Some(Kept {
-            epoch: 0,
-            topics: &[
-                Listed {
-                    name: b"t",
-                    paused: true,
-                    channels: &[(b"c", true), (b"d", false)],
-                },
-                Listed {
-                    name: b"u",
-                    paused: false,
-                    channels: &[],
-                },
-            ],
-        }),
-    },
-];
-
-fn rows_1() -> &'static [Row] {
-    &ROWS_1
+/// Puts a word behind what is told.
+pub fn add(rt: &impl Abort, told: &mut Vec<u8>, word: &str) {
+    told.extend_from_slice(word.as_bytes()).expect(rt, "memory");
 }
 
-fn rows_2() -> &'static [Row] {
-    &ROWS_2
+/// Puts an epoch behind what is told.
+pub fn add_epoch(rt: &impl Abort, told: &mut Vec<u8>, epoch: u32) {
+    let mut digits = Buffer::new();
+    add(rt, told, "epoch ");
+    add(rt, told, digits.format(epoch));
 }
 
-/// Whether it is this channel.
-fn is_channel(kept: &KeptChannel, channel: (&[u8], bool)) -> bool {
-    same(kept.name.bytes(), channel.0) && kept.paused == channel.1
-}
-
-/// Whether these channels are kept.
-fn keeps_channels(kept: &[KeptChannel], channels: &[(&[u8], bool)]) -> bool {
-    if kept.len() != channels.len() {
-        return false;
+/// Puts a topic or a channel behind what is told.
+pub fn add_name(rt: &impl Abort, told: &mut Vec<u8>, word: &str, name: &[u8], paused: bool) {
+    add(rt, told, word);
+    told.extend_from_slice(name).expect(rt, "memory");
+    if paused {
+        add(rt, told, " paused");
     }
-    let mut all = true;
-    for i in 0..channels.len() {
-        all = all && is_channel(&kept[i], channels[i]);
-    }
-    all
 }
 
-/// Whether it is this topic.
-fn is_listed(kept: &KeptTopic, topic: &Listed) -> bool {
-    same(kept.name.bytes(), topic.name)
-        && kept.paused == topic.paused
-        && keeps_channels(&kept.channels, topic.channels)
+fn add_topic(rt: &impl Abort, told: &mut Vec<u8>, topic: &KeptTopic) {
+    add_name(rt, told, "; topic ", topic.name.bytes(), topic.paused);
+    for channel in &topic.channels {
+        add_name(rt, told, "; channel ", channel.name.bytes(), channel.paused);
+    }
 }
 
-/// Whether these topics are kept.
-fn keeps_topics(kept: &[KeptTopic], topics: &[Listed]) -> bool {
-    if kept.len() != topics.len() {
-        return false;
+// Whether these names are what is told.
+fn are_told(rt: &impl Abort, alloc: Global, names: &KeptNames, wanted: &str) -> bool {
+    let mut told = Vec::new(alloc);
+    add_epoch(rt, &mut told, names.epoch);
+    for topic in &names.topics {
+        add_topic(rt, &mut told, topic);
     }
-    let mut all = true;
-    for i in 0..topics.len() {
-        all = all && is_listed(&kept[i], &topics[i]);
-    }
-    all
+    same(&told, wanted.as_bytes())
 }
 
-/// Whether the text keeps what the row says.
-fn holds(rt: &impl Abort, alloc: Global, row: &Row) -> bool {
-    match read_names(alloc, row.text).expect(rt, "memory") {
-        Some(read) => match &row.kept {
-            Some(kept) => read.epoch == kept.epoch && keeps_topics(&read.topics, kept.topics),
-            None => false,
-        },
-        None => row.kept.is_none(),
+// Whether the text keeps what the row says.
+fn holds(rt: &impl Abort, alloc: Global, row: &str) -> bool {
+    let (_, rest) = part(rt, row, ": ");
+    let (text, wanted) = part(rt, rest, " => ");
+    match read_names(alloc, &bytes_of(rt, alloc, text)).expect(rt, "memory") {
+        Some(read) => are_told(rt, alloc, &read, wanted),
+        None => same(wanted.as_bytes(), b"bad"),
     }
 }
 
 #[test]
 fn rows(rt: HostRuntime) {
-    for part in &[rows_1(), rows_2()] {
-        for row in *part {
-            check(&rt, holds(&rt, rt.alloc(), row), row.name);
-        }
+    for row in &ROWS {
+        check(&rt, holds(&rt, rt.alloc(), row), row);
     }
 }

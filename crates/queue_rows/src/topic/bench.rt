@@ -4,7 +4,9 @@ ghost use Rattle.std.specs.Prelude.{◌≡◌, All, length, IfOk};
 ghost use Rattle.backlog.specs.Seen.{FitsLimit};
 ghost use Rattle.topic_core.specs.Seen.{IsSettled};
 
+use crate::room::Room;
 use crate::same;
+use crate::text::unknown;
 use backlog::{Depths, Flushed, PutAll};
 use disk_queue::{Emptied, Open, Sync};
 use nsq_base::{Body, Chan, Memory, MsgId, Options, Topic};
@@ -13,21 +15,6 @@ use std::alloc::Global;
 use std::process::Abort;
 use topic_core::{DropTopic, Head, TopicQueue};
 use v2_frame::Message;
-
-/// Room for the longest message.
-#[derive(Drop)]
-pub struct Scratch {
-    bytes: Vec<u8>,
-    ghost whole: { length bytes.items ≡ 16777242 },
-}
-
-impl Scratch {
-    pub fn new(alloc: Global) -> Result<Scratch, Memory> {
-        Ok(Scratch {
-            bytes: vec![in alloc; 0; 16_777_242]?,
-        })
-    }
-}
 
 /// A topic's queue and its folder. No message is drawn.
 #[derive(Drop)]
@@ -70,13 +57,13 @@ impl Bench {
     pub fn put(
         &mut self,
         alloc: Global,
-        scratch: &mut Scratch,
+        room: &mut Room,
         numbers: &[u64],
     ) -> Result<(PutAll, usize), Memory> {
         let mut messages = messages_of(alloc, numbers)?;
         let answer = self
             .topic
-            .put_all(&mut self.folder, &mut scratch.bytes, &mut messages);
+            .put_all(&mut self.folder, &mut room.bytes, &mut messages);
         Ok((answer, messages.len()))
     }
 
@@ -84,7 +71,7 @@ impl Bench {
     pub fn take(
         &mut self,
         alloc: Global,
-        scratch: &mut Scratch,
+        room: &mut Room,
         letters: &[u8],
         keeps: bool,
     ) -> Result<Option<Head>, Memory> {
@@ -94,7 +81,7 @@ impl Bench {
         }
         let answer = self
             .topic
-            .take_head(&mut self.folder, &mut scratch.bytes, &channels);
+            .take_head(&mut self.folder, &mut room.bytes, &channels);
         match answer {
             Head::Ready if keeps => self.topic.settle_head(&mut self.folder),
             Head::Ready => self.topic.undo_head(),
@@ -132,8 +119,8 @@ impl Bench {
         self.topic.sync(&mut self.folder)
     }
 
-    pub fn flush(&mut self, scratch: &mut Scratch) -> Flushed {
-        self.topic.flush(&mut self.folder, &mut scratch.bytes)
+    pub fn flush(&mut self, room: &mut Room) -> Flushed {
+        self.topic.flush(&mut self.folder, &mut room.bytes)
     }
 
     /// Opens a topic of that name in the folder, in place of this one.
@@ -202,7 +189,7 @@ pub fn bench_of(
 ) -> Bench {
     match Topic::read(topic) {
         Some(name) => Bench::new(alloc, name, memory, fails).expect(rt, "memory"),
-        None => panic!(rt; "a topic's name"),
+        None => unknown(rt, "a topic's name"),
     }
 }
 

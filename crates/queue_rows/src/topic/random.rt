@@ -1,69 +1,32 @@
 //! Random calls of a topic's queue, beside the plain list: after each call what it answers and what it shows is what the list says.
+//!
+//! A row is a line: its name, a topic, how many messages it keeps in memory, the seed of its random numbers, and the calls of the folder that
+//! fail, each from a number on and below another.
 
 ghost use Rattle.std.specs.Prelude.{◌≤◌};
 
-use crate::topic::bench::{Bench, Scratch, bench_of};
+use crate::check;
+use crate::room::Room;
+use crate::text::{cut, fails_of, number, part};
+use crate::topic::bench::{Bench, bench_of};
 use crate::topic::plain::Plain;
 use backlog::{Flushed, PutAll};
 use disk_queue::{Emptied, Open};
-use nsq_fakes::{Failing, FolderCall};
 use std::alloc::Global;
 use std::process::Abort;
 use topic_core::Head;
 
-// A run of random calls.
-struct Run {
-    name: &'static str,
-    topic: &'static [u8],
-    memory: u64,
-    seed: u64,
-    // The calls of the folder that fail.
-    fails: &'static [Failing],
-}
-
 const CALLS: usize = 500;
 
-static RUNS: [Run; 4] = [
-    Run {
-        name: "durable",
-        topic: b"t",
-        memory: 3,
-        seed: 1,
-        fails: &[],
-    },
-    Run {
-        name: "durable, with a disk that fails",
-        topic: b"t",
-        memory: 2,
-        seed: 2,
-        fails: &[
-            Failing {
-                call: FolderCall::WriteAt,
-                from: 20,
-                to: 60,
-            },
-            Failing {
-                call: FolderCall::ReadAt,
-                from: 30,
-                to: 50,
-            },
-        ],
-    },
-    Run {
-        name: "durable, without memory",
-        topic: b"t",
-        memory: 0,
-        seed: 3,
-        fails: &[],
-    },
-    Run {
-        name: "ephemeral",
-        topic: b"t#ephemeral",
-        memory: 3,
-        seed: 4,
-        fails: &[],
-    },
+static RUNS: [&'static str; 4] = [
+    "durable: t 3 1",
+    "durable, with a disk that fails: t 2 2 WriteAt 20 60; ReadAt 30 50",
+    "durable, without memory: t 0 3",
+    "ephemeral: t#ephemeral 3 4",
 ];
+
+// The channels, one by one and together.
+static LETTERS: [&[u8]; 7] = [b"a", b"b", b"c", b"ab", b"ac", b"bc", b"abc"];
 
 // A topic's queue in a folder, and the plain list beside it.
 #[derive(Drop)]
@@ -88,25 +51,21 @@ fn below(state: &mut u64, bound: u64) -> u64
     (*state >> 33) % bound
 }
 
-// One of the channels.
-fn letter(state: &mut u64) -> u8 {
-    match below(state, 3) {
-        0 => b'a',
-        1 => b'b',
-        _ => b'c',
+// Some of the channels, at least one, of the first so many choices.
+fn letters(state: &mut u64, choices: u64) -> &'static [u8]
+    requires { 1 ≤ choices }
+{
+    match LETTERS.get(below(state, choices) as usize) {
+        Some(letters) => letters,
+        None => b"",
     }
 }
 
-// Some of the channels, at least one.
-fn letters(state: &mut u64) -> &'static [u8] {
-    match below(state, 7) {
-        0 => b"a",
-        1 => b"b",
-        2 => b"c",
-        3 => b"ab",
-        4 => b"ac",
-        5 => b"bc",
-        _ => b"abc",
+// One of the channels.
+fn letter(state: &mut u64) -> u8 {
+    match letters(state, 3) {
+        [letter] => *letter,
+        _ => 0,
     }
 }
 
@@ -122,28 +81,24 @@ fn numbers(rt: &impl Abort, alloc: Global, count: u64, next: &mut u64) -> Vec<u6
 
 impl Pair {
     // One random call. Whether it answers what the list says, and shows that afterwards.
-    fn step(&mut self, rt: &impl Abort, alloc: Global, scratch: &mut Scratch) -> bool {
+    fn step(&mut self, rt: &impl Abort, alloc: Global, room: &mut Room) -> bool {
         let right = match below(&mut self.state, 32) {
-            0..=11 => self.put(rt, alloc, scratch),
-            12..=17 => self.take(rt, alloc, scratch),
-            18..=19 => self.undo(rt, alloc, scratch),
+            0..=11 => self.put(rt, alloc, room),
+            12..=17 => self.take(rt, alloc, room, true),
+            18..=19 => self.take(rt, alloc, room, false),
             20..=27 => self.pay(),
             28..=29 => self.forget(),
             30 => self.empty(),
-            _ => self.restart(rt, alloc, scratch),
+            _ => self.restart(rt, alloc, room),
         };
         right && self.agrees()
     }
 
     // Up to three messages are put.
-    fn put(&mut self, rt: &impl Abort, alloc: Global, scratch: &mut Scratch) -> bool {
+    fn put(&mut self, rt: &impl Abort, alloc: Global, room: &mut Room) -> bool {
         let count = below(&mut self.state, 4);
         let numbers = numbers(rt, alloc, count, &mut self.next);
-        match self
-            .bench
-            .put(alloc, scratch, &numbers)
-            .expect(rt, "memory")
-        {
+        match self.bench.put(alloc, room, &numbers).expect(rt, "memory") {
             (PutAll::Done, left) => {
                 self.plain.put_all(rt, &numbers);
                 left == 0
@@ -152,13 +107,21 @@ impl Pair {
         }
     }
 
-    // A message is taken, where none is.
-    fn take(&mut self, rt: &impl Abort, alloc: Global, scratch: &mut Scratch) -> bool {
-        let letters = letters(&mut self.state);
-        let answer = self.bench.take(alloc, scratch, letters, true);
-        match answer.expect(rt, "memory") {
-            Some(Head::Ready) => self.took(rt, letters),
-            other => self.draws(other),
+    // A message is drawn, where none is taken, and taken or put back. Whether that is as the list says: none is drawn where one is taken.
+    fn take(&mut self, rt: &impl Abort, alloc: Global, room: &mut Room, keeps: bool) -> bool {
+        let letters = letters(&mut self.state, 7);
+        let waits = !self.plain.waiting.is_empty();
+        match self
+            .bench
+            .take(alloc, room, letters, keeps)
+            .expect(rt, "memory")
+        {
+            None => self.plain.taken.is_some(),
+            Some(Head::Ready) if keeps => self.took(rt, letters),
+            Some(Head::Ready) => waits,
+            Some(Head::Empty) => !waits,
+            Some(Head::Fault) => self.fails && waits,
+            Some(Head::Damaged | Head::Memory) => false,
         }
     }
 
@@ -171,32 +134,11 @@ impl Pair {
         self.plain.draw(number, delay)
     }
 
-    // A message is drawn, where none is taken, and put back.
-    fn undo(&mut self, rt: &impl Abort, alloc: Global, scratch: &mut Scratch) -> bool {
-        let letters = letters(&mut self.state);
-        let answer = self.bench.take(alloc, scratch, letters, false);
-        self.draws(answer.expect(rt, "memory"))
-    }
-
-    // Whether a message that isn't kept is drawn as the list says: none is where one is taken.
-    fn draws(&self, answer: Option<Head>) -> bool {
-        let waits = !self.plain.waiting.is_empty();
-        match answer {
-            None => self.plain.taken.is_some(),
-            Some(Head::Ready) => waits,
-            Some(Head::Empty) => !waits,
-            Some(Head::Fault) => self.fails && waits,
-            Some(Head::Damaged | Head::Memory) => false,
-        }
-    }
-
     // A channel is paid, where it is owed a copy.
     fn pay(&mut self) -> bool {
         let letter = letter(&mut self.state);
         let owed = self.plain.owed.contains(&letter);
-        if owed {
-            self.plain.pay(letter);
-        }
+        self.plain.pay(letter);
         self.bench.pay(letter) == owed
     }
 
@@ -218,14 +160,13 @@ impl Pair {
     }
 
     // A durable topic is flushed and opened again. Where that fails it is tried again.
-    fn restart(&mut self, rt: &impl Abort, alloc: Global, scratch: &mut Scratch) -> bool {
+    fn restart(&mut self, rt: &impl Abort, alloc: Global, room: &mut Room) -> bool {
         if self.bench.topic.name().ephemeral() {
             return true;
         }
         for _ in 0..100 {
-            match self.bench.flush(scratch) {
-                Flushed::Done => return self.reopen(rt, alloc),
-                Flushed::Fault => {}
+            if self.bench.flush(room) == Flushed::Done {
+                return self.reopen(rt, alloc);
             }
         }
         false
@@ -257,43 +198,47 @@ impl Pair {
 }
 
 // The pair that a run begins with.
-fn pair_of(rt: &impl Abort, alloc: Global, run: &Run) -> Pair {
-    let bench = bench_of(rt, alloc, run.topic, run.memory, run.fails);
+fn pair_of(rt: &impl Abort, alloc: Global, run: &str) -> Pair {
+    let (_, run) = part(rt, run, ": ");
+    let (topic, run) = cut(run);
+    let (memory, run) = cut(run);
+    let (seed, fails) = cut(run);
+    let fails = fails_of(rt, alloc, fails);
+    let memory = number(rt, memory);
+    let bench = bench_of(rt, alloc, topic.as_bytes(), memory, &fails);
     let ephemeral = bench.topic.name().ephemeral();
     Pair {
         bench,
-        plain: Plain::new(alloc, ephemeral, run.memory as usize),
-        fails: !run.fails.is_empty(),
+        plain: Plain::new(alloc, ephemeral, memory as usize),
+        fails: !fails.is_empty(),
         next: 0,
-        state: run.seed,
+        state: number(rt, seed),
     }
 }
 
 fn let_go(_pair: Pair) {}
 
 // Whether all random calls of a run answer and show what the list says.
-fn holds(rt: &impl Abort, alloc: Global, scratch: &mut Scratch, run: &Run) -> bool {
+fn holds(rt: &impl Abort, alloc: Global, room: &mut Room, run: &str) -> bool {
     let mut pair = pair_of(rt, alloc, run);
-    let right = all_are_right(rt, alloc, scratch, &mut pair);
+    let right = all_are_right(rt, alloc, room, &mut pair);
     let_go(pair);
     right
 }
 
-fn all_are_right(rt: &impl Abort, alloc: Global, scratch: &mut Scratch, pair: &mut Pair) -> bool {
+fn all_are_right(rt: &impl Abort, alloc: Global, room: &mut Room, pair: &mut Pair) -> bool {
     for _ in 0..CALLS {
-        if !pair.step(rt, alloc, scratch) {
+        if !pair.step(rt, alloc, room) {
             return false;
         }
     }
     true
 }
 
-/// The name of the first run that doesn't hold.
-pub fn wrong(rt: &impl Abort, alloc: Global, scratch: &mut Scratch) -> Option<&'static str> {
+#[test]
+fn runs(rt: HostRuntime) {
+    let mut room = Room::new(rt.alloc()).expect(&rt, "memory");
     for run in &RUNS {
-        if !holds(rt, alloc, scratch, run) {
-            return Some(run.name);
-        }
+        check(&rt, holds(&rt, rt.alloc(), &mut room, run), run);
     }
-    None
 }

@@ -3,8 +3,10 @@
 //! Each call that may want memory is looked at and made once more, and so is each that the folder in memory refuses, which wants some to
 //! keep its calls. So the rows hold too where one allocation fails, whichever it is: `rt try --test --fail-alloc N`.
 
-use crate::same;
-use crate::topic::bench::{Bench, Scratch, let_go};
+use crate::room::Room;
+use crate::text::{cut, depths_of, number, part};
+use crate::topic::bench::{Bench, let_go};
+use crate::{check, same};
 use backlog::{Depths, Flushed, PutAll};
 use disk_queue::Open;
 use nsq_base::{Memory, Topic};
@@ -13,71 +15,36 @@ use std::alloc::Global;
 use std::process::Abort;
 use topic_core::Head;
 
-// A topic in an empty folder, into which messages of these numbers are put, of which the first is taken.
-struct Row {
-    name: &'static str,
-    topic: &'static [u8],
-    numbers: &'static [u64],
-    // How many messages find room in memory.
-    memory: u64,
-    // Where the two wait.
-    waits: Depths,
-    // How many are on disk after a stop.
-    left: u128,
-}
-
-static ROWS: [Row; 3] = [
-    Row {
-        name: "messages in memory",
-        topic: b"t",
-        numbers: &[1, 2],
-        memory: 2,
-        waits: Depths { ring: 2, disk: 0 },
-        left: 2,
-    },
-    Row {
-        name: "messages on disk",
-        topic: b"t",
-        numbers: &[1, 2],
-        memory: 0,
-        waits: Depths { ring: 0, disk: 2 },
-        left: 2,
-    },
-    Row {
-        name: "messages of an ephemeral topic",
-        topic: b"t#ephemeral",
-        numbers: &[1, 2],
-        memory: 2,
-        waits: Depths { ring: 2, disk: 0 },
-        left: 0,
-    },
+// A topic, for how many messages it has room in memory, how many of two wait there and how many on disk, and how many are on disk after a stop.
+static ROWS: [&'static str; 3] = [
+    "messages in memory: t 2 => 2 0, 2",
+    "messages on disk: t 0 => 0 2, 2",
+    "messages of an ephemeral topic: t#ephemeral 2 => 2 0, 0",
 ];
+
+// The numbers of the messages that are put, of which the first is taken.
+const NUMBERS: [u64; 2] = [1, 2];
 
 // More messages than any memory has room for.
 const BEYOND: u64 = 1 << 57;
 
 // Whether the messages are put. Where that fails they are all left, and all is as before.
-fn puts(
-    alloc: Global,
-    bench: &mut Bench,
-    scratch: &mut Scratch,
-    numbers: &[u64],
-) -> Result<bool, Memory> {
+fn puts(alloc: Global, bench: &mut Bench, room: &mut Room) -> Result<bool, Memory> {
     let before = bench.shows();
-    let (answer, left) = bench.put(alloc, scratch, numbers)?;
+    let (answer, left) = bench.put(alloc, room, &NUMBERS)?;
     if answer == PutAll::Done {
         return Ok(left == 0);
     }
-    if left != numbers.len() || bench.shows() != before {
+    if left != NUMBERS.len() || bench.shows() != before {
         return Ok(false);
     }
-    Ok(bench.put(alloc, scratch, numbers)? == (PutAll::Done, 0))
+    Ok(bench.put(alloc, room, &NUMBERS)? == (PutAll::Done, 0))
 }
 
 // Whether the first message is taken. Where that fails all is as before.
-fn takes(alloc: Global, bench: &mut Bench, scratch: &mut Scratch) -> Result<bool, Memory> {
+fn takes(alloc: Global, bench: &mut Bench, room: &mut Room) -> Result<bool, Memory> {
     let before = bench.shows();
-    match bench.take(alloc, scratch, b"ab", true)? {
+    match bench.take(alloc, room, b"ab", true)? {
         Some(Head::Ready) => return Ok(true),
         Some(Head::Memory | Head::Fault) => {}
         Some(Head::Empty | Head::Damaged) | None => return Ok(false),
@@ -85,15 +52,12 @@ fn takes(alloc: Global, bench: &mut Bench, scratch: &mut Scratch) -> Result<bool
     if bench.shows() != before {
         return Ok(false);
     }
-    Ok(bench.take(alloc, scratch, b"ab", true)? == Some(Head::Ready))
+    Ok(bench.take(alloc, room, b"ab", true)? == Some(Head::Ready))
 }
 
 // Whether all is written.
-fn flushes(bench: &mut Bench, scratch: &mut Scratch) -> bool {
-    match bench.flush(scratch) {
-        Flushed::Done => true,
-        Flushed::Fault => bench.flush(scratch) == Flushed::Done,
-    }
+fn flushes(bench: &mut Bench, room: &mut Room) -> bool {
+    bench.flush(room) == Flushed::Done || bench.flush(room) == Flushed::Done
 }
 
 // The bytes of the files of the topic `t`.
@@ -142,10 +106,10 @@ fn is_refused(alloc: Global, bench: &mut Bench) -> Result<bool, Memory> {
 }
 
 // Whether an opening finds so many messages. Where memory was wanting the files are as they were.
-fn reopens(alloc: Global, bench: &mut Bench, left: u128) -> Result<bool, Memory> {
+fn reopens(alloc: Global, bench: &mut Bench, left: Depths) -> Result<bool, Memory> {
     let before = image(alloc, &bench.folder)?;
     match bench.open(alloc) {
-        Ok(()) => return Ok(has_on_disk(bench, left)),
+        Ok(()) => return Ok(bench.topic.depths() == left),
         Err(Open::Memory) => {
             if !is_image(alloc, &bench.folder, &before)? {
                 return Ok(false);
@@ -154,25 +118,38 @@ fn reopens(alloc: Global, bench: &mut Bench, left: u128) -> Result<bool, Memory>
         Err(Open::Fault) => {}
         Err(Open::BadMeta) => return Ok(false),
     }
-    Ok(bench.open(alloc).is_ok() && has_on_disk(bench, left))
+    Ok(bench.open(alloc).is_ok() && bench.topic.depths() == left)
 }
 
-// Whether so many messages wait, all of them on disk.
-fn has_on_disk(bench: &Bench, left: u128) -> bool {
-    bench.topic.depths()
-        == Depths {
+// What a row says.
+#[derive(Clone, Copy)]
+struct Want {
+    topic: Topic,
+    memory: u64,
+    waits: Depths,
+    left: Depths,
+}
+
+fn want_of(rt: &impl Abort, row: &str) -> Want {
+    let (_, rest) = part(rt, row, ": ");
+    let (topic, rest) = part(rt, rest, " => ");
+    let (topic, memory) = cut(topic);
+    let (waits, left) = part(rt, rest, ", ");
+    Want {
+        topic: Topic::read(topic.as_bytes()).expect(rt, "a topic's name"),
+        memory: number(rt, memory),
+        waits: depths_of(rt, waits),
+        left: Depths {
             ring: 0,
-            disk: left,
-        }
+            disk: u128::from(number(rt, left)),
+        },
+    }
 }
 
 // Whether each call of this row's topic succeeds, at once or where it is made once more.
-fn holds(alloc: Global, scratch: &mut Scratch, row: &Row) -> Result<bool, Memory> {
-    let Some(name) = Topic::read(row.topic) else {
-        return Ok(false);
-    };
-    let mut bench = Bench::new(alloc, name, row.memory, &[])?;
-    let succeed = all_succeed(alloc, &mut bench, scratch, row);
+fn holds(alloc: Global, room: &mut Room, want: &Want) -> Result<bool, Memory> {
+    let mut bench = Bench::new(alloc, want.topic, want.memory, &[])?;
+    let succeed = all_succeed(alloc, &mut bench, room, want);
     let_go(bench);
     succeed
 }
@@ -180,43 +157,39 @@ fn holds(alloc: Global, scratch: &mut Scratch, row: &Row) -> Result<bool, Memory
 fn all_succeed(
     alloc: Global,
     bench: &mut Bench,
-    scratch: &mut Scratch,
-    row: &Row,
+    room: &mut Room,
+    want: &Want,
 ) -> Result<bool, Memory> {
-    if !puts(alloc, bench, scratch, row.numbers)? || bench.topic.depths() != row.waits {
+    if !puts(alloc, bench, room)? || bench.topic.depths() != want.waits {
         return Ok(false);
     }
-    if !takes(alloc, bench, scratch)? || !flushes(bench, scratch) {
+    if !takes(alloc, bench, room)? || !flushes(bench, room) {
         return Ok(false);
     }
-    Ok(is_refused(alloc, bench)? && reopens(alloc, bench, row.left)?)
+    Ok(is_refused(alloc, bench)? && reopens(alloc, bench, want.left)?)
 }
 
-// The name of the first row that doesn't hold. One that ends for want of memory begins once more.
-fn wrong(rt: &impl Abort, alloc: Global, scratch: &mut Scratch) -> Option<&'static str> {
-    for row in &ROWS {
-        let holds = match holds(alloc, scratch, row) {
-            Ok(holds) => holds,
-            Err(Memory) => holds(alloc, scratch, row).expect(rt, "memory"),
-        };
-        if !holds {
-            return Some(row.name);
-        }
+// Whether a row holds. One that ends for want of memory begins once more.
+fn holds_again(rt: &impl Abort, alloc: Global, room: &mut Room, row: &str) -> bool {
+    let want = want_of(rt, row);
+    match holds(alloc, room, &want) {
+        Ok(holds) => holds,
+        Err(Memory) => holds(alloc, room, &want).expect(rt, "memory"),
     }
-    None
 }
 
 // Room for the longest message. Where memory was wanting it is made once more.
-fn room(rt: &impl Abort, alloc: Global) -> Scratch {
-    match Scratch::new(alloc) {
-        Ok(scratch) => scratch,
-        Err(Memory) => Scratch::new(alloc).expect(rt, "memory"),
+fn room_of(rt: &impl Abort, alloc: Global) -> Room {
+    match Room::new(alloc) {
+        Ok(room) => room,
+        Err(Memory) => Room::new(alloc).expect(rt, "memory"),
     }
 }
 
 #[test]
 fn rows(rt: HostRuntime) {
-    let alloc = rt.alloc();
-    let wrong = wrong(&rt, alloc, &mut room(&rt, alloc));
-    assert!(rt; wrong.is_none(), "{}", wrong.unwrap_or(""));
+    let mut room = room_of(&rt, rt.alloc());
+    for row in &ROWS {
+        check(&rt, holds_again(&rt, rt.alloc(), &mut room, row), row);
+    }
 }

@@ -1,10 +1,11 @@
 //! Texts that keep something.
 //!
-//! A row is a line: a text, and behind `=>` what is written of it, where `nothing`, `topic` and `channel` are the constants of these names.
+//! A row is a line: a text, and behind `=>` what is written of it, where `nothing`, `topic` and `channel` are the constants of these names; or
+//! that it is `bad`.
 
 use crate::check;
-use crate::path::read_names::held::is_read;
-use crate::text::part;
+use crate::path::read_names::held::{is_bad, is_read};
+use crate::text::{bytes_of, part};
 use std::alloc::Global;
 use std::process::Abort;
 
@@ -91,10 +92,14 @@ fn written_of(written: &str) -> &str {
     }
 }
 
-fn holds(rt: &impl Abort, alloc: Global, row: &str) -> bool {
-    let (text, written) = part(rt, row, " => ");
-    let written = written_of(written);
-    is_read(rt, alloc, text.as_bytes(), written.as_bytes())
+/// Whether what the line says is written of its text.
+pub fn holds(rt: &impl Abort, alloc: Global, line: &str) -> bool {
+    let (text, written) = part(rt, line, " => ");
+    let text = bytes_of(rt, alloc, text);
+    match written {
+        "bad" => is_bad(rt, alloc, &text),
+        _ => is_read(rt, alloc, &text, written_of(written).as_bytes()),
+    }
 }
 
 #[test]

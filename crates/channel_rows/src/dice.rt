@@ -1,8 +1,10 @@
 //! Random numbers for calls.
 
-ghost use Rattle.std.specs.Prelude.{◌≤◌, ◌<◌, ◌^◌};
+ghost use Rattle.std.specs.Prelude.{◌≤◌, ◌<◌};
 
-use crate::calls::{MINUTE, Who};
+use crate::calls::{Call, Who};
+use crate::stage::MINUTE;
+use crate::words::{MOST, cut, number};
 use nsq_base::MsgId;
 use nsq_fakes::{Failing, FolderCall};
 use std::alloc::Global;
@@ -15,16 +17,13 @@ pub struct Dice {
     now: u64,
 }
 
-/// How many numbers of messages there are beside a plain list.
-pub const NUMBERS: u8 = 8;
+/// How many ids there are beside a plain list.
+pub const LISTED: u64 = 8;
 
-/// How many ids of a channel's messages there are beside the plain program of the whole broker.
+/// How many ids there are beside the plain program of the whole broker.
 pub const IDS: u64 = 5;
 
 const MILLISECOND: u64 = 1_000_000;
-
-// The latest moment.
-const LATEST: u64 = 1 << 62;
 
 impl Dice {
     /// Random numbers of this seed.
@@ -47,18 +46,59 @@ impl Dice {
         (self.state >> 33) % bound
     }
 
-    /// The number of a message.
-    pub fn number(&mut self) -> u8 {
-        self.below(u64::from(NUMBERS)) as u8
+    /// What stands behind the weight of one of these lines, which have a `;` between them and so many as the sum of their weights.
+    pub fn one_of(&mut self, rt: &impl Abort, lines: &'static str, sum: u64) -> &'static str {
+        let mut left = self.below(sum.max(1));
+        for line in lines.split(';') {
+            let (weight, rest) = cut(line.trim());
+            let weight = number(rt, weight);
+            if left < weight {
+                return rest;
+            }
+            left = left.saturating_sub(weight);
+        }
+        panic!(rt; "the weights are less than their sum")
     }
 
-    /// The id of a message.
-    pub fn id(&mut self) -> MsgId {
-        MsgId::make(1, self.below(IDS))
+    /// Gives the call what these words name, in their order.
+    pub fn fill(&mut self, rt: &impl Abort, call: &mut Call, names: &str) {
+        for name in names.split(' ') {
+            self.draw(rt, call, name);
+        }
     }
 
-    /// More often the first client than the second.
-    pub fn who(&mut self) -> Who {
+    // `who` is more often the first client than the second, `listed` one of the ids beside a plain list, `id` one beside the whole broker's, `named` too,
+    // or else some copy in flight, `delay` mostly none, `whole-delay` one of whole milliseconds, and `moment` that of the last call, or a later one.
+    fn draw(&mut self, rt: &impl Abort, call: &mut Call, name: &str) {
+        match name {
+            "who" => call.who = self.who(),
+            "listed" => call.id = MsgId::make(1, self.below(LISTED)),
+            "id" => call.id = MsgId::make(1, self.below(IDS)),
+            "named" => {
+                call.id = MsgId::make(1, self.below(IDS));
+                call.place = self.below(8);
+            }
+            "delay" => call.delay = self.delay(1),
+            "whole-delay" => call.delay = self.delay(MILLISECOND),
+            "moment" => call.at = self.moment(),
+            _ => self.draw_small(rt, call, name),
+        }
+    }
+
+    // `count` is below 4, `on` one time of four, `settles` four times of five, `takes` three times of four, and `letter` one of three.
+    fn draw_small(&mut self, rt: &impl Abort, call: &mut Call, name: &str) {
+        match name {
+            "count" => call.count = self.below(4) as u32,
+            "on" => call.on = self.below(4) == 0,
+            "settles" => call.on = self.below(5) != 0,
+            "takes" => call.on = self.below(4) != 0,
+            "letter" => call.letter = b'a'.wrapping_add(self.below(3) as u8),
+            "" => {}
+            _ => panic!(rt; "{} is nothing to draw", name),
+        }
+    }
+
+    fn who(&mut self) -> Who {
         if self.below(3) == 0 {
             Who::Second
         } else {
@@ -66,25 +106,8 @@ impl Dice {
         }
     }
 
-    /// Mostly no delay.
-    pub fn delay(&mut self) -> u64
-        ensures { result ≤ 2 ^ 62 }
-    {
-        self.delay_of(1)
-    }
-
-    /// Mostly no delay, and one of whole milliseconds.
-    pub fn whole_delay(&mut self) -> u64
-        ensures { result ≤ 2 ^ 62 }
-    {
-        self.delay_of(MILLISECOND)
-    }
-
     // Mostly no delay, or a long one, or this one.
-    fn delay_of(&mut self, short: u64) -> u64
-        requires { short ≤ 2 ^ 62 }
-        ensures { result ≤ 2 ^ 62 }
-    {
+    fn delay(&mut self, short: u64) -> u64 {
         match self.below(8) {
             0 => MINUTE,
             1 => MINUTE / 2,
@@ -94,23 +117,25 @@ impl Dice {
     }
 
     /// The moment: that of the last call, or later by some time, or by a nanosecond.
-    pub fn moment(&mut self) -> u64
-        ensures { result ≤ 2 ^ 62 }
-    {
+    pub fn moment(&mut self) -> u64 {
         let later = match self.below(8) {
             0 => 1,
             1 | 2 => MINUTE / 4,
             3 => MINUTE / 2,
             _ => 0,
         };
-        self.now = self.now.wrapping_add(later).min(LATEST);
-        self.now.min(LATEST)
+        self.now = self.now.wrapping_add(later).min(MOST);
+        self.now
     }
 
     /// So many times some calls of a folder that fail, of any method, of so many calls.
-    pub fn faults(&mut self, rt: &impl Abort, alloc: Global, times: u64, calls: u64) -> Vec<Failing>
-        requires { 1 ≤ calls }
-    {
+    pub fn faults(
+        &mut self,
+        rt: &impl Abort,
+        alloc: Global,
+        times: u64,
+        calls: u64,
+    ) -> Vec<Failing> {
         let mut fails = Vec::new(alloc);
         for _ in 0..times {
             let failing = self.fault(calls);
@@ -120,15 +145,13 @@ impl Dice {
     }
 
     // Some calls of a folder that fail.
-    fn fault(&mut self, calls: u64) -> Failing
-        requires { 1 ≤ calls }
-    {
+    fn fault(&mut self, calls: u64) -> Failing {
         let call = match self.below(4) {
             0 => FolderCall::WriteAt,
             1 => FolderCall::ReadAt,
             _ => FolderCall::Any,
         };
-        let from = self.below(calls);
+        let from = self.below(calls.max(1));
         let to = from.wrapping_add(self.below(3)).wrapping_add(1);
         Failing { call, from, to }
     }

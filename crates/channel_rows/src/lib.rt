@@ -2,8 +2,6 @@
 #![tactic(auto)]
 
 #[cfg(test)]
-mod answers;
-#[cfg(test)]
 mod broker;
 #[cfg(test)]
 mod calls;
@@ -22,4 +20,8 @@ mod script;
 #[cfg(test)]
 mod sending;
 #[cfg(test)]
+mod stage;
+#[cfg(test)]
 mod storing;
+#[cfg(test)]
+mod words;

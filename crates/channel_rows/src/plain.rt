@@ -1,49 +1,51 @@
 //! A channel as one plain list of copies, by the rules of the floor alone.
 
-use crate::answers::Given;
-use crate::calls::{FIRST_TIME, SECOND_TIME, Who};
-use crate::runs::{HELD, MOST};
-use channel_core::Look;
+use crate::calls::{Answer, Call, Came, Does, Who};
+use crate::dice::LISTED;
+use crate::runs::{HELD, LONGEST, Run};
+use crate::stage::{FIRST_TIME, SECOND_TIME};
+use channel_core::{Channel, Look};
+use nsq_base::MsgId;
 use std::alloc::Global;
 use std::process::Abort;
 
-/// Where a copy is.
+// Where a copy is.
 #[derive(Clone, Copy)]
-pub enum Place {
+enum Place {
     Queued,
-    /// With a client, until a moment, and since one.
+    // With a client, until a moment, and since one.
     InFlight(Who, u64, u64),
-    /// Until a moment.
+    // Until a moment.
     Deferred(u64),
 }
 
-/// A copy: its number, the attempts made, and where it is.
+// A copy: its id, the attempts made, and where it is.
 #[derive(Clone, Copy)]
-pub struct Kept {
-    pub number: u8,
-    pub attempts: u16,
-    pub place: Place,
+struct Kept {
+    id: MsgId,
+    attempts: u16,
+    place: Place,
 }
 
 /// A channel. Its copies stand in the order in which they came to their places.
 #[derive(Drop)]
 pub struct Plain {
-    pub ephemeral: bool,
-    memory: u64,
-    pub paused: bool,
+    run: Run,
+    paused: bool,
     first_ready: u32,
     second_ready: u32,
-    pub copies: Vec<Kept>,
-    pub joined: u64,
-    pub requeued: u64,
-    pub timed_out: u64,
+    copies: Vec<Kept>,
+    joined: u64,
+    requeued: u64,
+    timed_out: u64,
 }
 
+/// What there is.
 impl Plain {
-    pub fn new(alloc: Global, ephemeral: bool, memory: u64) -> Plain {
+    /// A new channel of this run.
+    pub fn new(alloc: Global, run: &Run) -> Plain {
         Plain {
-            ephemeral,
-            memory,
+            run: *run,
             paused: false,
             first_ready: 0,
             second_ready: 0,
@@ -54,20 +56,24 @@ impl Plain {
         }
     }
 
-    pub fn ready(&mut self, who: Who, count: u32) {
-        match who {
-            Who::First => self.first_ready = count,
-            Who::Second => self.second_ready = count,
+    /// Whether calls of the channel on its folder may fail.
+    pub fn may_fail(&self) -> bool {
+        self.run.fails && !self.run.ephemeral
+    }
+
+    /// Whether two copies of this id are there.
+    pub fn has_two(&self, id: MsgId) -> bool {
+        let mut count: u64 = 0;
+        for copy in &self.copies {
+            if copy.id == id {
+                count = count.saturating_add(1);
+            }
         }
+        count >= 2
     }
 
-    /// The second client left, and subscribed again.
-    pub fn come_again(&mut self) {
-        self.second_ready = 0;
-    }
-
-    /// How many are queued, in flight and deferred.
-    pub fn places(&self) -> (u64, u64, u64) {
+    // How many are queued, in flight and deferred.
+    fn places(&self) -> (u64, u64, u64) {
         let mut queued: u64 = 0;
         let mut in_flight: u64 = 0;
         let mut deferred: u64 = 0;
@@ -81,28 +87,17 @@ impl Plain {
         (queued, in_flight, deferred)
     }
 
-    /// How many copies of this number there are.
-    pub fn count(&self, number: u8) -> u64 {
-        let mut count: u64 = 0;
-        for copy in &self.copies {
-            if copy.number == number {
-                count = count.saturating_add(1);
-            }
-        }
-        count
-    }
-
-    /// Whether so many queued copies on disk are as many as may be.
-    pub fn may_be_behind(&self, on_disk: u128) -> bool {
-        let queued = self.places().0;
-        if self.ephemeral {
+    // Whether so many queued copies on disk are as many as may be, of so many.
+    fn may_be_behind(&self, queued: u64, on_disk: u128) -> bool {
+        if self.run.ephemeral {
             return on_disk == 0;
         }
-        u128::from(queued.saturating_sub(self.memory)) <= on_disk && on_disk <= u128::from(queued)
+        u128::from(queued.saturating_sub(self.run.memory)) <= on_disk
+            && on_disk <= u128::from(queued)
     }
 
-    /// How many copies are in flight with the client.
-    pub fn flying(&self, who: Who) -> u64 {
+    // How many copies are in flight with the client.
+    fn flying(&self, who: Who) -> u64 {
         let mut flying: u64 = 0;
         for copy in &self.copies {
             if let Place::InFlight(with, _, _) = copy.place {
@@ -114,8 +109,8 @@ impl Plain {
         flying
     }
 
-    /// Whether the client may have one more in flight.
-    pub fn has_credit(&self, who: Who) -> bool {
+    // Whether the client may have one more in flight.
+    fn has_credit(&self, who: Who) -> bool {
         let ready = match who {
             Who::First => self.first_ready,
             Who::Second => self.second_ready,
@@ -123,134 +118,48 @@ impl Plain {
         self.flying(who) < u64::from(ready)
     }
 
-    /// The client that the copy of this number is in flight with.
-    pub fn with(&self, number: u8) -> Option<Who> {
-        let (_, with, _) = self.flying_at(number)?;
-        Some(with)
-    }
-
-    /// What a client is told of the copies of this number.
-    pub fn look(&self, who: Who, number: u8) -> Look {
-        match self.with(number) {
-            Some(with) if with == who => Look::Yours,
-            Some(_) => Look::NotYours,
-            None => Look::NotInFlight,
-        }
-    }
-
-    /// A message joins.
-    pub fn offer(&mut self, rt: &impl Abort, number: u8, delay: u64, now: u64) {
-        let copy = Kept {
-            number,
-            attempts: 0,
-            place: Place::Queued,
-        };
-        if self.put(rt, copy, delay, now) {
-            self.joined = self.joined.saturating_add(1);
-        }
-    }
-
     // Whether the client may be sent a copy, if there is one.
     fn is_open(&self, who: Who) -> bool {
         !self.paused && self.has_credit(who)
     }
 
-    /// Whether a queued copy of this number, one attempt before these, could be sent to the client.
-    pub fn may_send(&self, who: Who, number: u8, attempts: u16) -> bool {
-        self.is_open(who)
-            && self.with(number).is_none()
-            && self.queued_at(number, Some(attempts)).is_some()
-    }
-
-    /// The same; then it is.
-    pub fn send(&mut self, rt: &impl Abort, who: Who, number: u8, attempts: u16, now: u64) -> bool {
-        if !self.may_send(who, number, attempts) {
-            return false;
+    // What a client is told of the copies of this id.
+    fn look(&self, who: Who, id: MsgId) -> Look {
+        match self.flying_at(id) {
+            Some((_, with, _)) if with == who => Look::Yours,
+            Some(_) => Look::NotYours,
+            None => Look::NotInFlight,
         }
-        if let Some(copy) = self.take_queued(number, Some(attempts)) {
-            let due = now.saturating_add(time_of(who));
-            self.fly(rt, who, copy.number, attempts, due, now);
-        }
-        true
     }
 
-    // A copy of this number and attempts is with the client from now on, until it is due.
-    fn fly(&mut self, rt: &impl Abort, who: Who, number: u8, attempts: u16, due: u64, sent: u64) {
-        let copy = Kept {
-            number,
-            attempts,
-            place: Place::InFlight(who, due, sent),
-        };
-        self.copies.push(copy).expect(rt, "memory");
-    }
-
-    /// Whether a queued copy of this number has to be held back from the client.
-    pub fn may_hold(&self, who: Who, number: u8) -> bool {
-        self.is_open(who) && self.with(number).is_some() && self.queued_at(number, None).is_some()
-    }
-
-    /// The same; then it is.
-    pub fn hold(&mut self, rt: &impl Abort, who: Who, number: u8, now: u64) -> bool {
-        if !self.may_hold(who, number) {
-            return false;
-        }
-        let Some(copy) = self.take_queued(number, None) else {
-            return false;
-        };
-        self.put(rt, copy, HELD, now)
-    }
-
-    /// Whether this is why the client is given nothing.
-    pub fn is_why(&self, fails: bool, who: Who, given: Given) -> bool {
-        match given {
-            Given::NoCredit => !self.has_credit(who),
-            Given::Paused => self.has_credit(who) && self.paused,
-            Given::NoneQueued => self.is_open(who) && self.places().0 == 0,
-            Given::Fault => {
-                fails && !self.ephemeral && self.is_open(who) && self.places().0 != 0
+    // Where the copy of this id is in flight, with whom, and since when.
+    fn flying_at(&self, id: MsgId) -> Option<(usize, Who, u64)> {
+        for (i, copy) in self.copies.iter().enumerate() {
+            if let Place::InFlight(with, _, sent) = copy.place {
+                if copy.id == id {
+                    return Some((i, with, sent));
+                }
             }
-            _ => false,
         }
+        None
     }
 
-    /// Whether the client has the copy of this number in flight. Then it is finished.
-    pub fn finish(&mut self, who: Who, number: u8) -> bool {
-        self.take_flying(who, number).is_some()
+    // Where a queued copy of this id stands, one attempt before these where some are given.
+    fn queued_at(&self, id: MsgId, attempts: Option<u16>) -> Option<usize> {
+        for (i, copy) in self.copies.iter().enumerate() {
+            let fits = match attempts {
+                None => true,
+                Some(attempts) => copy.attempts.saturating_add(1) == attempts,
+            };
+            if fits && matches!(copy.place, Place::Queued) && copy.id == id {
+                return Some(i);
+            }
+        }
+        None
     }
 
-    /// Whether the client has the copy of this number in flight. Then it gets more time.
-    pub fn touch(&mut self, rt: &impl Abort, who: Who, number: u8, now: u64) -> bool {
-        let Some((copy, sent)) = self.take_flying(who, number) else {
-            return false;
-        };
-        let due = now
-            .saturating_add(time_of(who))
-            .min(sent.saturating_add(MOST));
-        self.fly(rt, who, number, copy.attempts, due, sent);
-        true
-    }
-
-    /// Whether the client has the copy of this number in flight. Then it is given back.
-    pub fn requeue(&mut self, rt: &impl Abort, who: Who, number: u8, delay: u64, now: u64) -> bool {
-        let Some((copy, _sent)) = self.take_flying(who, number) else {
-            return false;
-        };
-        let _kept = self.put(rt, copy, delay, now);
-        self.requeued = self.requeued.saturating_add(1);
-        true
-    }
-
-    /// Whether the client has the copy of this number in flight. It couldn't be given back, and came to its place anew.
-    pub fn stay(&mut self, rt: &impl Abort, who: Who, number: u8) -> bool {
-        let Some((copy, _sent)) = self.take_flying(who, number) else {
-            return false;
-        };
-        self.copies.push(copy).expect(rt, "memory");
-        true
-    }
-
-    /// When the next copy is due.
-    pub fn next_due(&self) -> Option<u64> {
+    // When the next copy is due.
+    fn next_due(&self) -> Option<u64> {
         let mut next = None;
         for copy in &self.copies {
             if let Place::InFlight(_, due, _) | Place::Deferred(due) = copy.place {
@@ -263,8 +172,8 @@ impl Plain {
         next
     }
 
-    /// Where the copy stands that is due first: of those in flight, or else of the deferred ones.
-    pub fn first_due(&self, now: u64) -> Option<usize> {
+    // Where the copy stands that is due first: of those in flight, or else of the deferred ones.
+    fn first_due(&self, now: u64) -> Option<usize> {
         let mut flying = None;
         let mut waiting = None;
         for (i, copy) in self.copies.iter().enumerate() {
@@ -280,39 +189,221 @@ impl Plain {
         }
     }
 
-    /// Whether the copy that is due first is in flight and has this number. Then it is put back.
-    pub fn time_out(&mut self, rt: &impl Abort, number: u8, now: u64) -> bool {
-        let Some(copy) = self.take_first(now) else {
-            return false;
-        };
-        let flew = matches!(copy.place, Place::InFlight(_, _, _));
-        let _kept = self.put(rt, copy, 0, now);
-        self.timed_out = self.timed_out.saturating_add(1);
-        flew && copy.number == number
+    /// Whether the channel tells what the list says.
+    pub fn tells(&self, channel: &Channel) -> bool {
+        self.counts(channel)
+            && self.flies_in(channel, Who::First)
+            && self.flies_in(channel, Who::Second)
     }
 
-    /// Whether the copy that is due first is deferred and has this number. Then it is put back.
-    pub fn come_due(&mut self, rt: &impl Abort, number: u8, now: u64) -> bool {
-        let Some(copy) = self.take_first(now) else {
-            return false;
-        };
-        let waited = matches!(copy.place, Place::Deferred(_));
-        let _kept = self.put(rt, copy, 0, now);
-        waited && copy.number == number
+    // Whether the channel counts what the list says.
+    fn counts(&self, channel: &Channel) -> bool {
+        let counts = channel.counts();
+        let (queued, in_flight, deferred) = self.places();
+        channel.next_due() == self.next_due()
+            && counts.depth == u128::from(queued)
+            && self.may_be_behind(queued, counts.backend_depth)
+            && counts.in_flight_count == in_flight
+            && counts.deferred_count == deferred
+            && counts.message_count == self.joined
+            && counts.requeue_count == self.requeued
+            && counts.timeout_count == self.timed_out
     }
 
-    /// Whether the copy that is due first has this number. It couldn't be put back, and came to its place anew.
-    pub fn stay_due(&mut self, rt: &impl Abort, number: u8, now: u64) -> bool {
-        let Some(copy) = self.take_first(now) else {
+    // Whether the channel tells of this client and each copy what the list says.
+    fn flies_in(&self, channel: &Channel, who: Who) -> bool {
+        let client = who.client();
+        if channel.in_flight(client) != self.flying(who) {
             return false;
-        };
-        self.copies.push(copy).expect(rt, "memory");
-        copy.number == number
+        }
+        for number in 0..LISTED {
+            let id = MsgId::make(1, number);
+            if channel.look(client, id) != self.look(who, id) {
+                return false;
+            }
+        }
+        true
+    }
+}
+
+/// What happens.
+impl Plain {
+    /// Whether a call is answered so, as the list says. The list is then as it is behind that call.
+    pub fn answers(&mut self, rt: &impl Abort, call: &Call, answer: &Answer) -> bool {
+        match call.does {
+            Does::Offer => self.was_offered(rt, call, answer.came),
+            Does::Give => self.was_given(rt, call, answer),
+            Does::Finish | Does::Touch | Does::Requeue => self.was_settled(rt, call, answer.came),
+            Does::Move => self.has_moved(rt, call.at, answer),
+            _ => self.was_done(call, answer.came),
+        }
     }
 
-    /// All copies are gone.
-    pub fn empty(&mut self) {
-        self.copies.clear();
+    // A message joins, or a fault keeps it off.
+    fn was_offered(&mut self, rt: &impl Abort, call: &Call, came: Came) -> bool {
+        match came {
+            Came::Done => {
+                if self.put(rt, call.id, 0, call.delay, call.at) {
+                    self.joined = self.joined.saturating_add(1);
+                }
+                true
+            }
+            Came::Fault => self.run.fails && call.delay == 0,
+            Came::Memory | Came::Wanting => panic!(rt; "memory"),
+            _ => false,
+        }
+    }
+
+    fn was_given(&mut self, rt: &impl Abort, call: &Call, answer: &Answer) -> bool {
+        match answer.came {
+            Came::Sent => {
+                answer.copy.stamp == 7
+                    && answer.copy.letter == Some(b'm')
+                    && self.sends(rt, call, answer.copy.id, answer.copy.attempts)
+            }
+            Came::Held => self.holds_back(rt, call, answer.copy.id),
+            Came::Memory => panic!(rt; "memory"),
+            came => self.is_why(call.who, came),
+        }
+    }
+
+    // Whether a queued copy of this id, one attempt before these, could be sent to the client. Then it is, where the call is on.
+    fn sends(&mut self, rt: &impl Abort, call: &Call, id: MsgId, attempts: u16) -> bool {
+        if !self.is_open(call.who) || self.flying_at(id).is_some() {
+            return false;
+        }
+        let Some(i) = self.queued_at(id, Some(attempts)) else {
+            return false;
+        };
+        if call.on && self.take_at(i).is_some() {
+            let due = call.at.saturating_add(time_of(call.who));
+            self.fly(rt, call.who, id, attempts, due, call.at);
+        }
+        true
+    }
+
+    // Whether a queued copy of this id has to be held back from the client. Then it is, where the call is on.
+    fn holds_back(&mut self, rt: &impl Abort, call: &Call, id: MsgId) -> bool {
+        if !self.is_open(call.who) || self.flying_at(id).is_none() {
+            return false;
+        }
+        let Some(i) = self.queued_at(id, None) else {
+            return false;
+        };
+        if call.on {
+            if let Some(copy) = self.take_at(i) {
+                let _kept = self.put(rt, copy.id, copy.attempts, HELD, call.at);
+            }
+        }
+        true
+    }
+
+    // Whether this is why the client is given nothing.
+    fn is_why(&self, who: Who, came: Came) -> bool {
+        match came {
+            Came::NoCredit => !self.has_credit(who),
+            Came::Paused => self.has_credit(who) && self.paused,
+            Came::NoneQueued => self.is_open(who) && self.places().0 == 0,
+            Came::Fault => self.may_fail() && self.is_open(who) && self.places().0 != 0,
+            _ => false,
+        }
+    }
+
+    // Whether the client has the copy in flight. Then it is finished, gets more time or is given back, or a fault keeps it, and it comes to its place anew.
+    fn was_settled(&mut self, rt: &impl Abort, call: &Call, came: Came) -> bool {
+        let Some((i, with, sent)) = self.flying_at(call.id) else {
+            return matches!(came, Came::NotYours);
+        };
+        if with != call.who {
+            return matches!(came, Came::NotYours);
+        }
+        let Some(copy) = self.take_at(i) else {
+            return false;
+        };
+        match came {
+            Came::Done => {
+                self.settle(rt, call, copy, sent);
+                true
+            }
+            Came::Fault => {
+                self.copies.push(copy).expect(rt, "memory");
+                self.run.fails && call.delay == 0
+            }
+            _ => false,
+        }
+    }
+
+    fn settle(&mut self, rt: &impl Abort, call: &Call, copy: Kept, sent: u64) {
+        match call.does {
+            Does::Finish => {}
+            Does::Touch => {
+                let due = call
+                    .at
+                    .saturating_add(time_of(call.who))
+                    .min(sent.saturating_add(LONGEST));
+                self.fly(rt, call.who, copy.id, copy.attempts, due, sent);
+            }
+            _ => {
+                let _kept = self.put(rt, copy.id, copy.attempts, call.delay, call.at);
+                self.requeued = self.requeued.saturating_add(1);
+            }
+        }
+    }
+
+    // Whether the copy that is due first has this id and is where it was said to be. Then it is put back, or a fault keeps it, and it comes to its
+    // place anew.
+    fn has_moved(&mut self, rt: &impl Abort, now: u64, answer: &Answer) -> bool {
+        let Some(i) = self.first_due(now) else {
+            return matches!(answer.came, Came::Nothing);
+        };
+        let Some(copy) = self.take_at(i) else {
+            return false;
+        };
+        let right = match answer.came {
+            Came::TimedOut => matches!(copy.place, Place::InFlight(_, _, _)),
+            Came::CameDue => matches!(copy.place, Place::Deferred(_)),
+            Came::Stays => self.run.fails,
+            _ => false,
+        };
+        self.put_due(rt, copy, now, answer.came);
+        right && copy.id == answer.copy.id
+    }
+
+    fn put_due(&mut self, rt: &impl Abort, copy: Kept, now: u64, came: Came) {
+        if matches!(came, Came::Stays) {
+            self.copies.push(copy).expect(rt, "memory");
+            return;
+        }
+        let _kept = self.put(rt, copy.id, copy.attempts, 0, now);
+        if matches!(came, Came::TimedOut) {
+            self.timed_out = self.timed_out.saturating_add(1);
+        }
+    }
+
+    // A call that moves no single copy.
+    fn was_done(&mut self, call: &Call, came: Came) -> bool {
+        match came {
+            Came::Done => self.does(call),
+            Came::NotDue => matches!(call.does, Does::Sync),
+            Came::Fault => self.may_fail(),
+            _ => false,
+        }
+    }
+
+    fn does(&mut self, call: &Call) -> bool {
+        match call.does {
+            Does::Ready => match call.who {
+                Who::First => self.first_ready = call.count,
+                Who::Second => self.second_ready = call.count,
+            },
+            Does::Pause => self.paused = call.on,
+            Does::ComeAgain => self.second_ready = 0,
+            Does::Sync => return !self.run.ephemeral,
+            Does::Empty => self.copies.clear(),
+            Does::Delete => self.delete(),
+            _ => return false,
+        }
+        true
     }
 
     /// What a stop and a start leave: all copies are queued, and nothing is counted.
@@ -330,75 +421,36 @@ impl Plain {
 
     /// What a deletion leaves.
     pub fn delete(&mut self) {
-        self.empty();
+        self.copies.clear();
         self.restart();
     }
 
-    // Puts a copy where it waits; false where it is dropped.
-    fn put(&mut self, rt: &impl Abort, copy: Kept, delay: u64, now: u64) -> bool {
-        let place = if delay == 0 {
-            if self.ephemeral && self.memory <= self.places().0 {
-                return false;
-            }
-            Place::Queued
-        } else {
-            Place::Deferred(now.saturating_add(delay))
+    // A copy of this id and attempts is with the client from now on, until it is due.
+    fn fly(&mut self, rt: &impl Abort, who: Who, id: MsgId, attempts: u16, due: u64, sent: u64) {
+        let copy = Kept {
+            id,
+            attempts,
+            place: Place::InFlight(who, due, sent),
         };
-        self.copies
-            .push(Kept {
-                number: copy.number,
-                attempts: copy.attempts,
-                place,
-            })
-            .expect(rt, "memory");
+        self.copies.push(copy).expect(rt, "memory");
+    }
+
+    // Puts a copy where it waits; false where it is dropped.
+    fn put(&mut self, rt: &impl Abort, id: MsgId, attempts: u16, delay: u64, now: u64) -> bool {
+        let place = if delay != 0 {
+            Place::Deferred(now.saturating_add(delay))
+        } else if self.run.ephemeral && self.run.memory <= self.places().0 {
+            return false;
+        } else {
+            Place::Queued
+        };
+        let copy = Kept {
+            id,
+            attempts,
+            place,
+        };
+        self.copies.push(copy).expect(rt, "memory");
         true
-    }
-
-    // Takes a queued copy of this number out, one attempt before these where some are given.
-    fn take_queued(&mut self, number: u8, attempts: Option<u16>) -> Option<Kept> {
-        let i = self.queued_at(number, attempts)?;
-        self.take_at(i)
-    }
-
-    fn queued_at(&self, number: u8, attempts: Option<u16>) -> Option<usize> {
-        for (i, copy) in self.copies.iter().enumerate() {
-            let fits = match attempts {
-                None => true,
-                Some(attempts) => copy.attempts.saturating_add(1) == attempts,
-            };
-            if copy.number == number && fits && matches!(copy.place, Place::Queued) {
-                return Some(i);
-            }
-        }
-        None
-    }
-
-    // Takes the client's copy of this number out, and tells when it was sent.
-    fn take_flying(&mut self, who: Who, number: u8) -> Option<(Kept, u64)> {
-        let (i, with, sent) = self.flying_at(number)?;
-        if with != who {
-            return None;
-        }
-        let copy = self.take_at(i)?;
-        Some((copy, sent))
-    }
-
-    // Where the copy of this number is in flight, with whom, and since when.
-    fn flying_at(&self, number: u8) -> Option<(usize, Who, u64)> {
-        for (i, copy) in self.copies.iter().enumerate() {
-            if copy.number == number {
-                if let Place::InFlight(with, _, sent) = copy.place {
-                    return Some((i, with, sent));
-                }
-            }
-        }
-        None
-    }
-
-    // Takes the copy out that is due first.
-    fn take_first(&mut self, now: u64) -> Option<Kept> {
-        let i = self.first_due(now)?;
-        self.take_at(i)
     }
 
     fn take_at(&mut self, i: usize) -> Option<Kept> {

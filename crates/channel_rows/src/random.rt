@@ -1,429 +1,261 @@
-//! Random calls of a channel, beside a plain list of copies: what each answers, and what the channel tells afterwards, is what the list says.
+//! Random calls of a channel, beside a plain list of copies and beside the plain program of the whole broker: what each answers, and what the channel
+//! tells afterwards, is what the list says, or what is so in a possible state.
 
 ghost use Rattle.std.specs.Prelude.{◌≡◌, ◌<◌};
 
-use crate::answers::{Came, Given, Offered, came_as, events, given_as, id_of, offered_as, places};
-use crate::calls::{Scratch, Setup, Stage, Who, end};
-use crate::dice::{Dice, NUMBERS};
+use crate::broker::beside::Beside;
+use crate::broker::channels;
+use crate::calls::{Answer, Call, Came, Does, call_of, kind_of};
+use crate::dice::Dice;
 use crate::plain::Plain;
-use crate::runs::{Run, SEEDS, folder_of, options_of};
-use backlog::Flushed;
-use channel_core::{Channel, Requeue};
-use disk_queue::{Emptied, Sync};
-use nsq_base::Steps;
+use crate::runs::{SEEDS, all_runs, folder_of, options_of, run_of};
+use crate::script::stage;
+use crate::stage::{Stage, end, setup_of};
+use crate::words::cut;
+use channel_core::Channel;
+use nsq_base::{MsgId, Steps};
 use std::alloc::Global;
 use std::marker::Brand;
 use std::process::Abort;
 use std::sync::ledger::{Blank, Ledger};
 
-// So many calls of each seed; the runs take turns.
-const CALLS: usize = 2_000;
+// The random calls beside a list, and what each draws; before each its weight, of 64, and of the seldom ones of 4.
+const LISTED: &str =
+    "18 offer listed delay moment; 17 give who moment settles; 4 ready who count; 4 finish who listed; 3 touch who listed moment;
+    6 requeue who listed delay moment; 7 move moment; 2 pause on; 1 come-again; 1 sync; 1 seldom";
 
-static RUNS: [Run; 9] = [
-    Run {
-        name: "durable, with room for 3",
-        ephemeral: false,
-        memory: 3,
-        fails: false,
-    },
-    Run {
-        name: "durable, with room for 1",
-        ephemeral: false,
-        memory: 1,
-        fails: false,
-    },
-    Run {
-        name: "durable, without room",
-        ephemeral: false,
-        memory: 0,
-        fails: false,
-    },
-    Run {
-        name: "durable, with room for 3 and a disk that fails",
-        ephemeral: false,
-        memory: 3,
-        fails: true,
-    },
-    Run {
-        name: "durable, with room for 1 and a disk that fails",
-        ephemeral: false,
-        memory: 1,
-        fails: true,
-    },
-    Run {
-        name: "durable, without room and with a disk that fails",
-        ephemeral: false,
-        memory: 0,
-        fails: true,
-    },
-    Run {
-        name: "ephemeral, with room for 3",
-        ephemeral: true,
-        memory: 3,
-        fails: true,
-    },
-    Run {
-        name: "ephemeral, with room for 1",
-        ephemeral: true,
-        memory: 1,
-        fails: true,
-    },
-    Run {
-        name: "ephemeral, without room",
-        ephemeral: true,
-        memory: 0,
-        fails: true,
-    },
+const LISTED_SELDOM: &str = "1 empty; 1 delete; 2 restart";
+
+// The same beside the whole broker.
+const POSSIBLE: &str =
+    "17 offer id delay moment; 17 give who moment settles; 4 ready who count moment; 4 finish who named moment; 3 touch who named moment;
+    6 requeue who named whole-delay moment; 7 move moment; 2 pause on moment; 1 come-again moment; 1 sync; 2 seldom";
+
+const POSSIBLE_SELDOM: &str = "1 empty moment; 1 delete moment; 2 restart";
+
+// The runs beside a list, as those beside the whole broker. The seeds take turns.
+static LISTED_RUNS: [&'static str; 9] = [
+    "durable, with room for 3: durable 3",
+    "durable, with room for 1: durable 1",
+    "durable, without room: durable 0",
+    "durable, with room for 3 and a disk that fails: durable 3 fails",
+    "durable, with room for 1 and a disk that fails: durable 1 fails",
+    "durable, without room and with a disk that fails: durable 0 fails",
+    "ephemeral, with room for 3: ephemeral 3 fails",
+    "ephemeral, with room for 1: ephemeral 1 fails",
+    "ephemeral, without room: ephemeral 0 fails",
 ];
 
-// The run of a seed.
-fn run_of(seed: u64) -> &'static Run {
-    &RUNS[seed as usize % RUNS.len()]
+// What stands beside a channel.
+#[derive(Drop)]
+enum Side {
+    Listed(Plain),
+    Possible(Beside),
 }
 
-// A channel in a folder, and the plain list beside it.
+impl Side {
+    fn may_fail(&self) -> bool {
+        match self {
+            Side::Listed(plain) => plain.may_fail(),
+            Side::Possible(beside) => beside.may_fail(),
+        }
+    }
+
+    // Whether two copies of this id are there.
+    fn has_two(&self, id: MsgId) -> bool {
+        match self {
+            Side::Listed(plain) => plain.has_two(id),
+            Side::Possible(beside) => channels::has_two(beside, id),
+        }
+    }
+
+    // The id that a call is of.
+    fn named(&self, call: &Call) -> MsgId {
+        match self {
+            Side::Listed(_) => call.id,
+            Side::Possible(beside) => channels::named(beside, call),
+        }
+    }
+
+    // Whether a call may be answered so. What is beside the channel is then as it is behind that call.
+    fn answers(&mut self, rt: &impl Abort, call: &Call, answer: &Answer) -> bool {
+        match self {
+            Side::Listed(plain) => plain.answers(rt, call, answer),
+            Side::Possible(beside) => channels::answers(beside, rt, call, answer),
+        }
+    }
+
+    // Whether what the channel tells is so.
+    fn tells(&mut self, rt: &impl Abort, channel: &Channel) -> bool {
+        match self {
+            Side::Listed(plain) => plain.tells(channel),
+            Side::Possible(beside) => channels::tells(beside, rt, channel),
+        }
+    }
+}
+
+// A channel in a folder, and what stands beside it.
 #[derive(Drop)]
-struct Pair {
-    stage: Stage,
-    plain: Plain,
-    // Whether calls of the folder fail.
-    fails: bool,
+struct Pair<L: Ledger> {
+    stage: Stage<L>,
+    side: Side,
     dice: Dice,
 }
 
-impl Pair {
-    // One random call. Whether it answers what the list says, and the channel tells that afterwards.
-    fn step<L: Ledger>(
-        &mut self,
-        rt: &impl Abort,
-        scratch: &mut Scratch,
-        steps: &mut Steps<L>,
-    ) -> bool {
-        let right = self.call(rt, scratch, steps);
-        let stage = &self.stage;
-        let channel = &stage.channel;
-        right
-            && counts_agree(channel, &self.plain)
-            && agrees_on(channel, &self.plain, Who::First)
-            && agrees_on(channel, &self.plain, Who::Second)
+impl<L: Ledger> Pair<L> {
+    // A run begins, beside a list or the whole broker.
+    fn begin(&mut self, rt: &impl Abort, row: &str, seed: u64, is_listed: bool) {
+        let run = run_of(rt, row);
+        let alloc = self.stage.setup.alloc;
+        let mut dice = if is_listed {
+            Dice::new(seed)
+        } else {
+            run.dice(seed)
+        };
+        let (times, calls) = if is_listed { (80, 8_000) } else { (32, 400) };
+        let folder = folder_of(rt, alloc, &run, &mut dice, times, calls);
+        let setup = setup_of(rt, alloc, run.channel(), options_of(rt, alloc, &run));
+        self.side = if is_listed {
+            Side::Listed(Plain::new(alloc, &run))
+        } else {
+            Side::Possible(channels::beside(rt, &setup, run.fails))
+        };
+        self.stage.renew(setup, folder).expect(rt, "memory");
+        self.dice = dice;
     }
 
-    fn call<L: Ledger>(
-        &mut self,
-        rt: &impl Abort,
-        scratch: &mut Scratch,
-        steps: &mut Steps<L>,
-    ) -> bool {
-        match self.dice.below(64) {
-            0..=17 => self.offer(rt, scratch, steps),
-            18..=34 => self.give(rt, scratch, steps),
-            35..=38 => self.ready(),
-            39..=42 => self.finish(steps),
-            43..=45 => self.touch(rt, steps),
-            46..=51 => self.requeue(rt, scratch, steps),
-            52..=58 => self.move_due(rt, scratch, steps),
-            59..=60 => self.pause(),
-            61 => self.come_again(rt),
-            62 => self.sync(),
-            _ => self.rare(rt, scratch, steps),
-        }
+    // One random call. Whether it answers, and the channel tells afterwards, what is right.
+    fn step(&mut self, rt: &impl Abort) -> bool {
+        let call = self.draw(rt);
+        self.makes(rt, &call) && self.side.tells(rt, &self.stage.channel)
     }
 
-    // A call on all copies.
-    fn rare<L: Ledger>(
-        &mut self,
-        rt: &impl Abort,
-        scratch: &mut Scratch,
-        steps: &mut Steps<L>,
-    ) -> bool {
-        match self.dice.below(4) {
-            0 => self.empty(),
-            1 => self.delete(rt),
-            _ => self.restart(rt, scratch, steps),
-        }
+    // The next call.
+    fn draw(&mut self, rt: &impl Abort) -> Call {
+        let (lines, seldom) = match &self.side {
+            Side::Listed(_) => (LISTED, LISTED_SELDOM),
+            Side::Possible(_) => (POSSIBLE, POSSIBLE_SELDOM),
+        };
+        let line = match self.dice.one_of(rt, lines, 64) {
+            "seldom" => self.dice.one_of(rt, seldom, 4),
+            line => line,
+        };
+        drawn(rt, &mut self.dice, line)
     }
 
-    // A message joins, unless two of its number are there already.
-    fn offer<L: Ledger>(
-        &mut self,
-        rt: &impl Abort,
-        scratch: &mut Scratch,
-        steps: &mut Steps<L>,
-    ) -> bool {
-        let number = self.dice.number();
-        let delay = self.dice.delay();
-        let now = self.dice.moment();
-        if self.plain.count(number) >= 2 {
-            return true;
-        }
-        let id = id_of(number);
-        let took = self.stage.join(rt, scratch, id, b'm', 0, delay, now, steps);
-        match offered_as(took, id, delay) {
-            Offered::Done => {
-                self.plain.offer(rt, number, delay, now);
-                true
+    // Whether a call answers what is right. A third message of an id isn't offered.
+    fn makes(&mut self, rt: &impl Abort, call: &Call) -> bool {
+        match call.does {
+            Does::Restart => self.restart(rt),
+            Does::Offer if self.side.has_two(call.id) => true,
+            _ => {
+                let mut call = *call;
+                call.id = self.side.named(&call);
+                let answer = self.stage.call(rt, &call);
+                self.side.answers(rt, &call, &answer)
             }
-            Offered::Fault => self.fails && delay == 0,
-            Offered::Memory => panic!(rt; "memory"),
-            Offered::Other => false,
         }
-    }
-
-    // A copy is drawn, and settled or put back.
-    fn give<L: Ledger>(
-        &mut self,
-        rt: &impl Abort,
-        scratch: &mut Scratch,
-        steps: &mut Steps<L>,
-    ) -> bool {
-        let who = self.dice.who();
-        let now = self.dice.moment();
-        let settles = self.dice.below(5) != 0;
-        let drew = self.stage.give(scratch, who, now, settles, steps);
-        was_given(
-            rt,
-            &mut self.plain,
-            self.fails,
-            who,
-            now,
-            settles,
-            given_as(drew),
-        )
-    }
-
-    fn ready(&mut self) -> bool {
-        let who = self.dice.who();
-        let count = self.dice.below(4) as u32;
-        self.stage.ready(who, count);
-        self.plain.ready(who, count);
-        true
-    }
-
-    fn finish<L: Ledger>(&mut self, steps: &mut Steps<L>) -> bool {
-        let who = self.dice.who();
-        let number = self.dice.number();
-        let finished = self.stage.finish(who, id_of(number), steps);
-        self.plain.finish(who, number) == finished
-    }
-
-    fn touch<L: Ledger>(&mut self, rt: &impl Abort, steps: &mut Steps<L>) -> bool {
-        let who = self.dice.who();
-        let number = self.dice.number();
-        let now = self.dice.moment();
-        let touched = self.stage.touch(who, id_of(number), now, steps);
-        self.plain.touch(rt, who, number, now) == touched
-    }
-
-    fn requeue<L: Ledger>(
-        &mut self,
-        rt: &impl Abort,
-        scratch: &mut Scratch,
-        steps: &mut Steps<L>,
-    ) -> bool {
-        let who = self.dice.who();
-        let number = self.dice.number();
-        let delay = self.dice.delay();
-        let now = self.dice.moment();
-        let back = self
-            .stage
-            .requeue(scratch, who, id_of(number), delay, now, steps);
-        match back {
-            Some(Requeue::Done) => self.plain.requeue(rt, who, number, delay, now),
-            Some(Requeue::Fault) => self.fails && delay == 0 && self.plain.stay(rt, who, number),
-            None => self.plain.with(number) != Some(who),
-        }
-    }
-
-    fn move_due<L: Ledger>(
-        &mut self,
-        rt: &impl Abort,
-        scratch: &mut Scratch,
-        steps: &mut Steps<L>,
-    ) -> bool {
-        let now = self.dice.moment();
-        let (moved, told) = self.stage.move_due(scratch, now, steps);
-        told && came_so(rt, &mut self.plain, self.fails, now, came_as(moved))
-    }
-
-    // More often a pause ends than one begins.
-    fn pause(&mut self) -> bool {
-        let on = self.dice.below(4) == 0;
-        self.stage.channel.pause(on);
-        self.plain.paused = on;
-        self.stage.channel.is_paused() == on
-    }
-
-    fn come_again(&mut self, rt: &impl Abort) -> bool {
-        self.stage.come_again(rt);
-        self.plain.come_again();
-        true
-    }
-
-    fn sync(&mut self) -> bool {
-        match self.stage.sync() {
-            Sync::NotDue => true,
-            Sync::Done => !self.plain.ephemeral,
-            Sync::Failed => self.fails && !self.plain.ephemeral,
-        }
-    }
-
-    fn empty(&mut self) -> bool {
-        match self.stage.empty() {
-            Emptied::Done => {
-                self.plain.empty();
-                true
-            }
-            Emptied::Fault => self.fails && !self.plain.ephemeral,
-        }
-    }
-
-    // The channel is deleted, and made anew. Where the folder fails it stays.
-    fn delete(&mut self, rt: &impl Abort) -> bool {
-        if !self.stage.delete(rt) {
-            return self.fails && !self.plain.ephemeral;
-        }
-        self.plain.delete();
-        true
     }
 
     // The channel is flushed and opened again; an ephemeral one stays. After a fault the channel is made anew.
-    fn restart<L: Ledger>(
-        &mut self,
-        rt: &impl Abort,
-        scratch: &mut Scratch,
-        steps: &mut Steps<L>,
-    ) -> bool {
-        match self.stage.flush(scratch, steps) {
-            Flushed::Done if self.plain.ephemeral => true,
-            Flushed::Done => {
-                self.plain.restart();
-                self.stage.reopen(rt, self.fails)
+    fn restart(&mut self, rt: &impl Abort) -> bool {
+        let answer = self.stage.call(rt, &call_of(Does::Flush));
+        match answer.came {
+            Came::Done => self.stage.setup.name.ephemeral() || self.begin_next(rt),
+            _ => self.side.may_fail() && self.make_anew(rt),
+        }
+    }
+
+    // The next run begins: the channel is opened, and beside the whole broker with the pause that was kept.
+    fn begin_next(&mut self, rt: &impl Abort) -> bool {
+        let stage = &mut self.stage;
+        let fails = self.side.may_fail();
+        match &mut self.side {
+            Side::Listed(plain) => {
+                plain.restart();
+                stage.reopen(rt, fails)
             }
-            Flushed::Fault => {
-                self.plain.delete();
-                self.fails && !self.plain.ephemeral && self.stage.make_anew(rt)
+            Side::Possible(beside) => {
+                let paused = stage.channel.is_paused();
+                let begins = beside.begins(rt, &mut stage.folder) && stage.reopen(rt, fails);
+                stage.channel.pause(paused);
+                begins
             }
         }
     }
-}
 
-// Whether the channel counts what the list says.
-fn counts_agree(channel: &Channel, plain: &Plain) -> bool {
-    let counts = channel.counts();
-    let (queued, on_disk, in_flight, deferred) = places(counts);
-    let (plain_queued, plain_flying, plain_deferred) = plain.places();
-    channel.next_due() == plain.next_due()
-        && queued == u128::from(plain_queued)
-        && plain.may_be_behind(on_disk)
-        && in_flight == plain_flying
-        && deferred == plain_deferred
-        && events(counts) == (plain.joined, plain.requeued, plain.timed_out)
-}
-
-// Whether the channel tells of this client and each copy what the list says.
-fn agrees_on(channel: &Channel, plain: &Plain, who: Who) -> bool {
-    if channel.in_flight(who.client()) != plain.flying(who) {
-        return false;
+    // The channel is deleted and made anew.
+    fn make_anew(&mut self, rt: &impl Abort) -> bool {
+        let made = self.stage.make_anew(rt);
+        match &mut self.side {
+            Side::Listed(plain) => plain.delete(),
+            Side::Possible(beside) => {
+                let at = self.dice.moment();
+                channels::starts(beside, rt, at);
+            }
+        }
+        made
     }
-    for number in 0..NUMBERS {
-        if channel.look(who.client(), id_of(number)) != plain.look(who, number) {
+}
+
+// The call of a line, with what it draws.
+fn drawn(rt: &impl Abort, dice: &mut Dice, line: &str) -> Call {
+    let (word, names) = cut(line);
+    let (does, _) = kind_of(word).expect(rt, "a call");
+    let mut call = call_of(does);
+    dice.fill(rt, &mut call, names);
+    call
+}
+
+// Whether so many random calls of a run answer and tell what is right.
+fn holds<L: Ledger>(rt: &impl Abort, pair: &mut Pair<L>, calls: u64) -> bool {
+    for _ in 0..calls {
+        if !pair.step(rt) {
             return false;
         }
     }
     true
 }
 
-// Whether the list says what was given.
-fn was_given(
+// The first of these runs that doesn't hold with this seed, if any: of 170 calls beside the whole broker, which makes a little over 2,000 of each seed,
+// and of 2,000 beside a list.
+fn wrong_in<L: Ledger>(
     rt: &impl Abort,
-    plain: &mut Plain,
-    fails: bool,
-    who: Who,
-    now: u64,
-    settles: bool,
-    given: Given,
-) -> bool {
-    match given {
-        Given::Send(number, b'm', attempts) if settles => {
-            plain.send(rt, who, number, attempts, now)
-        }
-        Given::Send(number, b'm', attempts) => plain.may_send(who, number, attempts),
-        Given::Held(number) if settles => plain.hold(rt, who, number, now),
-        Given::Held(number) => plain.may_hold(who, number),
-        Given::Memory => panic!(rt; "memory"),
-        other => plain.is_why(fails, who, other),
-    }
-}
-
-// Whether the list says what came due.
-fn came_so(rt: &impl Abort, plain: &mut Plain, fails: bool, now: u64, came: Came) -> bool {
-    match came {
-        Came::TimedOut(number) => plain.time_out(rt, number, now),
-        Came::CameDue(number) => plain.come_due(rt, number, now),
-        Came::Fault(number) => fails && plain.stay_due(rt, number, now),
-        Came::Nothing => plain.first_due(now).is_none(),
-        Came::Other => false,
-    }
-}
-
-// Whether all random calls of a run answer and tell what the list says.
-fn holds<L: Ledger>(
-    rt: &impl Abort,
-    alloc: Global,
-    scratch: &mut Scratch,
+    pair: &mut Pair<L>,
+    rows: &[&'static str],
     seed: u64,
-    steps: &mut Steps<L>,
-) -> bool {
-    let mut pair = pair_of(rt, alloc, run_of(seed), seed);
-    let held = calls_hold(rt, &mut pair, scratch, steps);
-    let Pair {
-        stage,
-        plain: _plain,
-        fails: _,
-        dice: _,
-    } = pair;
-    end(stage);
-    held
-}
-
-fn calls_hold<L: Ledger>(
-    rt: &impl Abort,
-    pair: &mut Pair,
-    scratch: &mut Scratch,
-    steps: &mut Steps<L>,
-) -> bool {
-    for _ in 0..CALLS {
-        if !pair.step(rt, scratch, steps) {
-            return false;
+    is_listed: bool,
+) -> Option<&'static str> {
+    let calls = if is_listed { 2_000 } else { 170 };
+    for row in rows {
+        pair.begin(rt, row, seed, is_listed);
+        if !holds(rt, pair, calls) {
+            return Some(row);
         }
     }
-    true
+    None
 }
 
-// A channel in a folder of this seed, and the list beside it.
-fn pair_of(rt: &impl Abort, alloc: Global, run: &Run, seed: u64) -> Pair {
-    let mut dice = Dice::new(seed);
-    let folder = folder_of(rt, alloc, run, &mut dice, 80, 8_000);
-    let setup = Setup::new(rt, alloc, run.channel(), options_of(rt, alloc, run));
-    Pair {
-        stage: Stage::new(rt, setup, folder),
-        plain: Plain::new(alloc, run.ephemeral, run.memory),
-        fails: run.fails,
-        dice,
-    }
+// The run of a seed beside a list.
+fn listed_run(seed: u64) -> &'static str {
+    LISTED_RUNS[seed as usize % LISTED_RUNS.len()]
 }
 
-// The seed and the name of the first run that doesn't hold, if any.
+// The seed and the first run that doesn't hold, if any.
 fn first_wrong<L: Ledger>(
     rt: &impl Abort,
-    alloc: Global,
-    scratch: &mut Scratch,
-    steps: &mut Steps<L>,
+    pair: &mut Pair<L>,
+    is_listed: bool,
 ) -> Option<(u64, &'static str)> {
     for i in 0..SEEDS {
         let seed = i + 1;
-        if !holds(rt, alloc, scratch, seed, steps) {
-            return Some((seed, run_of(seed).name));
+        let wrong = if is_listed {
+            wrong_in(rt, pair, &[listed_run(seed)], seed, true)
+        } else {
+            wrong_in(rt, pair, all_runs(), seed, false)
+        };
+        if let Some(row) = wrong {
+            return Some((seed, row));
         }
     }
     None
@@ -432,19 +264,42 @@ fn first_wrong<L: Ledger>(
 fn wrong_run<R: Abort, L: Ledger>(
     rt: &R,
     alloc: Global,
+    is_listed: bool,
     blank: Blank,
 ) -> Option<(u64, &'static str)>
     requires name { blank.name ≡ L.name }
     requires parts { blank.parts ≡ L.parts }
     requires some { 0 < L.parts }
 {
-    let mut scratch = Scratch::new(alloc).expect(rt, "memory");
-    let mut steps: Steps<L> = Steps::new(blank);
-    first_wrong(rt, alloc, &mut scratch, &mut steps)
+    let steps: Steps<L> = Steps::new(blank);
+    let mut pair = pair_of(rt, alloc, steps);
+    let wrong = first_wrong(rt, &mut pair, is_listed);
+    let Pair {
+        stage,
+        side: _side,
+        dice: _,
+    } = pair;
+    end(stage);
+    wrong
+}
+
+// A pair for whatever begins.
+fn pair_of<L: Ledger>(rt: &impl Abort, alloc: Global, steps: Steps<L>) -> Pair<L> {
+    Pair {
+        stage: stage(rt, alloc, steps).expect(rt, "memory"),
+        side: Side::Listed(Plain::new(alloc, &run_of(rt, listed_run(1)))),
+        dice: Dice::new(1),
+    }
 }
 
 #[test]
-fn runs(rt: HostRuntime) {
-    let wrong = wrong_run::<_, Brand>(&rt, rt.alloc(), Blank::new(1));
+fn listed(rt: HostRuntime) {
+    let wrong = wrong_run::<_, Brand>(&rt, rt.alloc(), true, Blank::new(1));
+    assert_eq!(rt; wrong, None);
+}
+
+#[test]
+fn possible(rt: HostRuntime) {
+    let wrong = wrong_run::<_, Brand>(&rt, rt.alloc(), false, Blank::new(1));
     assert_eq!(rt; wrong, None);
 }

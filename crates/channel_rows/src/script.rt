@@ -1,251 +1,205 @@
 //! Scripts of calls of a channel over a folder in memory: what each call answers, what the channel counts then, and what its files have.
+//!
+//! A script is a text: its name, what it begins with, and behind a `:` its steps, with a `;` between them.
+//!
+//! It begins with a channel's name and how many queued copies are kept in memory; with the call of the folder that fails, and from which one of its
+//! kind up to which; and behind `with` with the lines of the metadata. The channel's clients asked for no message yet.
+//!
+//! A step is a call and behind `->` its answer, `done` where that isn't given. Copies are named by the numbers of their ids, and what may be left out
+//! is 0:
+//!
+//! - `offer` NUMBER LETTER DELAY AT ATTEMPTS, `give` CLIENT AT, `put-back` CLIENT AT (what was drawn), `finish` CLIENT NUMBER,
+//!   `touch` CLIENT NUMBER AT, `requeue` CLIENT NUMBER DELAY AT, `move` AT (what is due first is put back), `ready` CLIENT COUNT, `pause` on or off,
+//!   `come-again` (the second client leaves, and subscribes again), `sync`, `empty`, `delete` (and made anew), `flush`, `open` (in place of this one).
+//! - `done`, `fault` (the folder failed), `send` NUMBER LETTER ATTEMPTS, `held` NUMBER, `no-credit`, `paused`, `none-queued`, `not-yours` (the copy isn't
+//!   in flight with the client), `timed-out` NUMBER, `came-due` NUMBER, `stays` NUMBER (it is due, and the folder failed), `nothing` (is due), `not-due`
+//!   (a save), `bad-metadata`.
+//!
+//! Or it is a look at the channel: `look` CLIENT NUMBER with its answer, `next-due` with its moment or `none`, `places` (so many are queued, on disk, in
+//! flight and deferred), `events` (so many joined, were given back and timed out), `has` FILE PIECES (with nothing between them), `has-lines` FILE LINES,
+//! and `absent` FILE.
 
 ghost use Rattle.std.specs.Prelude.{◌≡◌, ◌<◌};
+ghost use Rattle.channel_core.specs.Made.{FitsRun};
 
-use crate::answers::{Came, Given, Offered, came_as, events, given_as, id_of, offered_as, places};
-use crate::calls::{Opened, Scratch, Setup, Stage, Who, defaults, end};
+use crate::calls::{call_in, client_named};
+use crate::stage::{Scratch, Stage, defaults, end, setup_of};
+use crate::words::{cut, halves, id, moment, number, part, same, words};
 use crate::{sending, storing};
-use backlog::Flushed;
-use channel_core::{Look, Requeue};
-use disk_queue::{Emptied, Sync};
-use nsq_base::Steps;
-use nsq_fakes::{Failing, MemFolder};
+use channel_core::{Channel, Look};
+use nsq_base::{Memory, Steps};
+use nsq_fakes::{Failing, FolderCall, MemFolder};
 use std::alloc::Global;
 use std::marker::Brand;
 use std::process::Abort;
 use std::sync::ledger::{Blank, Ledger};
 
-/// A channel whose clients asked for no message yet, and calls of it.
-pub struct Script {
-    pub name: &'static str,
-    pub channel: &'static [u8],
-    /// How many queued copies are kept in memory.
-    pub memory: u64,
-    /// The metadata that the folder has at first, where it isn't empty.
-    pub meta: Option<&'static [u8]>,
-    /// The calls of the folder that fail.
-    pub fails: &'static [Failing],
-    pub steps: &'static [Step],
+// Whether each step of a script answers what it says.
+fn holds<L: Ledger>(rt: &impl Abort, stage: &mut Stage<L>, script: &str) -> bool {
+    let (_, rest) = part(rt, script, "\n");
+    let (begun, steps) = part(rt, rest, ":");
+    begin(rt, stage, begun.trim()).expect(rt, "memory");
+    stage.channel.name() == stage.setup.name && steps_hold(rt, stage, steps)
 }
 
-/// A call, and what it answers. Copies are named by their ids' numbers; moments and delays are in nanoseconds, at most `MOST`.
-#[derive(Clone, Copy)]
-pub enum Step {
-    /// A message of this number and letter, with this delay, at this moment.
-    Offer(u8, u8, u64, u64, Offered),
-    /// One of which so many attempts were made joins.
-    Tried(u8, u8, u16),
-    Ready(Who, u32),
-    /// The second client leaves, and subscribes again.
-    ComeAgain,
-    /// What is drawn at this moment is settled.
-    Give(Who, u64, Given),
-    /// It is put back.
-    PutBack(Who, u64, Given),
-    Look(Who, u8, Look),
-    /// False and None where the copy isn't the client's.
-    Finish(Who, u8, bool),
-    Touch(Who, u8, u64, bool),
-    /// With this delay, at this moment.
-    Requeue(Who, u8, u64, u64, Option<Requeue>),
-    /// At this moment, which may be any.
-    Move(u64, Came),
-    /// The next copy is due then.
-    NextDue(Option<u64>),
-    Pause(bool),
-    /// So many are queued, on disk, in flight and deferred.
-    Places(u128, u128, u64, u64),
-    /// So many joined, were given back and timed out.
-    Events(u64, u64, u64),
-    Empty(Emptied),
-    Sync(Sync),
-    Flush(Flushed),
-    /// The channel is opened in the folder, in place of this one.
-    Open(Opened),
-    /// The channel is deleted, and made anew; false where the folder fails.
-    Delete(bool),
-    /// A file has these pieces, one behind the other.
-    Has(&'static str, &'static [&'static [u8]]),
-    /// The folder has no such file.
-    Absent(&'static str),
-}
-
-/// The latest moment, and the longest delay.
-pub const MOST: u64 = 1 << 62;
-
-// Where the metadata stands of the channel `c`.
-const META: &str = "t:c.diskqueue.meta.dat";
-
-// Whether each step answers what it says.
-fn holds<L: Ledger>(
-    rt: &impl Abort,
-    alloc: Global,
-    scratch: &mut Scratch,
-    script: &Script,
-    steps: &mut Steps<L>,
-) -> bool {
-    let options = defaults(alloc, script.memory).expect(rt, "memory");
-    let setup = Setup::new(rt, alloc, script.channel, options);
-    let mut stage = Stage::new(rt, setup, folder_of(rt, alloc, script));
-    let held = steps_hold(rt, &mut stage, scratch, script.steps, steps);
-    end(stage);
-    held
-}
-
-fn steps_hold<L: Ledger>(
-    rt: &impl Abort,
-    stage: &mut Stage,
-    scratch: &mut Scratch,
-    script: &[Step],
-    steps: &mut Steps<L>,
-) -> bool {
-    if stage.channel.name() != stage.setup.name {
-        return false;
-    }
-    for step in script {
-        if !step_holds(rt, stage, scratch, *step, steps) {
+fn steps_hold<L: Ledger>(rt: &impl Abort, stage: &mut Stage<L>, steps: &str) -> bool {
+    for step in steps.split(';') {
+        if !step_holds(rt, stage, step.trim()) {
             return false;
         }
     }
     true
 }
 
-// The folder that a script begins with.
-fn folder_of(rt: &impl Abort, alloc: Global, script: &Script) -> MemFolder {
-    let files = match script.meta {
-        Some(bytes) => meta_of(rt, alloc, bytes),
-        None => Vec::new(alloc),
-    };
-    let fails = script.fails.to_vec(alloc).expect(rt, "memory");
-    MemFolder::new(alloc, files, fails).expect(rt, "memory")
+/// A stage with a channel for whatever begins.
+pub fn stage<L: Ledger>(
+    rt: &impl Abort,
+    alloc: Global,
+    steps: Steps<L>,
+) -> Result<Stage<L>, Memory> {
+    let scratch = Scratch::new(alloc)?;
+    let folder = MemFolder::new(alloc, Vec::new(alloc), Vec::new(alloc))?;
+    let options = defaults(alloc, 0)?;
+    Stage::new(setup_of(rt, alloc, b"c", options), folder, scratch, steps)
 }
 
-// The file of these bytes under the metadata's name.
-fn meta_of(rt: &impl Abort, alloc: Global, bytes: &[u8]) -> Vec<(String, Vec<u8>)> {
+/// Begins with a new channel, as these words say.
+pub fn begin<L: Ledger>(rt: &impl Abort, stage: &mut Stage<L>, begun: &str) -> Result<(), Memory> {
+    let alloc = stage.setup.alloc;
+    let (begun, meta) = halves(begun, " with ");
+    let [channel, memory, call, from, to] = words(begun);
+    let fails = fails_of(rt, alloc, call, from, to);
+    let folder = MemFolder::new(alloc, meta_of(rt, alloc, meta), fails)?;
+    let options = defaults(alloc, number(rt, memory))?;
+    stage.renew(setup_of(rt, alloc, channel.as_bytes(), options), folder)
+}
+
+// The calls of the folder that fail.
+fn fails_of(rt: &impl Abort, alloc: Global, call: &str, from: &str, to: &str) -> Vec<Failing> {
+    let mut fails = Vec::new(alloc);
+    let call = match call {
+        "" | "none" => return fails,
+        "write" => FolderCall::WriteAt,
+        "read" => FolderCall::ReadAt,
+        "any" => FolderCall::Any,
+        _ => panic!(rt; "{} is no call of a folder", call),
+    };
+    let failing = Failing {
+        call,
+        from: number(rt, from),
+        to: number(rt, to),
+    };
+    fails.push(failing).expect(rt, "memory");
+    fails
+}
+
+// The metadata of the channel `c` with these lines; no file without a line.
+fn meta_of(rt: &impl Abort, alloc: Global, lines: &str) -> Vec<(String, Vec<u8>)> {
     let mut files = Vec::new(alloc);
-    let name = String::from_str(alloc, META).expect(rt, "memory");
-    let bytes = bytes.to_vec(alloc).expect(rt, "memory");
-    files.push((name, bytes)).expect(rt, "memory");
+    if !lines.is_empty() {
+        let name = String::from_str(alloc, "t:c.diskqueue.meta.dat").expect(rt, "memory");
+        files
+            .push((name, bytes_of(rt, alloc, lines)))
+            .expect(rt, "memory");
+    }
     files
 }
 
+fn bytes_of(rt: &impl Abort, alloc: Global, lines: &str) -> Vec<u8> {
+    let mut bytes = Vec::new(alloc);
+    for line in lines.split(' ') {
+        bytes
+            .extend_from_slice(line.as_bytes())
+            .expect(rt, "memory");
+        bytes.push(b'\n').expect(rt, "memory");
+    }
+    bytes
+}
+
 // Whether a step answers what it says.
-fn step_holds<L: Ledger>(
-    rt: &impl Abort,
-    stage: &mut Stage,
-    scratch: &mut Scratch,
-    step: Step,
-    steps: &mut Steps<L>,
-) -> bool {
-    match step {
-        Step::Offer(number, letter, delay, now, answer) => {
-            joins(rt, stage, scratch, (number, letter, 0, delay), now, steps) == answer
-        }
-        Step::Tried(number, letter, attempts) => {
-            joins(rt, stage, scratch, (number, letter, attempts, 0), 0, steps) == Offered::Done
-        }
-        Step::ComeAgain => {
-            stage.come_again(rt);
-            true
-        }
-        Step::Open(answer) => stage.open(rt) == answer,
-        Step::Delete(done) => stage.delete(rt) == done,
-        other => call_holds(stage, scratch, other, steps),
+fn step_holds<L: Ledger>(rt: &impl Abort, stage: &mut Stage<L>, step: &str) -> bool {
+    let (what, wanted) = step_of(step);
+    let (word, taken) = cut(what);
+    match call_in(rt, word, taken) {
+        Some(call) => stage.call(rt, &call).is(rt, wanted),
+        None => shows(rt, stage, what, wanted),
     }
 }
 
-// Offers a message of this number, letter, attempts and delay.
-fn joins<L: Ledger>(
-    rt: &impl Abort,
-    stage: &mut Stage,
-    scratch: &mut Scratch,
-    (number, letter, attempts, delay): (u8, u8, u16, u64),
-    now: u64,
-    steps: &mut Steps<L>,
-) -> Offered {
-    let id = id_of(number);
-    let delay = delay.min(MOST);
-    let took = stage.join(
-        rt,
-        scratch,
-        id,
-        letter,
-        attempts,
-        delay,
-        now.min(MOST),
-        steps,
-    );
-    offered_as(took, id, delay)
-}
-
-// Whether a call that moves a copy answers what it says.
-fn call_holds<L: Ledger>(
-    stage: &mut Stage,
-    scratch: &mut Scratch,
-    step: Step,
-    steps: &mut Steps<L>,
-) -> bool {
-    match step {
-        Step::Give(who, now, answer) => {
-            given_as(stage.give(scratch, who, now.min(MOST), true, steps)) == answer
-        }
-        Step::PutBack(who, now, answer) => {
-            given_as(stage.give(scratch, who, now.min(MOST), false, steps)) == answer
-        }
-        Step::Finish(who, number, yours) => stage.finish(who, id_of(number), steps) == yours,
-        Step::Touch(who, number, now, yours) => {
-            stage.touch(who, id_of(number), now.min(MOST), steps) == yours
-        }
-        Step::Requeue(who, number, delay, now, answer) => {
-            let delay = delay.min(MOST);
-            stage.requeue(scratch, who, id_of(number), delay, now.min(MOST), steps) == answer
-        }
-        Step::Move(now, answer) => {
-            let (moved, told) = stage.move_due(scratch, now, steps);
-            told && came_as(moved) == answer
-        }
-        Step::Flush(answer) => stage.flush(scratch, steps) == answer,
-        other => shows(stage, other),
+/// A step's call, and its answer.
+pub fn step_of(step: &str) -> (&str, &str) {
+    match step.split_once(" -> ") {
+        Some(parts) => parts,
+        None => (step, "done"),
     }
 }
 
-// Whether a call that moves no single copy answers what it says.
-fn shows(stage: &mut Stage, step: Step) -> bool {
-    match step {
-        Step::Ready(who, count) => {
-            stage.ready(who, count);
-            true
-        }
-        Step::Look(who, number, answer) => {
-            stage.channel.look(who.client(), id_of(number)) == answer
-        }
-        Step::NextDue(moment) => stage.channel.next_due() == moment,
-        Step::Pause(on) => {
-            stage.channel.pause(on);
-            stage.channel.is_paused() == on
-        }
-        Step::Places(queued, on_disk, in_flight, deferred) => {
-            places(stage.channel.counts()) == (queued, on_disk, in_flight, deferred)
-        }
-        Step::Events(joined, requeued, timed_out) => {
-            events(stage.channel.counts()) == (joined, requeued, timed_out)
-        }
-        Step::Empty(answer) => stage.empty() == answer,
-        Step::Sync(answer) => stage.sync() == answer,
-        Step::Has(name, pieces) => match stage.folder.file(name) {
-            Some(bytes) => is_made_of(bytes, pieces),
-            None => false,
-        },
-        Step::Absent(name) => stage.folder.file(name).is_none(),
-        _ => false,
+/// Whether the channel and its folder show what a look says.
+pub fn shows<L: Ledger>(rt: &impl Abort, stage: &Stage<L>, what: &str, wanted: &str) -> bool {
+    let (word, rest) = cut(what);
+    match word {
+        "look" => is_look(rt, &stage.channel, rest, wanted),
+        "next-due" => is_next_due(rt, stage.channel.next_due(), wanted),
+        "places" => are_places(rt, &stage.channel, rest),
+        "events" => are_events(rt, &stage.channel, rest),
+        "has" => has_file(&stage.folder, rest, b""),
+        "has-lines" => has_file(&stage.folder, rest, b"\n"),
+        "absent" => stage.folder.file(rest).is_none(),
+        _ => panic!(rt; "{} is no step", word),
     }
 }
 
-// Whether the bytes are these pieces, one behind the other.
-fn is_made_of(bytes: &[u8], pieces: &[&[u8]]) -> bool {
+fn is_look(rt: &impl Abort, channel: &Channel, what: &str, wanted: &str) -> bool {
+    let (client, of) = cut(what);
+    let look = match channel.look(client_named(rt, client).client(), id(rt, of)) {
+        Look::Yours => "yours",
+        Look::NotYours => "not-yours",
+        Look::NotInFlight => "not-in-flight",
+    };
+    same(look, wanted)
+}
+
+fn is_next_due(rt: &impl Abort, due: Option<u64>, wanted: &str) -> bool {
+    match due {
+        Some(due) => due == moment(rt, wanted),
+        None => same(wanted, "none"),
+    }
+}
+
+// Whether so many are queued, on disk, in flight and deferred.
+fn are_places(rt: &impl Abort, channel: &Channel, wanted: &str) -> bool {
+    let counts = channel.counts();
+    let [queued, on_disk, in_flight, deferred, more] = words(wanted);
+    counts.depth == u128::from(number(rt, queued))
+        && counts.backend_depth == u128::from(number(rt, on_disk))
+        && counts.in_flight_count == number(rt, in_flight)
+        && counts.deferred_count == number(rt, deferred)
+        && more.is_empty()
+}
+
+// Whether so many joined, were given back and timed out.
+fn are_events(rt: &impl Abort, channel: &Channel, wanted: &str) -> bool {
+    let counts = channel.counts();
+    let [joined, requeued, timed_out, more, _] = words(wanted);
+    counts.message_count == number(rt, joined)
+        && counts.requeue_count == number(rt, requeued)
+        && counts.timeout_count == number(rt, timed_out)
+        && more.is_empty()
+}
+
+// Whether the file has these pieces, each with this end, one behind the other.
+fn has_file(folder: &MemFolder, what: &str, end: &[u8]) -> bool {
+    let (name, pieces) = cut(what);
+    match folder.file(name) {
+        Some(bytes) => is_made_of(bytes, pieces, end),
+        None => false,
+    }
+}
+
+fn is_made_of(bytes: &[u8], pieces: &str, end: &[u8]) -> bool {
     let mut rest = bytes;
-    for piece in pieces {
-        match rest.strip_prefix(*piece) {
+    for piece in pieces.split(' ') {
+        match behind(rest, piece.as_bytes(), end) {
             Some(left) => rest = left,
             None => return false,
         }
@@ -253,63 +207,47 @@ fn is_made_of(bytes: &[u8], pieces: &[&[u8]]) -> bool {
     rest.is_empty()
 }
 
-// The name of the first of these scripts that doesn't hold, if any.
+// What stands behind a piece and its end.
+fn behind<'a>(bytes: &'a [u8], piece: &[u8], end: &[u8]) -> Option<&'a [u8]> {
+    bytes.strip_prefix(piece)?.strip_prefix(end)
+}
+
+// The first of these scripts that doesn't hold, if any.
 fn first_wrong<L: Ledger>(
     rt: &impl Abort,
-    alloc: Global,
-    scratch: &mut Scratch,
-    scripts: &'static [Script],
-    steps: &mut Steps<L>,
-) -> Option<&'static str> {
-    for script in scripts {
-        if !holds(rt, alloc, scratch, script, steps) {
-            return Some(script.name);
-        }
-    }
-    None
-}
-
-// The name of the first script of these tables that doesn't hold, if any.
-fn first_of_all<L: Ledger>(
-    rt: &impl Abort,
-    alloc: Global,
-    scratch: &mut Scratch,
-    tables: &[&'static [Script]],
-    steps: &mut Steps<L>,
+    stage: &mut Stage<L>,
+    tables: &[&'static [&'static str]],
 ) -> Option<&'static str> {
     for scripts in tables {
-        let wrong = first_wrong(rt, alloc, scratch, scripts, steps);
-        if wrong.is_some() {
-            return wrong;
+        for script in *scripts {
+            if !holds(rt, stage, script) {
+                return Some(script);
+            }
         }
     }
     None
 }
 
-// The same with room for the longest message.
 fn wrong_script<R: Abort, L: Ledger>(
     rt: &R,
     alloc: Global,
-    tables: &[&'static [Script]],
+    tables: &[&'static [&'static str]],
     blank: Blank,
 ) -> Option<&'static str>
     requires name { blank.name ≡ L.name }
     requires parts { blank.parts ≡ L.parts }
     requires some { 0 < L.parts }
 {
-    let mut scratch = Scratch::new(alloc).expect(rt, "memory");
-    let mut steps: Steps<L> = Steps::new(blank);
-    first_of_all(rt, alloc, &mut scratch, tables, &mut steps)
+    let steps: Steps<L> = Steps::new(blank);
+    let mut stage = stage(rt, alloc, steps).expect(rt, "memory");
+    let wrong = first_wrong(rt, &mut stage, tables);
+    end(stage);
+    wrong
 }
 
 #[test]
 fn rows(rt: HostRuntime) {
-    let tables = [
-        sending::giving(),
-        sending::settling(),
-        storing::joining(),
-        storing::dropping(),
-    ];
+    let tables = [sending::rows(), storing::rows()];
     let wrong = wrong_script::<_, Brand>(&rt, rt.alloc(), &tables, Blank::new(1));
     assert_eq!(rt; wrong, None);
 }

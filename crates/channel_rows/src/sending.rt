@@ -1,362 +1,71 @@
 //! Scripts of what is sent, and of what becomes of it.
 
-use crate::answers::{Came, Given, Offered};
-use crate::calls::{FIRST_TIME, MINUTE, SECOND_TIME, Who};
-use crate::script::{MOST, Script, Step};
-use channel_core::{Look, Requeue};
-use nsq_fakes::{Failing, FolderCall};
-
-/// Who gets a copy, and what is drawn.
-pub fn giving() -> &'static [Script] {
-    &GIVING
+/// Who gets a copy, and what is drawn; what a client does with a copy that it has, and what comes due.
+pub fn rows() -> &'static [&'static str] {
+    &ROWS
 }
 
-/// What a client does with a copy that it has, and what comes due.
-pub fn settling() -> &'static [Script] {
-    &SETTLING
-}
-
-static GIVING: [Script; 9] = [
-    Script {
-        name: "a client without credit gets none",
-        channel: b"c",
-        memory: 3,
-        meta: None,
-        fails: &[],
-        steps: &[
-            Step::Offer(0, b'x', 0, 0, Offered::Done),
-            Step::Give(Who::First, 0, Given::NoCredit),
-            Step::Ready(Who::First, 1),
-            Step::Give(Who::First, 0, Given::Send(0, b'x', 1)),
-            Step::Look(Who::Second, 0, Look::NotYours),
-            Step::Look(Who::First, 0, Look::Yours),
-            Step::Look(Who::First, 1, Look::NotInFlight),
-            Step::Move(FIRST_TIME - 1, Came::Nothing),
-            Step::Move(FIRST_TIME, Came::TimedOut(0)),
-            Step::Look(Who::First, 0, Look::NotInFlight),
-            Step::Places(1, 0, 0, 0),
-            Step::Events(1, 0, 1),
-        ],
-    },
-    Script {
-        name: "credit comes before a pause, and a pause before what is queued",
-        channel: b"c",
-        memory: 3,
-        meta: None,
-        fails: &[],
-        steps: &[
-            Step::Pause(true),
-            Step::Give(Who::First, 0, Given::NoCredit),
-            Step::Ready(Who::First, 1),
-            Step::Give(Who::First, 0, Given::Paused),
-            Step::Offer(0, b'x', 0, 0, Offered::Done),
-            Step::Give(Who::First, 0, Given::Paused),
-            Step::Pause(false),
-            Step::Give(Who::First, 0, Given::Send(0, b'x', 1)),
-            Step::Give(Who::First, 0, Given::NoCredit),
-            Step::Ready(Who::First, 2),
-            Step::Give(Who::First, 0, Given::NoneQueued),
-        ],
-    },
-    Script {
-        name: "a finished copy makes room for another",
-        channel: b"c",
-        memory: 3,
-        meta: None,
-        fails: &[],
-        steps: &[
-            Step::Offer(0, b'a', 0, 0, Offered::Done),
-            Step::Offer(1, b'b', 0, 0, Offered::Done),
-            Step::Offer(2, b'c', 0, 0, Offered::Done),
-            Step::Ready(Who::First, 2),
-            Step::Give(Who::First, 0, Given::Send(0, b'a', 1)),
-            Step::Give(Who::First, 0, Given::Send(1, b'b', 1)),
-            Step::Give(Who::First, 0, Given::NoCredit),
-            Step::Finish(Who::First, 0, true),
-            Step::Give(Who::First, 0, Given::Send(2, b'c', 1)),
-            Step::Finish(Who::First, 0, false),
-        ],
-    },
-    Script {
-        name: "a lower count holds from then on",
-        channel: b"c",
-        memory: 1,
-        meta: None,
-        fails: &[],
-        steps: &[
-            Step::Offer(0, b'a', 0, 0, Offered::Done),
-            Step::Offer(1, b'b', 0, 0, Offered::Done),
-            Step::Offer(2, b'c', 0, 0, Offered::Done),
-            Step::Ready(Who::First, 2),
-            Step::Give(Who::First, 0, Given::Send(0, b'a', 1)),
-            Step::Give(Who::First, 0, Given::Send(1, b'b', 1)),
-            Step::Ready(Who::First, 1),
-            Step::Finish(Who::First, 0, true),
-            Step::Give(Who::First, 0, Given::NoCredit),
-            Step::Finish(Who::First, 1, true),
-            Step::Give(Who::First, 0, Given::Send(2, b'c', 1)),
-        ],
-    },
-    Script {
-        name: "a copy whose id is in flight is held back",
-        channel: b"c",
-        memory: 3,
-        meta: None,
-        fails: &[],
-        steps: &[
-            Step::Ready(Who::First, 2),
-            Step::Offer(0, b'x', 0, 0, Offered::Done),
-            Step::Give(Who::First, 0, Given::Send(0, b'x', 1)),
-            Step::Offer(0, b'y', 0, 0, Offered::Done),
-            Step::PutBack(Who::First, 0, Given::Held(0)),
-            Step::Places(1, 0, 1, 0),
-            Step::Give(Who::First, 0, Given::Held(0)),
-            Step::Places(0, 0, 1, 1),
-            Step::Finish(Who::First, 0, true),
-            Step::Move(MINUTE - 1, Came::Nothing),
-            Step::Move(MINUTE, Came::CameDue(0)),
-            Step::Give(Who::First, MINUTE, Given::Send(0, b'y', 1)),
-        ],
-    },
-    Script {
-        name: "a held back copy waits for the time of the options, whoever it came up for",
-        channel: b"c",
-        memory: 3,
-        meta: None,
-        fails: &[],
-        steps: &[
-            Step::Ready(Who::Second, 2),
-            Step::Offer(0, b'x', 0, 0, Offered::Done),
-            Step::Give(Who::Second, 0, Given::Send(0, b'x', 1)),
-            Step::Offer(0, b'y', 0, 0, Offered::Done),
-            Step::Give(Who::Second, 5, Given::Held(0)),
-            Step::Finish(Who::Second, 0, true),
-            Step::Move(MINUTE + 4, Came::Nothing),
-            Step::Move(MINUTE + 5, Came::CameDue(0)),
-        ],
-    },
-    Script {
-        name: "what is put back has the attempts that it had",
-        channel: b"c",
-        memory: 1,
-        meta: None,
-        fails: &[],
-        steps: &[
-            Step::Ready(Who::First, 2),
-            Step::Offer(0, b'x', 0, 0, Offered::Done),
-            Step::Offer(1, b'y', 0, 0, Offered::Done),
-            Step::Places(2, 1, 0, 0),
-            Step::PutBack(Who::First, 0, Given::Send(0, b'x', 1)),
-            Step::Places(2, 1, 0, 0),
-            Step::Give(Who::First, 0, Given::Send(0, b'x', 1)),
-            Step::PutBack(Who::First, 0, Given::Send(1, b'y', 1)),
-            Step::Give(Who::First, 0, Given::Send(1, b'y', 1)),
-            Step::Places(0, 0, 2, 0),
-        ],
-    },
-    Script {
-        name: "attempts stop at 65535",
-        channel: b"c",
-        memory: 1,
-        meta: None,
-        fails: &[],
-        steps: &[
-            Step::Ready(Who::First, 1),
-            Step::Tried(0, b'x', 65534),
-            Step::Give(Who::First, 0, Given::Send(0, b'x', 65535)),
-            Step::Requeue(Who::First, 0, 0, 0, Some(Requeue::Done)),
-            Step::PutBack(Who::First, 0, Given::Send(0, b'x', 65535)),
-            Step::Give(Who::First, 0, Given::Send(0, b'x', 65535)),
-        ],
-    },
-    Script {
-        name: "a fault gives none and leaves all",
-        channel: b"c",
-        memory: 0,
-        meta: None,
-        fails: &[Failing {
-            call: FolderCall::ReadAt,
-            from: 0,
-            to: 1,
-        }],
-        steps: &[
-            Step::Ready(Who::First, 1),
-            Step::Offer(0, b'x', 0, 0, Offered::Done),
-            Step::Give(Who::First, 0, Given::Fault),
-            Step::Places(1, 1, 0, 0),
-            Step::Give(Who::First, 0, Given::Send(0, b'x', 1)),
-            Step::Places(0, 0, 1, 0),
-        ],
-    },
-];
-
-static SETTLING: [Script; 8] = [
-    Script {
-        name: "what is given back at once is queued, and after a delay deferred",
-        channel: b"c",
-        memory: 3,
-        meta: None,
-        fails: &[],
-        steps: &[
-            Step::Ready(Who::First, 2),
-            Step::Offer(0, b'a', 0, 0, Offered::Done),
-            Step::Offer(1, b'b', 0, 0, Offered::Done),
-            Step::Give(Who::First, 0, Given::Send(0, b'a', 1)),
-            Step::Give(Who::First, 0, Given::Send(1, b'b', 1)),
-            Step::Ready(Who::First, 0),
-            Step::Requeue(Who::First, 0, 0, 0, Some(Requeue::Done)),
-            Step::Requeue(Who::First, 1, 60 * MINUTE, 0, Some(Requeue::Done)),
-            Step::Requeue(Who::First, 1, 0, 0, None),
-            Step::Places(1, 0, 0, 1),
-            Step::Events(2, 2, 0),
-            Step::Move(60 * MINUTE - 1, Came::Nothing),
-            Step::Move(60 * MINUTE, Came::CameDue(1)),
-            Step::Places(2, 0, 0, 0),
-            Step::Ready(Who::Second, 2),
-            Step::Give(Who::Second, 0, Given::Send(0, b'a', 2)),
-            Step::Give(Who::Second, 0, Given::Send(1, b'b', 2)),
-        ],
-    },
-    Script {
-        name: "a copy that can't be given back stays in flight",
-        channel: b"c",
-        memory: 0,
-        meta: None,
-        fails: &[Failing {
-            call: FolderCall::WriteAt,
-            from: 1,
-            to: 2,
-        }],
-        steps: &[
-            Step::Ready(Who::First, 1),
-            Step::Offer(0, b'x', 0, 0, Offered::Done),
-            Step::Give(Who::First, 0, Given::Send(0, b'x', 1)),
-            Step::Requeue(Who::First, 0, 0, 0, Some(Requeue::Fault)),
-            Step::Look(Who::First, 0, Look::Yours),
-            Step::Places(0, 0, 1, 0),
-            Step::Events(1, 0, 0),
-            Step::Requeue(Who::First, 0, 0, 0, Some(Requeue::Done)),
-            Step::Look(Who::First, 0, Look::NotInFlight),
-        ],
-    },
-    Script {
-        name: "what was touched is due later, and no later than so long after its sending",
-        channel: b"c",
-        memory: 3,
-        meta: None,
-        fails: &[],
-        steps: &[
-            Step::Ready(Who::First, 1),
-            Step::Offer(0, b'x', 0, 0, Offered::Done),
-            Step::Give(Who::First, 0, Given::Send(0, b'x', 1)),
-            Step::Touch(Who::First, 0, FIRST_TIME - 1, true),
-            Step::Touch(Who::First, 1, 0, false),
-            Step::Move(2 * FIRST_TIME - 2, Came::Nothing),
-            Step::Touch(Who::First, 0, 60 * MINUTE, true),
-            Step::Move(15 * MINUTE - 1, Came::Nothing),
-            Step::Move(15 * MINUTE, Came::TimedOut(0)),
-        ],
-    },
-    Script {
-        name: "another client's copy is neither finished, touched nor given back",
-        channel: b"c",
-        memory: 3,
-        meta: None,
-        fails: &[],
-        steps: &[
-            Step::Ready(Who::Second, 1),
-            Step::Offer(0, b'x', 0, 0, Offered::Done),
-            Step::Give(Who::Second, 0, Given::Send(0, b'x', 1)),
-            Step::Finish(Who::First, 0, false),
-            Step::Touch(Who::First, 0, 0, false),
-            Step::Requeue(Who::First, 0, 0, 0, None),
-            Step::Look(Who::Second, 0, Look::Yours),
-            Step::Places(0, 0, 1, 0),
-            Step::Finish(Who::Second, 0, true),
-            Step::Places(0, 0, 0, 0),
-            Step::Events(1, 0, 0),
-        ],
-    },
-    Script {
-        name: "the copies of a client that left stay in flight",
-        channel: b"c",
-        memory: 3,
-        meta: None,
-        fails: &[],
-        steps: &[
-            Step::Ready(Who::Second, 1),
-            Step::Offer(0, b'x', 0, 0, Offered::Done),
-            Step::Give(Who::Second, 0, Given::Send(0, b'x', 1)),
-            Step::ComeAgain,
-            Step::Give(Who::Second, 0, Given::NoCredit),
-            Step::Look(Who::Second, 0, Look::Yours),
-            Step::Ready(Who::Second, 1),
-            Step::Give(Who::Second, 0, Given::NoCredit),
-            Step::Move(SECOND_TIME - 1, Came::Nothing),
-            Step::Move(SECOND_TIME, Came::TimedOut(0)),
-            Step::Give(Who::Second, SECOND_TIME, Given::Send(0, b'x', 2)),
-        ],
-    },
-    Script {
-        name: "a copy that timed out can't be finished, and is sent again",
-        channel: b"c",
-        memory: 1,
-        meta: None,
-        fails: &[],
-        steps: &[
-            Step::Ready(Who::First, 1),
-            Step::Offer(0, b'x', 0, 0, Offered::Done),
-            Step::Give(Who::First, 0, Given::Send(0, b'x', 1)),
-            Step::Move(FIRST_TIME, Came::TimedOut(0)),
-            Step::Finish(Who::First, 0, false),
-            Step::Move(2 * FIRST_TIME, Came::Nothing),
-            Step::Give(Who::First, FIRST_TIME, Given::Send(0, b'x', 2)),
-            Step::Places(0, 0, 1, 0),
-        ],
-    },
-    Script {
-        name: "those in flight come due before deferred ones, each by its moment",
-        channel: b"c",
-        memory: 3,
-        meta: None,
-        fails: &[],
-        steps: &[
-            Step::Ready(Who::First, 2),
-            Step::Offer(0, b'a', 0, 0, Offered::Done),
-            Step::Offer(1, b'b', 0, 0, Offered::Done),
-            Step::Give(Who::First, 5, Given::Send(0, b'a', 1)),
-            Step::Give(Who::First, 4, Given::Send(1, b'b', 1)),
-            Step::Offer(2, b'c', 7, 0, Offered::Done),
-            Step::Offer(3, b'd', 6, 0, Offered::Done),
-            Step::Offer(4, b'e', 6, 0, Offered::Done),
-            Step::NextDue(Some(6)),
-            Step::Move(FIRST_TIME + 5, Came::TimedOut(1)),
-            Step::Move(FIRST_TIME + 5, Came::TimedOut(0)),
-            Step::Move(FIRST_TIME + 5, Came::CameDue(3)),
-            Step::Move(FIRST_TIME + 5, Came::CameDue(4)),
-            Step::NextDue(Some(7)),
-            Step::Move(FIRST_TIME + 5, Came::CameDue(2)),
-            Step::Move(FIRST_TIME + 5, Came::Nothing),
-            Step::NextDue(None),
-            Step::Places(5, 2, 0, 0),
-        ],
-    },
-    Script {
-        name: "due moments are sums, however late",
-        channel: b"c",
-        memory: 3,
-        meta: None,
-        fails: &[],
-        steps: &[
-            Step::Ready(Who::First, 1),
-            Step::Offer(0, b'x', 0, MOST, Offered::Done),
-            Step::Give(Who::First, MOST, Given::Send(0, b'x', 1)),
-            Step::Move(MOST + FIRST_TIME - 1, Came::Nothing),
-            Step::Touch(Who::First, 0, MOST, true),
-            Step::Move(MOST + FIRST_TIME, Came::TimedOut(0)),
-            Step::Offer(1, b'y', MOST, MOST, Offered::Done),
-            Step::Move(2 * MOST - 1, Came::Nothing),
-            Step::Move(2 * MOST, Came::CameDue(1)),
-        ],
-    },
+static ROWS: [&'static str; 17] = [
+    "a client without credit gets none
+        c 3: offer 0 x -> done; give first -> no-credit; ready first 1; give first -> send 0 x 1; look second 0 -> not-yours;
+        look first 0 -> yours; look first 1 -> not-in-flight; move 60s-1 -> nothing; move 60s -> timed-out 0;
+        look first 0 -> not-in-flight; places 1 0 0 0; events 1 0 1",
+    "credit comes before a pause, and a pause before what is queued
+        c 3: pause on; give first -> no-credit; ready first 1; give first -> paused; offer 0 x -> done; give first -> paused;
+        pause off; give first -> send 0 x 1; give first -> no-credit; ready first 2; give first -> none-queued",
+    "a finished copy makes room for another
+        c 3: offer 0 a -> done; offer 1 b -> done; offer 2 c -> done; ready first 2; give first -> send 0 a 1;
+        give first -> send 1 b 1; give first -> no-credit; finish first 0 -> done; give first -> send 2 c 1;
+        finish first 0 -> not-yours",
+    "a lower count holds from then on
+        c 1: offer 0 a -> done; offer 1 b -> done; offer 2 c -> done; ready first 2; give first -> send 0 a 1;
+        give first -> send 1 b 1; ready first 1; finish first 0 -> done; give first -> no-credit; finish first 1 -> done;
+        give first -> send 2 c 1",
+    "a copy whose id is in flight is held back
+        c 3: ready first 2; offer 0 x -> done; give first -> send 0 x 1; offer 0 y -> done; put-back first -> held 0;
+        places 1 0 1 0; give first -> held 0; places 0 0 1 1; finish first 0 -> done; move 60s-1 -> nothing;
+        move 60s -> came-due 0; give first 60s -> send 0 y 1",
+    "a held back copy waits for the time of the options, whoever it came up for
+        c 3: ready second 2; offer 0 x -> done; give second -> send 0 x 1; offer 0 y -> done; give second 5 -> held 0;
+        finish second 0 -> done; move 60s+4 -> nothing; move 60s+5 -> came-due 0",
+    "what is put back has the attempts that it had
+        c 1: ready first 2; offer 0 x -> done; offer 1 y -> done; places 2 1 0 0; put-back first -> send 0 x 1; places 2 1 0 0;
+        give first -> send 0 x 1; put-back first -> send 1 y 1; give first -> send 1 y 1; places 0 0 2 0",
+    "attempts stop at 65535
+        c 1: ready first 1; offer 0 x 0 0 65534 -> done; give first -> send 0 x 65535; requeue first 0 -> done;
+        put-back first -> send 0 x 65535; give first -> send 0 x 65535",
+    "a fault gives none and leaves all
+        c 0 read 0 1: ready first 1; offer 0 x -> done; give first -> fault; places 1 1 0 0; give first -> send 0 x 1;
+        places 0 0 1 0",
+    "what is given back at once is queued, and after a delay deferred
+        c 3: ready first 2; offer 0 a -> done; offer 1 b -> done; give first -> send 0 a 1; give first -> send 1 b 1;
+        ready first 0; requeue first 0 -> done; requeue first 1 3600s -> done; requeue first 1 -> not-yours; places 1 0 0 1;
+        events 2 2 0; move 3600s-1 -> nothing; move 3600s -> came-due 1; places 2 0 0 0; ready second 2;
+        give second -> send 0 a 2; give second -> send 1 b 2",
+    "a copy that can't be given back stays in flight
+        c 0 write 1 2: ready first 1; offer 0 x -> done; give first -> send 0 x 1; requeue first 0 -> fault;
+        look first 0 -> yours; places 0 0 1 0; events 1 0 0; requeue first 0 -> done; look first 0 -> not-in-flight",
+    "what was touched is due later, and no later than so long after its sending
+        c 3: ready first 1; offer 0 x -> done; give first -> send 0 x 1; touch first 0 60s-1 -> done; touch first 1 -> not-yours;
+        move 120s-2 -> nothing; touch first 0 3600s -> done; move 900s-1 -> nothing; move 900s -> timed-out 0",
+    "another client's copy is neither finished, touched nor given back
+        c 3: ready second 1; offer 0 x -> done; give second -> send 0 x 1; finish first 0 -> not-yours;
+        touch first 0 -> not-yours; requeue first 0 -> not-yours; look second 0 -> yours; places 0 0 1 0; finish second 0 -> done;
+        places 0 0 0 0; events 1 0 0",
+    "the copies of a client that left stay in flight
+        c 3: ready second 1; offer 0 x -> done; give second -> send 0 x 1; come-again; give second -> no-credit;
+        look second 0 -> yours; ready second 1; give second -> no-credit; move 30s-1 -> nothing; move 30s -> timed-out 0;
+        give second 30s -> send 0 x 2",
+    "a copy that timed out can't be finished, and is sent again
+        c 1: ready first 1; offer 0 x -> done; give first -> send 0 x 1; move 60s -> timed-out 0; finish first 0 -> not-yours;
+        move 120s -> nothing; give first 60s -> send 0 x 2; places 0 0 1 0",
+    "those in flight come due before deferred ones, each by its moment
+        c 3: ready first 2; offer 0 a -> done; offer 1 b -> done; give first 5 -> send 0 a 1; give first 4 -> send 1 b 1;
+        offer 2 c 7 -> done; offer 3 d 6 -> done; offer 4 e 6 -> done; next-due -> 6; move 60s+5 -> timed-out 1;
+        move 60s+5 -> timed-out 0; move 60s+5 -> came-due 3; move 60s+5 -> came-due 4; next-due -> 7; move 60s+5 -> came-due 2;
+        move 60s+5 -> nothing; next-due -> none; places 5 2 0 0",
+    "due moments are sums, however late
+        c 3: ready first 1; offer 0 x 0 most -> done; give first most -> send 0 x 1; move most+60s-1 -> nothing;
+        touch first 0 most -> done; move most+60s -> timed-out 0; offer 1 y most most -> done; move most+most-1 -> nothing;
+        move most+most -> came-due 1",
 ];

@@ -1,384 +1,65 @@
 //! Scripts of what joins a channel, and of what becomes of all its copies.
 
-use crate::answers::{Came, Given, Offered};
-use crate::calls::{FIRST_TIME, MINUTE, Opened, Who};
-use crate::script::{Script, Step};
-use backlog::Flushed;
-use channel_core::{Look, Requeue};
-use disk_queue::{Emptied, Sync};
-use nsq_fakes::{Failing, FolderCall};
-
-// The first write of the folder fails.
-const WRITE_FAILS: Failing = Failing {
-    call: FolderCall::WriteAt,
-    from: 0,
-    to: 1,
-};
-
-// The second one does.
-const SECOND_WRITE_FAILS: Failing = Failing {
-    call: FolderCall::WriteAt,
-    from: 1,
-    to: 2,
-};
-
-/// What joins, and a folder that fails.
-pub fn joining() -> &'static [Script] {
-    &JOINING
+/// What joins, and a folder that fails; copies that are dropped, and a stop and a start.
+pub fn rows() -> &'static [&'static str] {
+    &ROWS
 }
 
-/// Copies that are dropped, and a stop and a start.
-pub fn dropping() -> &'static [Script] {
-    &DROPPING
-}
-
-static JOINING: [Script; 12] = [
-    Script {
-        name: "an offered delay counts from its joining",
-        channel: b"c",
-        memory: 3,
-        meta: None,
-        fails: &[],
-        steps: &[
-            Step::Offer(0, b'x', 5, 10, Offered::Done),
-            Step::Places(0, 0, 0, 1),
-            Step::Events(1, 0, 0),
-            Step::Move(14, Came::Nothing),
-            Step::Move(15, Came::CameDue(0)),
-            Step::Places(1, 0, 0, 0),
-        ],
-    },
-    Script {
-        name: "what finds the ring full goes to disk",
-        channel: b"c",
-        memory: 1,
-        meta: None,
-        fails: &[],
-        steps: &[
-            Step::Ready(Who::First, 3),
-            Step::Offer(0, b'a', 0, 0, Offered::Done),
-            Step::Offer(1, b'b', 0, 0, Offered::Done),
-            Step::Offer(2, b'c', 0, 0, Offered::Done),
-            Step::Places(3, 2, 0, 0),
-            Step::Events(3, 0, 0),
-            Step::Give(Who::First, 0, Given::Send(0, b'a', 1)),
-            Step::Give(Who::First, 0, Given::Send(1, b'b', 1)),
-            Step::Give(Who::First, 0, Given::Send(2, b'c', 1)),
-        ],
-    },
-    Script {
-        name: "without room all go to disk",
-        channel: b"c",
-        memory: 0,
-        meta: None,
-        fails: &[],
-        steps: &[
-            Step::Offer(0, b'x', 0, 0, Offered::Done),
-            Step::Places(1, 1, 0, 0),
-            Step::Ready(Who::First, 1),
-            Step::Give(Who::First, 0, Given::Send(0, b'x', 1)),
-            Step::Places(0, 0, 1, 0),
-        ],
-    },
-    Script {
-        name: "in an ephemeral channel it is dropped, and not counted",
-        channel: b"c#ephemeral",
-        memory: 1,
-        meta: None,
-        fails: &[],
-        steps: &[
-            Step::Ready(Who::First, 3),
-            Step::Offer(0, b'a', 0, 0, Offered::Done),
-            Step::Offer(1, b'b', 0, 0, Offered::Done),
-            Step::Offer(2, b'c', 1, 0, Offered::Done),
-            Step::Places(1, 0, 0, 1),
-            Step::Events(2, 0, 0),
-            Step::Move(1, Came::CameDue(2)),
-            Step::Places(1, 0, 0, 0),
-            Step::Give(Who::First, 0, Given::Send(0, b'a', 1)),
-            Step::Give(Who::First, 0, Given::NoneQueued),
-        ],
-    },
-    Script {
-        name: "an ephemeral channel without room keeps none but deferred ones",
-        channel: b"c#ephemeral",
-        memory: 0,
-        meta: None,
-        fails: &[],
-        steps: &[
-            Step::Ready(Who::First, 1),
-            Step::Offer(0, b'a', 0, 0, Offered::Done),
-            Step::Give(Who::First, 0, Given::NoneQueued),
-            Step::Offer(1, b'b', 5, 0, Offered::Done),
-            Step::Places(0, 0, 0, 1),
-            Step::Move(5, Came::CameDue(1)),
-            Step::Places(0, 0, 0, 0),
-            Step::Events(1, 0, 0),
-        ],
-    },
-    Script {
-        name: "a copy that is given back to a full ephemeral channel is dropped",
-        channel: b"c#ephemeral",
-        memory: 1,
-        meta: None,
-        fails: &[],
-        steps: &[
-            Step::Ready(Who::First, 2),
-            Step::Offer(0, b'a', 0, 0, Offered::Done),
-            Step::Give(Who::First, 0, Given::Send(0, b'a', 1)),
-            Step::Offer(1, b'b', 0, 0, Offered::Done),
-            Step::Requeue(Who::First, 0, 0, 0, Some(Requeue::Done)),
-            Step::Look(Who::First, 0, Look::NotInFlight),
-            Step::Places(1, 0, 0, 0),
-            Step::Events(2, 1, 0),
-        ],
-    },
-    Script {
-        name: "a fault hands the message back",
-        channel: b"c",
-        memory: 0,
-        meta: None,
-        fails: &[WRITE_FAILS],
-        steps: &[
-            Step::Offer(0, b'a', 0, 0, Offered::Fault),
-            Step::Places(0, 0, 0, 0),
-            Step::Events(0, 0, 0),
-            Step::Offer(0, b'a', 0, 0, Offered::Done),
-            Step::Places(1, 1, 0, 0),
-            Step::Events(1, 0, 0),
-        ],
-    },
-    Script {
-        name: "what comes due stays where the folder fails",
-        channel: b"c",
-        memory: 0,
-        meta: None,
-        fails: &[WRITE_FAILS],
-        steps: &[
-            Step::Offer(0, b'a', 5, 0, Offered::Done),
-            Step::Move(5, Came::Fault(0)),
-            Step::Places(0, 0, 0, 1),
-            Step::Move(5, Came::CameDue(0)),
-            Step::Places(1, 1, 0, 0),
-        ],
-    },
-    Script {
-        name: "what timed out stays in flight where the folder fails",
-        channel: b"c",
-        memory: 0,
-        meta: None,
-        fails: &[SECOND_WRITE_FAILS],
-        steps: &[
-            Step::Ready(Who::First, 1),
-            Step::Offer(0, b'a', 0, 0, Offered::Done),
-            Step::Give(Who::First, 0, Given::Send(0, b'a', 1)),
-            Step::Move(FIRST_TIME, Came::Fault(0)),
-            Step::Look(Who::First, 0, Look::Yours),
-            Step::Events(1, 0, 0),
-            Step::Move(FIRST_TIME, Came::TimedOut(0)),
-            Step::Places(1, 1, 0, 0),
-            Step::Events(1, 0, 1),
-        ],
-    },
-    Script {
-        name: "an emptying that the folder refuses leaves all",
-        channel: b"c",
-        memory: 0,
-        meta: None,
-        fails: &[SECOND_WRITE_FAILS],
-        steps: &[
-            Step::Offer(0, b'a', 0, 0, Offered::Done),
-            Step::Offer(1, b'b', 5, 0, Offered::Done),
-            Step::Empty(Emptied::Fault),
-            Step::Places(1, 1, 0, 1),
-            Step::Empty(Emptied::Done),
-            Step::Places(0, 0, 0, 0),
-        ],
-    },
-    Script {
-        name: "a deletion that the folder refuses leaves all",
-        channel: b"c",
-        memory: 0,
-        meta: None,
-        fails: &[SECOND_WRITE_FAILS],
-        steps: &[
-            Step::Ready(Who::First, 1),
-            Step::Offer(0, b'a', 0, 0, Offered::Done),
-            Step::Offer(1, b'b', 5, 0, Offered::Done),
-            Step::Delete(false),
-            Step::Places(1, 1, 0, 1),
-            Step::Give(Who::First, 0, Given::Send(0, b'a', 1)),
-            Step::Delete(true),
-            Step::Places(0, 0, 0, 0),
-        ],
-    },
-    Script {
-        name: "a save that failed is due still",
-        channel: b"c",
-        memory: 0,
-        meta: None,
-        fails: &[SECOND_WRITE_FAILS],
-        steps: &[
-            Step::Sync(Sync::NotDue),
-            Step::Offer(0, b'a', 0, 0, Offered::Done),
-            Step::Sync(Sync::Failed),
-            Step::Sync(Sync::Done),
-            Step::Sync(Sync::NotDue),
-            Step::Places(1, 1, 0, 0),
-        ],
-    },
-];
-
-static DROPPING: [Script; 8] = [
-    Script {
-        name: "emptying drops all copies, wherever they are",
-        channel: b"c",
-        memory: 1,
-        meta: None,
-        fails: &[],
-        steps: &[
-            Step::Ready(Who::First, 2),
-            Step::Offer(0, b'a', 0, 0, Offered::Done),
-            Step::Give(Who::First, 0, Given::Send(0, b'a', 1)),
-            Step::Offer(1, b'b', 0, 0, Offered::Done),
-            Step::Offer(2, b'c', 0, 0, Offered::Done),
-            Step::Offer(3, b'd', 5, 0, Offered::Done),
-            Step::Places(2, 1, 1, 1),
-            Step::Empty(Emptied::Done),
-            Step::Places(0, 0, 0, 0),
-            Step::Events(4, 0, 0),
-            Step::Look(Who::First, 0, Look::NotInFlight),
-            Step::Move(MINUTE, Came::Nothing),
-            Step::Give(Who::First, 0, Given::NoneQueued),
-        ],
-    },
-    Script {
-        name: "a deletion drops all, and removes the files",
-        channel: b"c",
-        memory: 0,
-        meta: None,
-        fails: &[],
-        steps: &[
-            Step::Ready(Who::First, 1),
-            Step::Offer(0, b'a', 0, 0, Offered::Done),
-            Step::Offer(1, b'b', 0, 0, Offered::Done),
-            Step::Give(Who::First, 0, Given::Send(0, b'a', 1)),
-            Step::Delete(true),
-            Step::Absent("t:c.diskqueue.000000.dat"),
-            Step::Absent("t:c.diskqueue.meta.dat"),
-            Step::Places(0, 0, 0, 0),
-            Step::Events(0, 0, 0),
-            Step::Open(Opened::Done),
-            Step::Places(0, 0, 0, 0),
-        ],
-    },
-    Script {
-        name: "a stop writes the ring, those in flight and the deferred ones",
-        channel: b"c",
-        memory: 3,
-        meta: None,
-        fails: &[],
-        steps: &[
-            Step::Ready(Who::First, 2),
-            Step::Offer(0, b'a', 0, 0, Offered::Done),
-            Step::Offer(1, b'b', 0, 0, Offered::Done),
-            Step::Offer(2, b'c', 0, 0, Offered::Done),
-            Step::Give(Who::First, 0, Given::Send(0, b'a', 1)),
-            Step::Give(Who::First, 0, Given::Send(1, b'b', 1)),
-            Step::Requeue(Who::First, 0, 5_000_000_000, 0, Some(Requeue::Done)),
-            Step::Flush(Flushed::Done),
-            Step::Has(
-                "t:c.diskqueue.000000.dat",
-                &[
-                    b"\0\0\0\x1b\0\0\0\0\0\0\0\x07\0\x000000010000000002c",
-                    b"\0\0\0\x1b\0\0\0\0\0\0\0\x07\0\x010000010000000001b",
-                    b"\0\0\0\x1b\0\0\0\0\0\0\0\x07\0\x010000010000000000a",
-                ],
-            ),
-            Step::Has("t:c.diskqueue.meta.dat", &[b"3\n0,0\n0,93\n"]),
-            Step::Open(Opened::Done),
-            Step::Places(3, 3, 0, 0),
-            Step::Events(0, 0, 0),
-            Step::Ready(Who::First, 3),
-            Step::Give(Who::First, 0, Given::Send(2, b'c', 1)),
-            Step::Give(Who::First, 0, Given::Send(1, b'b', 2)),
-            Step::Give(Who::First, 0, Given::Send(0, b'a', 2)),
-        ],
-    },
-    Script {
-        name: "a stop keeps the order where the ring is short",
-        channel: b"c",
-        memory: 1,
-        meta: None,
-        fails: &[],
-        steps: &[
-            Step::Ready(Who::First, 2),
-            Step::Offer(0, b'a', 0, 0, Offered::Done),
-            Step::Give(Who::First, 2, Given::Send(0, b'a', 1)),
-            Step::Offer(1, b'b', 0, 0, Offered::Done),
-            Step::Give(Who::First, 1, Given::Send(1, b'b', 1)),
-            Step::Offer(2, b'c', 0, 0, Offered::Done),
-            Step::Offer(3, b'd', 7, 0, Offered::Done),
-            Step::Flush(Flushed::Done),
-            Step::Open(Opened::Done),
-            Step::Ready(Who::First, 4),
-            Step::Give(Who::First, 0, Given::Send(2, b'c', 1)),
-            Step::Give(Who::First, 0, Given::Send(1, b'b', 2)),
-            Step::Give(Who::First, 0, Given::Send(0, b'a', 2)),
-            Step::Give(Who::First, 0, Given::Send(3, b'd', 1)),
-        ],
-    },
-    Script {
-        name: "a stop of an ephemeral channel writes nothing",
-        channel: b"c#ephemeral",
-        memory: 1,
-        meta: None,
-        fails: &[],
-        steps: &[
-            Step::Offer(0, b'a', 0, 0, Offered::Done),
-            Step::Offer(1, b'b', 5, 0, Offered::Done),
-            Step::Flush(Flushed::Done),
-            Step::Sync(Sync::NotDue),
-            Step::Places(1, 0, 0, 1),
-            Step::Absent("t:c#ephemeral.diskqueue.000000.dat"),
-            Step::Absent("t:c#ephemeral.diskqueue.meta.dat"),
-            Step::Open(Opened::Done),
-            Step::Places(0, 0, 0, 0),
-        ],
-    },
-    Script {
-        name: "a stop that the folder refuses",
-        channel: b"c",
-        memory: 1,
-        meta: None,
-        fails: &[WRITE_FAILS],
-        steps: &[
-            Step::Offer(0, b'a', 0, 0, Offered::Done),
-            Step::Flush(Flushed::Fault),
-        ],
-    },
-    Script {
-        name: "an opening that the folder refuses, and another",
-        channel: b"c",
-        memory: 1,
-        meta: Some(b"0\n0,0\n0,0\n"),
-        fails: &[Failing {
-            call: FolderCall::Any,
-            from: 0,
-            to: 1,
-        }],
-        steps: &[
-            Step::Open(Opened::Fault),
-            Step::Open(Opened::Done),
-            Step::Places(0, 0, 0, 0),
-        ],
-    },
-    Script {
-        name: "metadata outside its grammar",
-        channel: b"c",
-        memory: 1,
-        meta: Some(b"1\n0\n"),
-        fails: &[],
-        steps: &[Step::Open(Opened::BadMeta)],
-    },
+static ROWS: [&'static str; 20] = [
+    "an offered delay counts from its joining
+        c 3: offer 0 x 5 10 -> done; places 0 0 0 1; events 1 0 0; move 14 -> nothing; move 15 -> came-due 0; places 1 0 0 0",
+    "what finds the ring full goes to disk
+        c 1: ready first 3; offer 0 a -> done; offer 1 b -> done; offer 2 c -> done; places 3 2 0 0; events 3 0 0;
+        give first -> send 0 a 1; give first -> send 1 b 1; give first -> send 2 c 1",
+    "without room all go to disk
+        c 0: offer 0 x -> done; places 1 1 0 0; ready first 1; give first -> send 0 x 1; places 0 0 1 0",
+    "in an ephemeral channel it is dropped, and not counted
+        c#ephemeral 1: ready first 3; offer 0 a -> done; offer 1 b -> done; offer 2 c 1 -> done; places 1 0 0 1; events 2 0 0;
+        move 1 -> came-due 2; places 1 0 0 0; give first -> send 0 a 1; give first -> none-queued",
+    "an ephemeral channel without room keeps none but deferred ones
+        c#ephemeral 0: ready first 1; offer 0 a -> done; give first -> none-queued; offer 1 b 5 -> done; places 0 0 0 1;
+        move 5 -> came-due 1; places 0 0 0 0; events 1 0 0",
+    "a copy that is given back to a full ephemeral channel is dropped
+        c#ephemeral 1: ready first 2; offer 0 a -> done; give first -> send 0 a 1; offer 1 b -> done; requeue first 0 -> done;
+        look first 0 -> not-in-flight; places 1 0 0 0; events 2 1 0",
+    "a fault hands the message back
+        c 0 write 0 1: offer 0 a -> fault; places 0 0 0 0; events 0 0 0; offer 0 a -> done; places 1 1 0 0; events 1 0 0",
+    "what comes due stays where the folder fails
+        c 0 write 0 1: offer 0 a 5 -> done; move 5 -> stays 0; places 0 0 0 1; move 5 -> came-due 0; places 1 1 0 0",
+    "what timed out stays in flight where the folder fails
+        c 0 write 1 2: ready first 1; offer 0 a -> done; give first -> send 0 a 1; move 60s -> stays 0; look first 0 -> yours;
+        events 1 0 0; move 60s -> timed-out 0; places 1 1 0 0; events 1 0 1",
+    "an emptying that the folder refuses leaves all
+        c 0 write 1 2: offer 0 a -> done; offer 1 b 5 -> done; empty -> fault; places 1 1 0 1; empty -> done; places 0 0 0 0",
+    "a deletion that the folder refuses leaves all
+        c 0 write 1 2: ready first 1; offer 0 a -> done; offer 1 b 5 -> done; delete -> fault; places 1 1 0 1;
+        give first -> send 0 a 1; delete -> done; places 0 0 0 0",
+    "a save that failed is due still
+        c 0 write 1 2: sync -> not-due; offer 0 a -> done; sync -> fault; sync -> done; sync -> not-due; places 1 1 0 0",
+    "emptying drops all copies, wherever they are
+        c 1: ready first 2; offer 0 a -> done; give first -> send 0 a 1; offer 1 b -> done; offer 2 c -> done;
+        offer 3 d 5 -> done; places 2 1 1 1; empty -> done; places 0 0 0 0; events 4 0 0; look first 0 -> not-in-flight;
+        move 60s -> nothing; give first -> none-queued",
+    "a deletion drops all, and removes the files
+        c 0: ready first 1; offer 0 a -> done; offer 1 b -> done; give first -> send 0 a 1; delete -> done;
+        absent t:c.diskqueue.000000.dat; absent t:c.diskqueue.meta.dat; places 0 0 0 0; events 0 0 0; open -> done; places 0 0 0 0",
+    "a stop writes the ring, those in flight and the deferred ones
+        c 3: ready first 2; offer 0 a -> done; offer 1 b -> done; offer 2 c -> done; give first -> send 0 a 1;
+        give first -> send 1 b 1; requeue first 0 5s -> done; flush -> done;
+        has t:c.diskqueue.000000.dat \0\0\0\x1b\0\0\0\0\0\0\0\x07\0\x000000010000000002c \0\0\0\x1b\0\0\0\0\0\0\0\x07\0\x010000010000000001b \0\0\0\x1b\0\0\0\0\0\0\0\x07\0\x010000010000000000a;
+        has-lines t:c.diskqueue.meta.dat 3 0,0 0,93; open -> done; places 3 3 0 0; events 0 0 0; ready first 3;
+        give first -> send 2 c 1; give first -> send 1 b 2; give first -> send 0 a 2",
+    "a stop keeps the order where the ring is short
+        c 1: ready first 2; offer 0 a -> done; give first 2 -> send 0 a 1; offer 1 b -> done; give first 1 -> send 1 b 1;
+        offer 2 c -> done; offer 3 d 7 -> done; flush -> done; open -> done; ready first 4; give first -> send 2 c 1;
+        give first -> send 1 b 2; give first -> send 0 a 2; give first -> send 3 d 1",
+    "a stop of an ephemeral channel writes nothing
+        c#ephemeral 1: offer 0 a -> done; offer 1 b 5 -> done; flush -> done; sync -> not-due; places 1 0 0 1;
+        absent t:c#ephemeral.diskqueue.000000.dat; absent t:c#ephemeral.diskqueue.meta.dat; open -> done; places 0 0 0 0",
+    "a stop that the folder refuses
+        c 1 write 0 1: offer 0 a -> done; flush -> fault",
+    "an opening that the folder refuses, and another
+        c 1 any 0 1 with 0 0,0 0,0: open -> fault; open -> done; places 0 0 0 0",
+    "metadata outside its grammar
+        c 1 with 1 0: open -> bad-metadata",
 ];

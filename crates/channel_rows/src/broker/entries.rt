@@ -10,13 +10,11 @@ use v2_frame::Command;
 // The connection that asks over HTTP.
 const ASKING: u64 = 9;
 
-/// An act of the daemon.
-pub fn of_daemon(at: u64, act: Act) -> Entry {
-    Entry { conn: 0, at, act }
-}
+/// The daemon, in place of a client.
+pub const DAEMON: u64 = 0;
 
-/// An act of a client.
-pub fn of_client(conn: u64, at: u64, act: Act) -> Entry {
+/// An act of a client or the daemon.
+pub fn entry(conn: u64, at: u64, act: Act) -> Entry {
     Entry { conn, at, act }
 }
 

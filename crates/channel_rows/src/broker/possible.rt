@@ -131,36 +131,24 @@ fn have_same_copies(a: &ChannelState, b: &ChannelState) -> bool {
 fn times(copy: &MessageCopy, others: &[MessageCopy]) -> u64 {
     let mut count: u64 = 0;
     for other in others {
-        if is_place(copy.place, other.place) && is_message(&copy.message, &other.message) {
+        if told_of(copy.place) == told_of(other.place)
+            && is_message(&copy.message, &other.message)
+        {
             count = count.saturating_add(1);
         }
     }
     count
 }
 
-// Whether two places are the same.
-fn is_place(a: Place, b: Place) -> bool {
-    number_of(a) == number_of(b) && moments_of(a) == moments_of(b)
-}
-
-// Which place it is, and with which client.
-fn number_of(place: Place) -> (u64, u64) {
+// Which place it is, with which client, when it is due, and since when.
+fn told_of(place: Place) -> (u64, u64, u128, u64) {
     match place {
-        Place::Queued => (0, 0),
-        Place::InFlight { client, .. } => (1, client),
-        Place::Deferred { .. } => (2, 0),
-        Place::Finished => (3, 0),
-        Place::Emptied => (4, 0),
-        Place::Dropped => (5, 0),
-    }
-}
-
-// When it is due, and since when.
-fn moments_of(place: Place) -> (u128, u64) {
-    match place {
-        Place::InFlight { due, sent, .. } => (due, sent),
-        Place::Deferred { due } => (due, 0),
-        _ => (0, 0),
+        Place::Queued => (0, 0, 0, 0),
+        Place::InFlight { client, due, sent } => (1, client, due, sent),
+        Place::Deferred { due } => (2, 0, due, 0),
+        Place::Finished => (3, 0, 0, 0),
+        Place::Emptied => (4, 0, 0, 0),
+        Place::Dropped => (5, 0, 0, 0),
     }
 }
 

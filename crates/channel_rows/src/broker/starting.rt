@@ -1,6 +1,6 @@
 //! The states that runs begin with.
 
-use crate::calls::{FIRST_TIME, SECOND_TIME};
+use crate::stage::{FIRST_TIME, SECOND_TIME};
 use broker_plain::Phase;
 use broker_state::{ChannelState, Client, Route, State, TopicState};
 use nsq_base::{Body, Chan, Options, Topic};

@@ -1,14 +1,18 @@
-//! Random calls of a topic's queue.
+//! Random calls of a topic's queue, beside the plain program of the whole broker.
 
 ghost use Rattle.std.specs.Prelude.{◌≡◌, All, length};
 ghost use Rattle.backlog.specs.Seen.{FitsLimit};
 ghost use Rattle.topic_core.specs.Seen.{IsSettled};
 
-use crate::broker::runs::{all_runs, dice_of, folder};
-use crate::broker::topics_beside::{Beside, lettered};
-use crate::calls::Scratch;
+use crate::broker::beside::Beside;
+use crate::broker::topics_beside::{
+    beside, changes, channels, deletes, ids, lettered, may_lose, pays, publishes, tells, took,
+};
+use crate::calls::{Call, Does, call_of};
 use crate::dice::Dice;
-use crate::runs::{Run, SEEDS, options_of};
+use crate::runs::{Run, SEEDS, all_runs, folder_of, options_of, run_of};
+use crate::stage::Scratch;
+use crate::words::cut;
 use backlog::{Flushed, PutAll};
 use disk_queue::{Emptied, Sync};
 use nsq_base::{Body, Chan, MsgId, Options, Topic};
@@ -20,7 +24,13 @@ use topic_core::{DropTopic, Head, TopicQueue};
 use v2_frame::Message;
 
 // How many calls each run of a seed makes: with 12 runs a little over 2,000 of each seed.
-const CALLS: usize = 170;
+const CALLS: u64 = 170;
+
+// The random calls, and what each draws; before each its weight, of 64. Up to three messages are put together, a message is drawn where one may be taken
+// (and taken or put back), a channel gets its copy where it is owed one, and a channel is deleted, or made where it isn't there.
+const LINES: &str =
+    "21 put count delay moment; 14 take takes moment; 16 pay moment letter; 4 change moment letter; 3 pause on moment; 2 sync;
+    1 empty moment; 1 delete moment; 2 restart";
 
 // A topic's queue in a folder, and the plain program beside it.
 #[derive(Drop)]
@@ -37,30 +47,48 @@ struct Pair {
 impl Pair {
     // One random call. Whether it answers, and the topic tells afterwards, what is so in a possible state.
     fn step(&mut self, rt: &impl Abort, scratch: &mut Scratch) -> bool {
-        self.call(rt, scratch) && self.beside.tells(rt, &self.topic)
+        let (word, names) = cut(self.dice.one_of(rt, LINES, 64));
+        let mut call = call_of(Does::Restart);
+        self.dice.fill(rt, &mut call, names);
+        self.call(rt, scratch, word, &call) && tells(&mut self.beside, rt, &self.topic)
     }
 
-    fn call(&mut self, rt: &impl Abort, scratch: &mut Scratch) -> bool {
-        match self.dice.below(64) {
-            0..=20 => self.put(rt, scratch),
-            21..=34 => self.take(rt, scratch),
-            35..=50 => self.pay(rt),
-            51..=54 => self.change_channel(rt),
-            55..=57 => self.pause(rt),
-            58..=59 => self.sync(),
-            60 => self.empty(rt),
-            61 => self.delete(rt),
-            _ => self.restart(rt, scratch),
+    fn call(&mut self, rt: &impl Abort, scratch: &mut Scratch, word: &str, call: &Call) -> bool {
+        match word {
+            "put" => self.put(rt, scratch, call),
+            "take" => self.take(rt, scratch, call),
+            "pay" => self.pay(rt, call.at, lettered(rt, call.letter)),
+            "change" => self.change(rt, call.at, lettered(rt, call.letter)),
+            "restart" => self.restart(rt, scratch),
+            _ => self.call_whole(rt, word, call),
+        }
+    }
+
+    fn call_whole(&mut self, rt: &impl Abort, word: &str, call: &Call) -> bool {
+        match word {
+            "pause" => {
+                self.topic.pause(call.on);
+                self.beside.pauses(rt, call.at, call.on)
+            }
+            "sync" => match self.topic.sync(&mut self.folder) {
+                Sync::NotDue => true,
+                Sync::Done => !self.topic.name().ephemeral(),
+                Sync::Failed => self.beside.may_fail(),
+            },
+            "empty" => {
+                let done = matches!(self.topic.empty(&mut self.folder), Emptied::Done);
+                self.beside.empties(rt, call.at, done)
+            }
+            "delete" => self.delete(rt, call.at),
+            _ => panic!(rt; "{} is no call", word),
         }
     }
 
     // Up to three messages are put together.
-    fn put(&mut self, rt: &impl Abort, scratch: &mut Scratch) -> bool {
-        let count = self.dice.below(4);
-        let delay = self.dice.delay();
-        let at = self.dice.moment();
-        match self.put_all(rt, scratch, count, at, delay) {
-            Some(done) => self.beside.publishes(rt, at, delay, count, done),
+    fn put(&mut self, rt: &impl Abort, scratch: &mut Scratch, call: &Call) -> bool {
+        let count = u64::from(call.count);
+        match self.put_all(rt, scratch, count, call) {
+            Some(done) => publishes(&mut self.beside, rt, call.at, call.delay, count, done),
             None => false,
         }
     }
@@ -71,11 +99,10 @@ impl Pair {
         rt: &impl Abort,
         scratch: &mut Scratch,
         count: u64,
-        at: u64,
-        delay: u64,
+        call: &Call,
     ) -> Option<bool> {
-        let (epoch, used) = self.beside.ids();
-        let mut messages = messages_of(rt, self.alloc, epoch, used, count, at, delay);
+        let (epoch, used) = ids(&self.beside);
+        let mut messages = messages_of(rt, self.alloc, epoch, used, count, call.at, call.delay);
         let answer = self
             .topic
             .put_all(&mut self.folder, &mut scratch.bytes, &mut messages);
@@ -88,17 +115,15 @@ impl Pair {
     }
 
     // A message is drawn where one may be taken, and taken or put back.
-    fn take(&mut self, rt: &impl Abort, scratch: &mut Scratch) -> bool {
-        let settles = self.dice.below(4) != 0;
-        let at = self.dice.moment();
-        let Some(channels) = self.beside.channels(rt) else {
+    fn take(&mut self, rt: &impl Abort, scratch: &mut Scratch, call: &Call) -> bool {
+        let Some(channels) = channels(&self.beside, rt) else {
             return true;
         };
         if channels.is_empty() || self.topic.head().is_some() {
             return channels.is_empty();
         }
-        let (answer, told) = self.draw(rt, scratch, &channels, settles);
-        self.beside.took(rt, at, answer, told, settles)
+        let (answer, told) = self.draw(rt, scratch, &channels, call.on);
+        took(&mut self.beside, rt, call.at, answer, told, call.on)
     }
 
     // Draws a message for these channels, where there are some and no head is there, and takes it, or puts it back. The message that was
@@ -126,9 +151,7 @@ impl Pair {
     }
 
     // A channel gets its copy, where it is owed one.
-    fn pay(&mut self, rt: &impl Abort) -> bool {
-        let at = self.dice.moment();
-        let channel = one_of_three(rt, self.dice.below(3));
+    fn pay(&mut self, rt: &impl Abort, at: u64, channel: Chan) -> bool {
         if !self.topic.owed().contains(&channel) {
             return true;
         }
@@ -136,48 +159,20 @@ impl Pair {
             return false;
         };
         self.topic.paid(channel);
-        self.beside.pays(rt, at, channel, message)
+        pays(&mut self.beside, rt, at, channel, message)
     }
 
     // A channel is deleted, or made where it isn't there.
-    fn change_channel(&mut self, rt: &impl Abort) -> bool {
-        let at = self.dice.moment();
-        let channel = one_of_three(rt, self.dice.below(3));
-        if !self.beside.may_lose(channel) {
-            return self.beside.makes(rt, at, channel);
+    fn change(&mut self, rt: &impl Abort, at: u64, channel: Chan) -> bool {
+        let loses = may_lose(&self.beside, channel);
+        if loses {
+            self.topic.forget_channel(channel);
         }
-        self.topic.forget_channel(channel);
-        self.beside.loses(rt, at, channel)
-    }
-
-    // More often a pause ends than one begins.
-    fn pause(&mut self, rt: &impl Abort) -> bool {
-        let on = self.dice.below(4) == 0;
-        let at = self.dice.moment();
-        self.topic.pause(on);
-        self.beside.pauses(rt, at, on)
-    }
-
-    fn sync(&mut self) -> bool {
-        match self.topic.sync(&mut self.folder) {
-            Sync::NotDue => true,
-            Sync::Done => !self.topic.name().ephemeral(),
-            Sync::Failed => self.beside.may_fail(),
-        }
-    }
-
-    fn empty(&mut self, rt: &impl Abort) -> bool {
-        let at = self.dice.moment();
-        let done = match self.topic.empty(&mut self.folder) {
-            Emptied::Done => true,
-            Emptied::Fault => false,
-        };
-        self.beside.empties(rt, at, done)
+        changes(&mut self.beside, rt, at, channel, loses)
     }
 
     // The topic is deleted, and made anew. Where the folder fails it stays.
-    fn delete(&mut self, rt: &impl Abort) -> bool {
-        let at = self.dice.moment();
+    fn delete(&mut self, rt: &impl Abort, at: u64) -> bool {
         let fresh = TopicQueue::fresh(self.alloc, self.topic.name(), &self.options);
         let old = std::mem::replace(&mut self.topic, fresh.expect(rt, "memory"));
         let done = match old.delete(&mut self.folder) {
@@ -187,7 +182,7 @@ impl Pair {
                 false
             }
         };
-        self.beside.deletes(rt, at, done)
+        deletes(&mut self.beside, rt, at, done)
     }
 
     // A durable topic is flushed and opened again.
@@ -254,18 +249,6 @@ fn head_of(rt: &impl Abort, alloc: Global, topic: &TopicQueue) -> Option<Message
     }
 }
 
-// One of three channels.
-fn one_of_three(rt: &impl Abort, number: u64) -> Chan {
-    lettered(
-        rt,
-        match number {
-            0 => b'a',
-            1 => b'b',
-            _ => b'c',
-        },
-    )
-}
-
 // So many messages behind this number, with the ids that come next: the body of each is its number.
 fn messages_of(
     rt: &impl Abort,
@@ -315,13 +298,13 @@ fn calls_hold(rt: &impl Abort, pair: &mut Pair, scratch: &mut Scratch) -> bool {
 
 // A topic's queue in a folder, and the plain program beside it.
 fn pair_of(rt: &impl Abort, alloc: Global, run: &Run, seed: u64) -> Pair {
-    let mut dice = dice_of(seed, run);
+    let mut dice = run.dice(seed);
     let name: &[u8] = if run.ephemeral { b"t#ephemeral" } else { b"t" };
     let name = Topic::read(name).expect(rt, "a topic");
     let options = options_of(rt, alloc, run);
     Pair {
-        folder: folder(rt, alloc, run, &mut dice),
-        beside: Beside::new(rt, alloc, &options, name, run.fails),
+        folder: folder_of(rt, alloc, run, &mut dice, 32, 400),
+        beside: beside(rt, alloc, &options, name, run.fails),
         topic: TopicQueue::fresh(alloc, name, &options).expect(rt, "memory"),
         alloc,
         options,
@@ -329,31 +312,18 @@ fn pair_of(rt: &impl Abort, alloc: Global, run: &Run, seed: u64) -> Pair {
     }
 }
 
-// The name of the first run that doesn't hold with this seed, if any.
-fn wrong_in(
-    rt: &impl Abort,
-    alloc: Global,
-    scratch: &mut Scratch,
-    seed: u64,
-) -> Option<&'static str> {
-    for run in all_runs() {
-        if !holds(rt, alloc, scratch, run, seed) {
-            return Some(run.name);
-        }
-    }
-    None
-}
-
-// The seed and the name of the first run that doesn't hold, if any.
+// The seed and the first run that doesn't hold, if any.
 fn first_wrong(
     rt: &impl Abort,
     alloc: Global,
     scratch: &mut Scratch,
 ) -> Option<(u64, &'static str)> {
     for i in 0..SEEDS {
-        let seed = i + 1;
-        if let Some(name) = wrong_in(rt, alloc, scratch, seed) {
-            return Some((seed, name));
+        for row in all_runs() {
+            let seed = i + 1;
+            if !holds(rt, alloc, scratch, &run_of(rt, row), seed) {
+                return Some((seed, row));
+            }
         }
     }
     None

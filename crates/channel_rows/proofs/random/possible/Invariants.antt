@@ -1,4 +1,4 @@
-use Rattle.channel_rows.proofs.broker.channels.runs.Given as goal
+use Rattle.channel_rows.proofs.random.possible.Given as goal
 
 -- the ledger that the blank is for
 abbrev pub ghosts-wrong_run : goal.ghosts-wrong_run

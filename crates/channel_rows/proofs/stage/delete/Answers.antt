@@ -2,7 +2,7 @@ use Rattle.std.proofs.Common.{ap, subst, sym}
 use Rattle.channel_core.specs.Seen.{Seen}
 use Rattle.channel_rows.specs.Served.{IsServed}
 use Rattle.channel_rows.proofs.Serving.{as_served}
-use Rattle.channel_rows.proofs.calls.delete.Goals as goal
+use Rattle.channel_rows.proofs.stage.delete.Goals as goal
 
 pub returns-in-Fault : goal.returns-in-Fault
 returns-in-Fault c =

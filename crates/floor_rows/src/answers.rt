@@ -1,5 +1,6 @@
 //! Answers as text, as a turn gives them, and as the act that it noted tells them.
 
+use crate::entries::words_of;
 use crate::stats::put_stats;
 use crate::texts::{put, put_names, put_number, put_sent};
 use broker_history::{Act, Said};
@@ -13,19 +14,26 @@ use v2_frame::{Command, Frame, FrameKind, Message, Taken};
 /// What a turn answered, in full or in brief: what is in brief says neither what closes nor the moment of names, and leaves clients away.
 pub fn put_answer(rt: &impl Abort, alloc: Global, out: &mut Vec<u8>, answer: &Turned, full: bool) {
     match answer {
-        Turned::Begun => put(rt, out, b"begun"),
         Turned::Reply(frame, closes) => put_reply(rt, out, frame, *closes, full),
-        Turned::Quiet => put(rt, out, b"quiet"),
-        Turned::Deleted => put(rt, out, b"deleted"),
-        Turned::Stopping => put(rt, out, b"stopping"),
         Turned::Send(frame) => put_push(rt, alloc, out, frame),
-        Turned::Idle => put(rt, out, b"idle"),
-        Turned::Silent => put(rt, out, b"silent"),
-        Turned::Ended => put(rt, out, b"ended"),
         Turned::Said(said) => put_said(rt, out, said, full),
         Turned::Listed(names, at) => put_listed(rt, out, names, *at, full),
-        Turned::Strange => put(rt, out, b"strange"),
-        Turned::Memory => put(rt, out, b"memory"),
+        _ => put(rt, out, word_of(answer)),
+    }
+}
+
+// The answer of one word.
+fn word_of(answer: &Turned) -> &'static [u8] {
+    match answer {
+        Turned::Begun => b"begun",
+        Turned::Quiet => b"quiet",
+        Turned::Deleted => b"deleted",
+        Turned::Stopping => b"stopping",
+        Turned::Idle => b"idle",
+        Turned::Silent => b"silent",
+        Turned::Ended => b"ended",
+        Turned::Strange => b"strange",
+        _ => b"memory",
     }
 }
 
@@ -83,26 +91,14 @@ fn put_said(rt: &impl Abort, out: &mut Vec<u8>, said: &Said, full: bool) {
 
 /// What the client is answered, or is told over HTTP, of an act with this end at a moment; nothing of a move.
 pub fn put_told(rt: &impl Abort, out: &mut Vec<u8>, act: &Act, at: u64, end: End) {
+    put(rt, out, words_of(act).told.as_bytes());
     match act {
-        Act::Began => put(rt, out, b"begun"),
         Act::Did(command, reply) => put_done(rt, out, command, reply, end),
         Act::Refused(_, frame) => put_frame(rt, out, frame),
-        Act::Sent(message) => {
-            put(rt, out, b"sends ");
-            put_sent(rt, out, message);
-        }
-        Act::Beat => put(rt, out, b"sends _heartbeat_"),
-        Act::Idle | Act::Stuck(_, Some(_)) => put(rt, out, b"idle"),
-        Act::Silent => put(rt, out, b"silent"),
-        Act::Dropped => put(rt, out, b"deleted"),
-        Act::Gone => put(rt, out, b"ended"),
-        Act::Asked(_, said) => match end {
-            End::Done => put_said(rt, out, said, true),
-            End::Faulted(_) | End::Skip => put(rt, out, b"disk fault"),
-        },
+        Act::Sent(message) => put_sent(rt, out, message),
+        Act::Asked(_, said) if end == End::Done => put_said(rt, out, said, true),
+        Act::Asked(_, _) => put(rt, out, b"disk fault"),
         Act::Listed(names) => put_listed(rt, out, names, at, true),
-        Act::Ticked => put(rt, out, b"quiet"),
-        Act::Stop => put(rt, out, b"stopping"),
         _ => {}
     }
 }

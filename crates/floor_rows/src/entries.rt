@@ -3,14 +3,74 @@
 use crate::texts::{put, put_channels, put_id, put_message, put_number, put_sent, put_word, same};
 use broker_history::{Act, Ask, Entry};
 use desk::Call;
-use nsq_base::{Body, Chan, MsgId, Names, Topic};
+use nsq_base::{Body, Chan, Names, Topic};
 use nsq_outside::End;
 use std::process::Abort;
 use v2_frame::{Command, Message};
 
+/// The words of an act.
+#[derive(Clone, Copy)]
+pub struct Words {
+    // The word of its entry.
+    entry: &'static str,
+    /// What the turn that notes it answers, as far as that is always the same.
+    pub told: &'static str,
+    // The calls that it may be for.
+    calls: &'static str,
+}
+
+fn make_words(entry: &'static str, told: &'static str, calls: &'static str) -> Words {
+    Words { entry, told, calls }
+}
+
+/// The words of an act.
+pub fn words_of(act: &Act) -> Words {
+    match act {
+        Act::Began => make_words("began", "begun", "begin"),
+        Act::Beat => make_words("beat", "sends _heartbeat_", "next"),
+        Act::Idle => make_words("idle", "idle", "next"),
+        Act::Silent => make_words("silent", "silent", "next"),
+        Act::Dropped => make_words("dropped", "deleted", "next command"),
+        Act::Gone => make_words("gone", "ended", "gone"),
+        Act::Ticked => make_words("ticked", "quiet", "tick"),
+        Act::Stop => make_words("stop", "stopping", "stop"),
+        _ => other_words(act),
+    }
+}
+
+fn other_words(act: &Act) -> Words {
+    match act {
+        Act::Did(_, _) => make_words("did", "", "command"),
+        Act::Refused(_, _) => make_words("refused", "", "bad"),
+        Act::Sent(_) => make_words("sent", "sends ", "next"),
+        Act::Asked(_, _) => make_words("asked", "", "ask"),
+        Act::Listed(_) => make_words("listed", "", "names"),
+        Act::Stuck(_, Some(_)) => make_words("stuck", "idle", "next"),
+        _ => make_words(move_word(act), "", ""),
+    }
+}
+
+// The word of a move, or of the daemon's Stuck.
+fn move_word(act: &Act) -> &'static str {
+    match act {
+        Act::Took(_, _, _) => "took",
+        Act::Copied(_, _, _) => "copied",
+        Act::TimedOut(_, _, _) => "timed-out",
+        Act::CameDue(_, _, _) => "came-due",
+        Act::HeldBack(_, _, _) => "held-back",
+        _ => "stuck",
+    }
+}
+
+/// Whether an act is a move, or the daemon's Stuck.
+pub fn is_move(act: &Act) -> bool {
+    words_of(act).calls.is_empty()
+}
+
 /// An act and how it ended. Of a command, of what is asked and of a fault neither what it says nor what is answered stands here.
 pub fn put_entry(rt: &impl Abort, out: &mut Vec<u8>, act: &Act, end: End) {
-    put_act(rt, out, act);
+    put(rt, out, words_of(act).entry.as_bytes());
+    put_parts(rt, out, act);
     match end {
         End::Done => {}
         End::Faulted(count) => {
@@ -21,40 +81,24 @@ pub fn put_entry(rt: &impl Abort, out: &mut Vec<u8>, act: &Act, end: End) {
     }
 }
 
-fn put_act(rt: &impl Abort, out: &mut Vec<u8>, act: &Act) {
+fn put_parts(rt: &impl Abort, out: &mut Vec<u8>, act: &Act) {
     match act {
-        Act::Began => put(rt, out, b"began"),
-        Act::Did(_, _) => put(rt, out, b"did"),
-        Act::Refused(_, _) => put(rt, out, b"refused"),
         Act::Sent(message) => {
-            put(rt, out, b"sent ");
+            put(rt, out, b" ");
             put_sent(rt, out, message);
         }
-        Act::Beat => put(rt, out, b"beat"),
-        Act::Idle => put(rt, out, b"idle"),
-        Act::Silent => put(rt, out, b"silent"),
-        Act::Dropped => put(rt, out, b"dropped"),
-        Act::Gone => put(rt, out, b"gone"),
-        Act::Asked(_, _) => put(rt, out, b"asked"),
-        Act::Listed(_) => put(rt, out, b"listed"),
-        Act::Ticked => put(rt, out, b"ticked"),
-        Act::Stop => put(rt, out, b"stop"),
-        _ => put_move(rt, out, act),
-    }
-}
-
-fn put_move(rt: &impl Abort, out: &mut Vec<u8>, act: &Act) {
-    match act {
         Act::Took(topic, message, names) => put_took(rt, out, topic, message, names),
         Act::Copied(topic, channel, message) => {
-            put_place(rt, out, b"copied", topic, channel);
+            put_place(rt, out, topic, channel);
             put_message(rt, out, message);
         }
-        Act::TimedOut(topic, channel, id) => put_moved(rt, out, b"timed-out", topic, channel, id),
-        Act::CameDue(topic, channel, id) => put_moved(rt, out, b"came-due", topic, channel, id),
-        Act::HeldBack(topic, channel, id) => put_moved(rt, out, b"held-back", topic, channel, id),
+        Act::TimedOut(topic, channel, id)
+        | Act::CameDue(topic, channel, id)
+        | Act::HeldBack(topic, channel, id) => {
+            put_place(rt, out, topic, channel);
+            put_id(rt, out, id);
+        }
         Act::Stuck(topic, channel) => {
-            put(rt, out, b"stuck");
             put_word(rt, out, topic.bytes());
             put_channels(rt, out, channel.as_slice());
         }
@@ -63,7 +107,6 @@ fn put_move(rt: &impl Abort, out: &mut Vec<u8>, act: &Act) {
 }
 
 fn put_took(rt: &impl Abort, out: &mut Vec<u8>, topic: &Topic, message: &Message, names: &Names) {
-    put(rt, out, b"took");
     put_word(rt, out, topic.bytes());
     put(rt, out, b" ");
     put_message(rt, out, message);
@@ -74,64 +117,43 @@ fn put_took(rt: &impl Abort, out: &mut Vec<u8>, topic: &Topic, message: &Message
     put_channels(rt, out, names.channels(0));
 }
 
-fn put_moved(
-    rt: &impl Abort,
-    out: &mut Vec<u8>,
-    word: &[u8],
-    topic: &Topic,
-    channel: &Chan,
-    id: &MsgId,
-) {
-    put_place(rt, out, word, topic, channel);
-    put_id(rt, out, id);
-}
-
-// A word, and behind it a topic and a channel of it.
-fn put_place(rt: &impl Abort, out: &mut Vec<u8>, word: &[u8], topic: &Topic, channel: &Chan) {
-    put(rt, out, word);
+// A topic and a channel of it.
+fn put_place(rt: &impl Abort, out: &mut Vec<u8>, topic: &Topic, channel: &Chan) {
     put_word(rt, out, topic.bytes());
     put_word(rt, out, channel.bytes());
     put(rt, out, b" ");
 }
 
-/// Whether an act is a move, or the daemon's Stuck.
-pub fn is_move(act: &Act) -> bool {
-    matches!(
-        act,
-        Act::Took(..)
-            | Act::Copied(..)
-            | Act::TimedOut(..)
-            | Act::CameDue(..)
-            | Act::HeldBack(..)
-            | Act::Stuck(_, None)
-    )
-}
-
 /// Whether an entry may be one of a turn of this number and call: a move or a tick is the daemon's.
 pub fn is_of(entry: &Entry, number: u64, call: &Call) -> bool {
-    if is_move(&entry.act) {
-        return entry.conn == 0;
-    }
-    match (&entry.act, call) {
-        (Act::Ticked, Call::Tick) => entry.conn == 0,
-        (act, call) => entry.conn == number && is_for(act, call),
+    match entry.act {
+        Act::Ticked => entry.conn == 0 && is_for(&entry.act, call),
+        _ if is_move(&entry.act) => entry.conn == 0,
+        _ => entry.conn == number && is_for(&entry.act, call),
     }
 }
 
 // Whether an act is for a call.
 fn is_for(act: &Act, call: &Call) -> bool {
     match (act, call) {
-        (Act::Began, Call::Begin) => true,
         (Act::Did(did, _), Call::Command(command)) => is_command(did, command),
-        (Act::Dropped, Call::Command(_)) => true,
         (Act::Refused(fault, _), Call::Bad(bad)) => fault == bad,
-        (Act::Sent(_) | Act::Beat | Act::Idle | Act::Silent | Act::Dropped, Call::Next) => true,
-        (Act::Stuck(_, Some(_)), Call::Next) => true,
-        (Act::Gone, Call::Gone) => true,
         (Act::Asked(asked, _), Call::Ask(ask)) => is_ask(asked, ask),
-        (Act::Listed(_), Call::Names) => true,
-        (Act::Stop, Call::Stop) => true,
-        _ => false,
+        _ => words_of(act).calls.contains(call_word(call)),
+    }
+}
+
+fn call_word(call: &Call) -> &'static str {
+    match call {
+        Call::Begin => "begin",
+        Call::Command(_) => "command",
+        Call::Bad(_) => "bad",
+        Call::Next => "next",
+        Call::Gone => "gone",
+        Call::Ask(_) => "ask",
+        Call::Names => "names",
+        Call::Tick => "tick",
+        Call::Stop => "stop",
     }
 }
 
@@ -142,12 +164,16 @@ fn is_command(a: &Command, b: &Command) -> bool {
         (Command::Pub(a, c), Command::Pub(b, d)) => a == b && is_body(c, d),
         (Command::Mpub(a, c), Command::Mpub(b, d)) => a == b && c == d,
         (Command::Dpub(a, c, e), Command::Dpub(b, d, f)) => a == b && c == d && is_body(e, f),
+        _ => is_short_command(a, b),
+    }
+}
+
+fn is_short_command(a: &Command, b: &Command) -> bool {
+    match (a, b) {
         (Command::Rdy(a), Command::Rdy(b)) => a == b,
-        (Command::Fin(a), Command::Fin(b)) => a == b,
+        (Command::Fin(a), Command::Fin(b)) | (Command::Touch(a), Command::Touch(b)) => a == b,
         (Command::Req(a, c), Command::Req(b, d)) => a == b && c == d,
-        (Command::Touch(a), Command::Touch(b)) => a == b,
-        (Command::Cls, Command::Cls) => true,
-        (Command::Nop, Command::Nop) => true,
+        (Command::Cls, Command::Cls) | (Command::Nop, Command::Nop) => true,
         _ => false,
     }
 }
@@ -160,16 +186,11 @@ fn is_ask(a: &Ask, b: &Ask) -> bool {
     match (a, b) {
         (Ask::Publish(a, c, e), Ask::Publish(b, d, f)) => a == b && c == d && e == f,
         (Ask::Stats(a, c), Ask::Stats(b, d)) => a == b && c == d,
-        (Ask::Create(a, c), Ask::Create(b, d)) => is_place(a, c, b, d),
-        (Ask::Delete(a, c), Ask::Delete(b, d)) => is_place(a, c, b, d),
-        (Ask::Empty(a, c), Ask::Empty(b, d)) => is_place(a, c, b, d),
-        (Ask::Pause(a, c), Ask::Pause(b, d)) => is_place(a, c, b, d),
-        (Ask::Unpause(a, c), Ask::Unpause(b, d)) => is_place(a, c, b, d),
+        (Ask::Create(a, c), Ask::Create(b, d))
+        | (Ask::Delete(a, c), Ask::Delete(b, d))
+        | (Ask::Empty(a, c), Ask::Empty(b, d))
+        | (Ask::Pause(a, c), Ask::Pause(b, d))
+        | (Ask::Unpause(a, c), Ask::Unpause(b, d)) => a == b && c == d,
         _ => false,
     }
-}
-
-// Whether a topic and a channel of it, or none, are those.
-fn is_place(a: &Topic, c: &Option<Chan>, b: &Topic, d: &Option<Chan>) -> bool {
-    a == b && c == d
 }

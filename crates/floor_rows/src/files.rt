@@ -1,15 +1,12 @@
 //! A folder's files as a list, and folders in memory that have them.
 
-use crate::texts::same;
+use crate::texts::{put_bytes, same};
 use nsq_base::Body;
 use nsq_fakes::{Failing, MemFolder};
 use nsq_outside::{Folder, Listing};
 use queue_plain::NamedFile;
 use std::alloc::Global;
 use std::process::Abort;
-
-/// A file's name and its bytes.
-pub type File = (&'static str, &'static [u8]);
 
 /// The file of names.
 pub const NAMES: &str = "nsqd.dat";
@@ -21,51 +18,62 @@ pub fn folder_of(
     files: &[NamedFile],
     fails: &[Failing],
 ) -> MemFolder {
-    let given = given(rt, alloc, files);
-    let fails = Vec::from_slice(alloc, fails).expect(rt, "memory");
-    MemFolder::new(alloc, given, fails).expect(rt, "memory")
-}
-
-fn given(rt: &impl Abort, alloc: Global, files: &[NamedFile]) -> Vec<(String, Vec<u8>)> {
     let mut given = Vec::new(alloc);
     for file in files {
         let name = String::from_utf8_lossy(alloc, file.name.bytes()).expect(rt, "memory");
         let bytes = Vec::from_slice(alloc, file.bytes.bytes()).expect(rt, "memory");
         given.push((name, bytes)).expect(rt, "memory");
     }
-    given
+    let fails = Vec::from_slice(alloc, fails).expect(rt, "memory");
+    MemFolder::new(alloc, given, fails).expect(rt, "memory")
 }
 
-/// These files. Behind the text of the file of names stand so many spaces that it has `padded` bytes, if it has fewer.
-pub fn named(rt: &impl Abort, alloc: Global, files: &[File], padded: usize) -> Vec<NamedFile> {
-    let mut named = Vec::new(alloc);
-    for (name, bytes) in files {
-        let padded = if same(name.as_bytes(), NAMES.as_bytes()) {
-            padded
-        } else {
-            0
-        };
-        put_file(rt, alloc, &mut named, name.as_bytes(), bytes, padded);
+/// One more file, whose bytes a text stands for. Behind them stand so many spaces that it has `padded` bytes, if it has fewer.
+pub fn put_text_file(
+    rt: &impl Abort,
+    alloc: Global,
+    files: &mut Vec<NamedFile>,
+    name: &str,
+    text: &str,
+    padded: usize,
+) {
+    let mut bytes = Vec::new(alloc);
+    put_bytes(rt, &mut bytes, text);
+    if bytes.len() < padded {
+        bytes.resize(padded, b' ').expect(rt, "memory");
     }
-    named
+    put_file(rt, alloc, files, name.as_bytes(), bytes);
 }
 
-// One more file, with so many spaces behind its bytes that it has `padded`, if it has fewer.
 fn put_file(
     rt: &impl Abort,
     alloc: Global,
     files: &mut Vec<NamedFile>,
     name: &[u8],
-    bytes: &[u8],
-    padded: usize,
+    bytes: Vec<u8>,
 ) {
-    let mut content = Vec::from_slice(alloc, bytes).expect(rt, "memory");
-    if content.len() < padded {
-        content.resize(padded, b' ').expect(rt, "memory");
-    }
     let name = Body::copy(alloc, name).expect(rt, "memory");
-    let bytes = Body::of(content);
+    let bytes = Body::of(bytes);
     files.push(NamedFile { name, bytes }).expect(rt, "memory");
+}
+
+/// One more file with a copy of these bytes.
+pub fn put_copy(
+    rt: &impl Abort,
+    alloc: Global,
+    files: &mut Vec<NamedFile>,
+    name: &[u8],
+    bytes: &[u8],
+) {
+    let bytes = Vec::from_slice(alloc, bytes).expect(rt, "memory");
+    put_file(rt, alloc, files, name, bytes);
+}
+
+/// Copies of files, behind those that are there.
+pub fn put_copies(rt: &impl Abort, alloc: Global, files: &mut Vec<NamedFile>, of: &[NamedFile]) {
+    for file in of {
+        put_copy(rt, alloc, files, file.name.bytes(), file.bytes.bytes());
+    }
 }
 
 /// The files of a folder. A listing that fails is tried again.
@@ -74,15 +82,10 @@ pub fn files_in(rt: &impl Abort, alloc: Global, folder: &mut MemFolder) -> Vec<N
     let mut files = Vec::new(alloc);
     for name in &names {
         if let Some(bytes) = folder.file(name.as_str()) {
-            put_file(rt, alloc, &mut files, name.as_bytes(), bytes, 0);
+            put_copy(rt, alloc, &mut files, name.as_bytes(), bytes);
         }
     }
     files
-}
-
-/// The files of a folder that is let go.
-pub fn files_left(rt: &impl Abort, alloc: Global, mut folder: MemFolder) -> Vec<NamedFile> {
-    files_in(rt, alloc, &mut folder)
 }
 
 fn names_in(rt: &impl Abort, alloc: Global, folder: &mut MemFolder) -> Vec<String> {
@@ -105,29 +108,6 @@ pub fn bytes_of<'a>(files: &'a [NamedFile], name: &str) -> Option<&'a [u8]> {
         }
     }
     None
-}
-
-/// The same files, with this content in the file of that name.
-pub fn with_file(
-    rt: &impl Abort,
-    alloc: Global,
-    files: &[NamedFile],
-    name: &str,
-    bytes: &[u8],
-) -> Vec<NamedFile> {
-    let mut copies = Vec::new(alloc);
-    put_file(rt, alloc, &mut copies, name.as_bytes(), bytes, 0);
-    for file in files {
-        put_file(
-            rt,
-            alloc,
-            &mut copies,
-            file.name.bytes(),
-            file.bytes.bytes(),
-            0,
-        );
-    }
-    copies
 }
 
 /// Whether the bytes of two files, or none, are the same.

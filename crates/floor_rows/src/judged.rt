@@ -1,12 +1,12 @@
 //! The plain programs' judgement: what an opening finds in files, whether a run's entries are legal behind that, and whether all was kept.
 
+use crate::texts::same;
 use broker_files::{Finding, FoundNames, found, is_all_left, start};
 use broker_history::Entry;
 use broker_state::State;
 use broker_steps::led_to;
 use nsq_base::Options;
 use nsq_outside::End;
-use path_opening::Why;
 use queue_plain::NamedFile;
 use std::alloc::Global;
 use std::process::Abort;
@@ -14,13 +14,23 @@ use std::process::Abort;
 // The last epoch.
 const LAST_EPOCH: u32 = 16_777_215;
 
+/// A run: the files that it began with, its first moment, what it noted, and whether it opened the files, or was the first one of all, whatever epoch
+/// stands in them.
+#[derive(Clone, Copy)]
+pub struct Run<'a> {
+    pub files: &'a [NamedFile],
+    pub began: u64,
+    pub entries: &'a [(Entry, End)],
+    pub opened: bool,
+}
+
 /// Whether an opening of these files may be refused for this.
-pub fn may_refuse(rt: &impl Abort, alloc: Global, files: &[NamedFile], why: Why) -> bool {
-    let finding = found(alloc, files).expect(rt, "memory");
-    match why {
-        Why::BadData => matches!(finding, Finding::BadData),
-        Why::EpochSpent => matches!(finding, Finding::EpochSpent),
-        Why::Fault | Why::Memory => true,
+pub fn may_refuse(rt: &impl Abort, alloc: Global, files: &[NamedFile], why: &str) -> bool {
+    let why = why.as_bytes();
+    match found(alloc, files).expect(rt, "memory") {
+        Finding::BadData => !same(why, b"epoch-spent"),
+        Finding::EpochSpent => !same(why, b"bad-data"),
+        Finding::Names(_) => same(why, b"fault") || same(why, b"memory"),
     }
 }
 
@@ -32,43 +42,38 @@ pub fn names_found(rt: &impl Abort, alloc: Global, files: &[NamedFile]) -> Optio
     }
 }
 
-/// The states to which entries lead from the start that an opening of these files gives at a moment; none where they aren't legal.
-pub fn states_of(
+/// What is wrong with a run and, where these are given, with the files that it left to be found; nothing where all is right.
+pub fn wrong_in(
     rt: &impl Abort,
     alloc: Global,
     options: &Options,
-    files: &[NamedFile],
-    began: u64,
-    entries: &[(Entry, End)],
-) -> Vec<State> {
-    let Some(names) = names_found(rt, alloc, files) else {
+    run: Run<'_>,
+    left: Option<&[NamedFile]>,
+) -> &'static [u8] {
+    let states = states_of(rt, alloc, options, run);
+    match left {
+        _ if states.is_empty() => b"isn't legal",
+        Some(left) if !is_kept(rt, alloc, &states, left) => b"keeps something else",
+        _ => b"",
+    }
+}
+
+// The states to which a run's entries lead from the start that its files give; none where they aren't legal.
+fn states_of(rt: &impl Abort, alloc: Global, options: &Options, run: Run<'_>) -> Vec<State> {
+    let Some(names) = names_found(rt, alloc, run.files) else {
         return Vec::new(alloc);
     };
-    if names.epoch >= LAST_EPOCH {
+    let epoch = if run.opened { names.epoch } else { 0 };
+    if epoch >= LAST_EPOCH {
         return Vec::new(alloc);
     }
-    let start = start(alloc, &names, options, began).expect(rt, "memory");
-    led_to(alloc, &start, entries).expect(rt, "memory")
+    let names = FoundNames { epoch, ..names };
+    let start = start(alloc, &names, options, run.began).expect(rt, "memory");
+    led_to(alloc, &start, run.entries).expect(rt, "memory")
 }
 
-/// The same of a run of epoch 1 that begins at the moment 0, whatever epoch stands in the files.
-pub fn first_states_of(
-    rt: &impl Abort,
-    alloc: Global,
-    options: &Options,
-    files: &[NamedFile],
-    entries: &[(Entry, End)],
-) -> Vec<State> {
-    let Some(names) = names_found(rt, alloc, files) else {
-        return Vec::new(alloc);
-    };
-    let names = FoundNames { epoch: 0, ..names };
-    let start = start(alloc, &names, options, 0).expect(rt, "memory");
-    led_to(alloc, &start, entries).expect(rt, "memory")
-}
-
-/// Whether an opening of these files finds all that one of the states leaves, and nothing else. Behind the last epoch it finds that none is left.
-pub fn is_kept(rt: &impl Abort, alloc: Global, states: &[State], files: &[NamedFile]) -> bool {
+// Whether an opening of these files finds all that one of the states leaves, and nothing else. Behind the last epoch it finds that none is left.
+fn is_kept(rt: &impl Abort, alloc: Global, states: &[State], files: &[NamedFile]) -> bool {
     match found(alloc, files).expect(rt, "memory") {
         Finding::Names(names) => one_leaves(rt, alloc, states, &names),
         Finding::EpochSpent => are_last(states),

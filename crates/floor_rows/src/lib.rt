@@ -12,9 +12,13 @@ mod calls;
 #[cfg(test)]
 mod dice;
 #[cfg(test)]
+mod done;
+#[cfg(test)]
 mod entries;
 #[cfg(test)]
 mod files;
+#[cfg(test)]
+mod findings;
 #[cfg(test)]
 mod judged;
 #[cfg(test)]
@@ -26,12 +30,14 @@ mod restarts;
 #[cfg(test)]
 mod rows;
 #[cfg(test)]
-mod script;
-#[cfg(test)]
 mod settings;
+#[cfg(test)]
+mod stage;
 #[cfg(test)]
 mod stats;
 #[cfg(test)]
 mod tables;
 #[cfg(test)]
 mod texts;
+#[cfg(test)]
+mod trials;

@@ -3,12 +3,15 @@
 
 ghost use Rattle.nsq_base.specs.Options.{IsInRange};
 
-use crate::dice::{ASKS, BEGIN, Calls, Dice, GONE, HANDLES, JOINS, NEXT, PUBLISHES, SAYS, TICK};
-use crate::judged::first_states_of;
-use crate::script::{Bench, Dials, Done, Left, floor_of, is_in_order, put_turn};
-use crate::texts::{look_up, put, put_number, put_word};
+use crate::dice::{ASKS, Dice, HANDLES, JOINS, PUBLISHES, SAYS};
+use crate::done::{Done, is_in_order, put_done};
+use crate::judged::wrong_in;
+use crate::outside::Dials;
+use crate::stage::Stage;
+use crate::texts::{put, put_number, same};
+use broker_history::Entry;
 use nsq_base::Options;
-use nsq_fakes::MemFolder;
+use nsq_outside::End;
 use std::alloc::Global;
 use std::process::Abort;
 
@@ -38,44 +41,6 @@ fn side_of(number: u64) -> Side {
         closed: false,
     }
 }
-
-// A call that is one word.
-#[derive(Clone, Copy)]
-enum Kind {
-    Begin,
-    Gone,
-    Next,
-    Names,
-    Stop,
-    Other,
-}
-
-static KINDS: [(&[u8], Kind); 5] = [
-    (b"begin", Kind::Begin),
-    (b"gone", Kind::Gone),
-    (b"next", Kind::Next),
-    (b"names", Kind::Names),
-    (b"stop", Kind::Stop),
-];
-
-// What an answer tells: that the call was strange, that the daemon stops, that the client joined its channel, that it is closed, or something else.
-#[derive(Clone, Copy)]
-enum Told {
-    Strange,
-    Stopping,
-    Joined,
-    Closed,
-    Other,
-}
-
-// The answers that tell something; one that closes ends so.
-static TOLD: [(&[u8], Told); 5] = [
-    (b"strange", Told::Strange),
-    (b"stopping", Told::Stopping),
-    (b"OK", Told::Joined),
-    (b"deleted", Told::Closed),
-    (b"silent", Told::Closed),
-];
 
 // What clients know, and whether the daemon stopped.
 #[derive(Drop)]
@@ -152,62 +117,49 @@ impl Clients {
         if let Some(id) = sent_id(rt, self.alloc, answer) {
             self.sent.push(id).expect(rt, "memory");
         }
-        self.note(rt, place, call, told_by(answer))
-    }
-
-    // Notes what a call was answered. Whether it was strange, or stopping, exactly where it should.
-    fn note(&mut self, rt: &impl Abort, place: usize, call: &str, told: Told) -> bool {
-        let kind = look_up(&KINDS, call.as_bytes()).unwrap_or(Kind::Other);
-        let before = self.side(rt, place);
-        let stops = self.stopped && ends_at_stop(kind) || matches!(kind, Kind::Stop);
-        let strange = match kind {
-            Kind::Begin => before.is_there,
-            _ => !before.is_there && needs_client(kind, call),
+        let side = self.side(rt, place);
+        let stop = is(call, "stop");
+        let stops = stop || self.stopped && ends_at_stop(call);
+        let strange = if is(call, "begin") {
+            side.is_there
+        } else {
+            !side.is_there && needs_client(call)
         };
-        let after = match kind {
-            Kind::Gone => side_of(before.number.saturating_add(3)),
-            _ => learned(before, kind, call, told),
-        };
-        *self.sides.get_mut(place).expect(rt, "a side") = after;
-        self.stopped = self.stopped || matches!(kind, Kind::Stop);
-        matches!(told, Told::Strange) == strange
-            && matches!(told, Told::Stopping) == (!strange && stops)
+        *self.sides.get_mut(place).expect(rt, "a side") = learned(side, call, answer);
+        self.stopped = self.stopped || stop;
+        same(answer, b"strange") == strange && same(answer, b"stopping") == (!strange && stops)
     }
 }
 
 // What is called by a client, or by somebody who needs no connection; none where the client does something with a message.
-fn calls_of(side: Side, goes_on: bool, drawn: u64) -> Option<Calls> {
+fn calls_of(side: Side, goes_on: bool, drawn: u64) -> Option<&'static str> {
     Some(match drawn {
         0..=8 => ASKS,
-        9..=11 => TICK,
-        _ if goes_on && !side.is_there => BEGIN,
-        _ if goes_on && side.closed => GONE,
+        9..=11 => "tick",
+        _ if goes_on && !side.is_there => "begin",
+        _ if goes_on && side.closed => "gone",
         12..=23 => PUBLISHES,
         _ if goes_on && !side.joined => JOINS,
         24..=32 => SAYS,
         33..=40 => return None,
-        41 => GONE,
-        42 => BEGIN,
-        _ => NEXT,
+        41 => "gone",
+        42 => "begin",
+        _ => "next",
     })
 }
 
-// What an answer tells.
-fn told_by(answer: &[u8]) -> Told {
-    if answer.ends_with(b"closes") {
-        return Told::Closed;
-    }
-    look_up(&TOLD, answer).unwrap_or(Told::Other)
-}
-
 // What a client knows behind a call that was answered so.
-fn learned(before: Side, kind: Kind, call: &str, told: Told) -> Side {
-    let joined = call.starts_with("SUB") && matches!(told, Told::Joined);
+fn learned(before: Side, call: &str, answer: &[u8]) -> Side {
+    if is(call, "gone") {
+        return side_of(before.number.saturating_add(3));
+    }
+    let joined = call.starts_with("SUB") && same(answer, b"OK");
+    let closed = answer.ends_with(b"closes") || same(answer, b"deleted") || same(answer, b"silent");
     Side {
         number: before.number,
-        is_there: before.is_there || matches!(kind, Kind::Begin),
+        is_there: before.is_there || is(call, "begin"),
         joined: before.joined || joined,
-        closed: before.closed || matches!(told, Told::Closed),
+        closed: before.closed || closed,
     }
 }
 
@@ -225,22 +177,23 @@ fn id_in(text: &str) -> Option<&str> {
     Some(id)
 }
 
-// Whether it is a client's call, other than its beginning.
-fn needs_client(kind: Kind, call: &str) -> bool {
-    matches!(kind, Kind::Next | Kind::Gone) || call.starts_with("bad") || is_command(call)
+// Whether a call is this one.
+fn is(call: &str, other: &str) -> bool {
+    same(call.as_bytes(), other.as_bytes())
 }
 
-// Whether it is a command: its word is in capitals.
-fn is_command(call: &str) -> bool {
-    match call.as_bytes().first() {
+// Whether it is a client's call, other than its beginning. A command's word is in capitals.
+fn needs_client(call: &str) -> bool {
+    let is_command = match call.as_bytes().first() {
         Some(letter) => letter.is_ascii_uppercase(),
         None => false,
-    }
+    };
+    is_command || is(call, "next") || is(call, "gone") || call.starts_with("bad")
 }
 
 // Whether it does nothing behind a stop.
-fn ends_at_stop(kind: Kind) -> bool {
-    !matches!(kind, Kind::Begin | Kind::Gone | Kind::Names)
+fn ends_at_stop(call: &str) -> bool {
+    !is(call, "begin") && !is(call, "gone") && !is(call, "names")
 }
 
 // Options with short times, and no texts, since each state has a copy of them.
@@ -261,28 +214,10 @@ fn options_of(rt: &impl Abort, alloc: Global, seed: u64) -> Options
     options
 }
 
-// What is wrong with a seed's turns, as text; nothing where they are right.
-fn put_wrong(rt: &impl Abort, alloc: Global, text: &mut Vec<u8>, seed: u64) {
-    let dials = Dials::new();
-    let options = options_of(rt, alloc, seed);
-    let mut clients = Clients::new(alloc, seed);
-    let fails = clients.dice.faults(rt, alloc);
-    let folder = MemFolder::new(alloc, Vec::new(alloc), fails).expect(rt, "memory");
-    let mut bench = Bench::new(alloc, floor_of(rt, alloc, &options, folder, &dials), &dials);
-    let right = turns_are_right(rt, &mut clients, &mut bench, &dials);
-    let (done, _, left) = bench.end(false);
-    judge(rt, alloc, text, &options, right, &done, &left);
-}
-
-fn turns_are_right(
-    rt: &impl Abort,
-    clients: &mut Clients,
-    bench: &mut Bench,
-    dials: &Dials,
-) -> bool {
+fn turns_are_right(rt: &impl Abort, stage: &mut Stage, clients: &mut Clients) -> bool {
     for count in 0..TURNS {
-        dials.show(clients.pass());
-        if !turn(rt, clients, bench, count) {
+        stage.dials.show(clients.pass());
+        if !turn(rt, stage, clients, count) {
             return false;
         }
     }
@@ -290,86 +225,80 @@ fn turns_are_right(
 }
 
 // One random turn. Whether it was strange, or stopping, exactly where it should.
-fn turn(rt: &impl Abort, clients: &mut Clients, bench: &mut Bench, count: u64) -> bool {
+fn turn(rt: &impl Abort, stage: &mut Stage, clients: &mut Clients, count: u64) -> bool {
     let place = clients.dice.below(3) as usize;
     let call = clients.call(rt, count, place);
     let number = clients.side(rt, place).number;
-    if !bench.turn(rt, number, &call) {
-        return false;
-    }
-    match bench.last() {
-        Some(done) => clients.learn(rt, place, &call, &done.answer),
-        None => false,
-    }
+    let line = format!(in stage.alloc; "{number} {call}").expect(rt, "memory");
+    stage.call(rt, &line) && clients.learn(rt, place, &call, stage.answer())
 }
 
-// What is wrong with turns that were made.
-fn judge(
-    rt: &impl Abort,
-    alloc: Global,
-    text: &mut Vec<u8>,
-    options: &Options,
-    right: bool,
-    done: &[Done],
-    left: &Left,
-) {
+// Makes a seed's turns, and tells what is wrong with them.
+fn make_turns(rt: &impl Abort, stage: &mut Stage, seed: u64) {
+    let options = options_of(rt, stage.alloc, seed);
+    let mut clients = Clients::new(stage.alloc, seed);
+    stage.clear();
+    stage.fails = clients.dice.faults(rt, stage.alloc);
+    stage.begin(rt, &options);
+    let right = turns_are_right(rt, stage, &mut clients);
+    stage.end("leave");
     if !right {
-        return tell(rt, text, b"the last is answered wrongly", done, left);
-    }
-    if let Some(stray) = out_of_order(rt, alloc, done, left) {
-        put(rt, text, b"not in order");
-        return put_line(rt, text, stray, left);
-    }
-    if first_states_of(rt, alloc, options, &[], left.journal.entries()).is_empty() {
-        tell(rt, text, b"not legal", done, left);
+        tell(rt, stage, b"the last is answered wrongly", 0);
+    } else if let Some(place) = out_of_order(rt, stage) {
+        tell(rt, stage, b"not in order", place);
+    } else {
+        let wrong = wrong_in(rt, stage.alloc, &options, stage.run(), None);
+        if !wrong.is_empty() {
+            tell(rt, stage, wrong, 0);
+        }
     }
 }
 
-// The first turn whose entries aren't in order.
-fn out_of_order<'a>(
-    rt: &impl Abort,
-    alloc: Global,
-    done: &'a [Done],
-    left: &Left,
-) -> Option<&'a Done> {
-    for one in done {
-        if !is_in_order(rt, alloc, one, left.journal.entries()) {
-            return Some(one);
+// The place of the first turn whose entries aren't in order.
+fn out_of_order(rt: &impl Abort, stage: &Stage) -> Option<usize> {
+    for (place, done) in stage.done.iter().enumerate() {
+        if !is_in_order(rt, stage.alloc, done, stage.entries()) {
+            return Some(place);
         }
     }
     None
 }
 
-// What is said of turns, and the turns.
-fn tell(rt: &impl Abort, text: &mut Vec<u8>, what: &[u8], done: &[Done], left: &Left) {
-    put(rt, text, what);
-    for one in done {
-        put_line(rt, text, one, left);
+// What is said of turns, and the turns from this one on.
+fn tell(rt: &impl Abort, stage: &mut Stage, what: &[u8], from: usize) {
+    let mut text = Vec::new(stage.alloc);
+    put(rt, &mut text, what);
+    for (place, done) in stage.done.iter().enumerate() {
+        if place >= from {
+            put_turn(rt, &mut text, done, stage.entries());
+        }
     }
+    stage.wrong = text;
 }
 
-// A turn in a line of its own.
-fn put_line(rt: &impl Abort, text: &mut Vec<u8>, one: &Done, left: &Left) {
+// What a turn was, and what it did.
+fn put_turn(rt: &impl Abort, text: &mut Vec<u8>, done: &Done, entries: &[(Entry, End)]) {
     put(rt, text, b"\n");
-    put_number(rt, text, u128::from(one.at));
+    put_number(rt, text, u128::from(done.at));
     put(rt, text, b": ");
-    put_number(rt, text, u128::from(one.number));
-    put_word(rt, text, one.call.as_bytes());
+    put(rt, text, done.line.as_bytes());
     put(rt, text, b" => ");
-    put_turn(rt, text, one, left.journal.entries());
+    put_done(rt, text, done, entries);
 }
 
 // Stops the run where a seed's turns aren't right.
-fn try_seed(rt: &impl Abort, alloc: Global, seed: u64) {
-    let mut wrong = Vec::new(alloc);
-    put_wrong(rt, alloc, &mut wrong, seed);
-    let text = String::from_utf8_lossy(alloc, &wrong).expect(rt, "memory");
-    assert!(rt; wrong.is_empty(), "{text}\nseed {seed}");
+fn try_seed(rt: &impl Abort, stage: &mut Stage, seed: u64) {
+    make_turns(rt, stage, seed);
+    let text = String::from_utf8_lossy(stage.alloc, &stage.wrong).expect(rt, "memory");
+    assert!(rt; stage.wrong.is_empty(), "{text}\nseed {seed}");
 }
 
 #[test]
 fn random_turns(rt: HostRuntime) {
+    let dials = Dials::new();
+    let mut stage = Stage::new(rt.alloc(), &dials);
     for seed in 1..SEEDS + 1 {
-        try_seed(&rt, rt.alloc(), seed);
+        try_seed(&rt, &mut stage, seed);
     }
+    drop(stage);
 }

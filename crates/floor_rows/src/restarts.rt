@@ -1,12 +1,21 @@
-//! Rows of a data path over several runs: it is opened, served in turns, saved and shut, and opened again. Transcripts of calls with their answers,
-//! and folders of which one call after another fails. What each run noted, what it found and what it left is judged by the plain programs.
-//!
-//! The crate has nothing but tests. A row is a transcript of runs, or a trial; one function says whether it holds, and one test names the row that
-//! doesn't.
+//! Tables of data paths over several runs: each is opened, served in turns, saved and shut, and opened again.
 
-mod bench;
+mod damages;
 mod faults;
-mod findings;
-mod rows;
-mod setting;
-mod tables;
+mod held;
+mod leftovers;
+mod names;
+mod pauses;
+mod restarts;
+
+static OF_NAMES: [&'static str; 3] = [names::ROWS, pauses::ROWS, damages::ROWS];
+
+static OF_MESSAGES: [&'static str; 4] = [restarts::ROWS, leftovers::ROWS, held::ROWS, faults::ROWS];
+
+pub fn of_names() -> &'static [&'static str] {
+    &OF_NAMES
+}
+
+pub fn of_messages() -> &'static [&'static str] {
+    &OF_MESSAGES
+}

@@ -1,4 +1,4 @@
-//! All tables.
+//! Tables of turns at one floor.
 
 mod bytes;
 mod copies;
@@ -14,22 +14,31 @@ mod stops;
 mod ticks;
 mod turns;
 
-use crate::rows::Row;
+static OF_CLIENTS: [&'static str; 5] = [
+    turns::ROWS,
+    statistics::ROWS,
+    refusals::ROWS,
+    bytes::ROWS,
+    identities::ROWS,
+];
 
-pub fn tables() -> [&'static [Row]; 13] {
-    [
-        turns::rows(),
-        statistics::rows(),
-        refusals::rows(),
-        bytes::rows(),
-        identities::rows(),
-        deletions::rows(),
-        ephemeral::rows(),
-        ticks::rows(),
-        stops::rows(),
-        moments::rows(),
-        faults::rows(),
-        copies::rows(),
-        kinds::rows(),
-    ]
+static OF_TOPICS: [&'static str; 4] = [
+    deletions::ROWS,
+    ephemeral::ROWS,
+    faults::ROWS,
+    copies::ROWS,
+];
+
+static OF_MOMENTS: [&'static str; 4] = [ticks::ROWS, stops::ROWS, moments::ROWS, kinds::ROWS];
+
+pub fn of_clients() -> &'static [&'static str] {
+    &OF_CLIENTS
+}
+
+pub fn of_topics() -> &'static [&'static str] {
+    &OF_TOPICS
+}
+
+pub fn of_moments() -> &'static [&'static str] {
+    &OF_MOMENTS
 }

@@ -5,6 +5,8 @@ use nsq_base::{Chan, MsgId, Names};
 use std::process::Abort;
 use v2_frame::Message;
 
+const SECOND: u64 = 1_000_000_000;
+
 /// The ids of the first sixteen messages of the first run begin so.
 pub const FIRST_IDS: &[u8] = b"000001000000000";
 
@@ -16,14 +18,70 @@ pub fn same(one: &[u8], other: &[u8]) -> bool {
     one == other
 }
 
-/// What stands beside a word in a table, if the word is there.
-pub fn look_up<T: Copy>(table: &[(&[u8], T)], word: &[u8]) -> Option<T> {
-    for (name, value) in table {
-        if same(name, word) {
-            return Some(*value);
-        }
+/// The parts of a text before and behind a mark; nothing behind it where it doesn't stand there.
+pub fn halves<'a>(text: &'a str, mark: &str) -> (&'a str, &'a str) {
+    match text.split_once(mark) {
+        Some(parts) => parts,
+        None => (text, ""),
     }
-    None
+}
+
+/// The first word of a text, and what stands behind it.
+pub fn parted(text: &str) -> (&str, &str) {
+    halves(text, " ")
+}
+
+/// How many parts a text has between such marks.
+pub fn count_of(text: &str, mark: &str) -> usize {
+    let mut count: usize = 0;
+    for _ in text.split(mark) {
+        count = count.saturating_add(1);
+    }
+    count
+}
+
+/// The number that a word says.
+pub fn number(rt: &impl Abort, word: &str) -> u64 {
+    word.parse::<u64>().expect(rt, "a number")
+}
+
+/// The moment that a word says: nanoseconds or, with an s behind them, seconds.
+pub fn moment(rt: &impl Abort, word: &str) -> u64 {
+    match word.strip_suffix("s") {
+        Some(seconds) => number(rt, seconds).saturating_mul(SECOND),
+        None => number(rt, word),
+    }
+}
+
+/// The bytes that a text stands for: behind a backslash stand an n for the end of a line, a 0 for the byte 0, or another byte's number and a point.
+pub fn put_bytes(rt: &impl Abort, out: &mut Vec<u8>, text: &str) {
+    let mut is_escape = false;
+    for part in text.split("\\") {
+        if is_escape {
+            put_escape(rt, out, part);
+        } else {
+            put(rt, out, part.as_bytes());
+        }
+        is_escape = true;
+    }
+}
+
+// The byte that stands behind a backslash, and what follows it.
+fn put_escape(rt: &impl Abort, out: &mut Vec<u8>, text: &str) {
+    let (byte, rest) = escaped(rt, text);
+    put(rt, out, &[byte]);
+    put(rt, out, rest.as_bytes());
+}
+
+fn escaped<'a>(rt: &impl Abort, text: &'a str) -> (u8, &'a str) {
+    if let Some(rest) = text.strip_prefix("n") {
+        return (b'\n', rest);
+    }
+    if let Some(rest) = text.strip_prefix("0") {
+        return (0, rest);
+    }
+    let (byte, rest) = halves(text, ".");
+    (byte.parse::<u8>().expect(rt, "a byte"), rest)
 }
 
 pub fn put_number(rt: &impl Abort, out: &mut Vec<u8>, n: u128) {

@@ -1,6 +1,6 @@
-//! Tables as one text: each row ends with `~`, and its fields stand between `|`.
+//! Tables as one text: each row ends with `~`, and its fields stand between `|`. A word that isn't known stops the run, or is no answer.
 
-use crate::check;
+use crate::{check, same};
 use std::alloc::Global;
 use std::process::Abort;
 
@@ -40,6 +40,22 @@ pub(crate) fn text_of(rt: &impl Abort, bytes: &'static [u8]) -> &'static str {
 /// The number of these digits.
 pub(crate) fn number_of(rt: &impl Abort, digits: &'static [u8]) -> u64 {
     text_of(rt, digits).parse::<u64>().expect(rt, "a number")
+}
+
+/// The numbers with such bytes between them.
+pub(crate) fn numbers_of(rt: &impl Abort, alloc: Global, text: &'static [u8], end: u8) -> Vec<u64> {
+    let mut numbers = Vec::new(alloc);
+    for digits in &rows_of(rt, alloc, text, end) {
+        numbers.push(number_of(rt, digits)).expect(rt, "memory");
+    }
+    numbers
+}
+
+/// Whether a word is the first of two; it is one of them.
+pub(crate) fn is_first(rt: &impl Abort, word: &[u8], first: &[u8], second: &[u8]) -> bool {
+    let is_first = same(word, first);
+    check(rt, is_first || same(word, second), "a word of a row");
+    is_first
 }
 
 /// Ends the run where a row doesn't hold, and names it.

@@ -1,6 +1,17 @@
+//! Rows of a heap whose items own memory: a name, and calls with a `;` between them, each with what it must answer. An item that was put in is
+//! named by how many were put in before it.
+//!
+//! - `reserve COUNT`: room is made for so many more. `insert DUE ITEM`: one more is put in, which is due at a moment.
+//! - `first DUE WHICH`: the least due moment, and which item is due then; or `first none`.
+//! - `get WHICH ITEM`: what an item is, or `none`. `remove WHICH ITEM`: an item is taken out. `pop NOW ITEM`: what is due by a moment is popped,
+//!   or `none`.
+//! - `insert-latest-first COUNT`: items are put in that are due at so many moments from 1 on, the latest first. `pop-in-order COUNT`: they are
+//!   popped in the order of their moments, each at its own and none before. `tick`: a step is counted.
+
 ghost use Rattle.std.specs.Prelude.{◌≡◌, ◌<◌};
 
-use crate::{check, same};
+use crate::same;
+use crate::text::{check_row, cut, number_of, rows_of, text_of};
 use due_heap::{DueHeap, Key};
 use nsq_base::{Body, Steps};
 use std::alloc::Global;
@@ -8,79 +19,13 @@ use std::marker::Brand;
 use std::process::Abort;
 use std::sync::ledger::{Blank, Ledger};
 
-// A call of a heap whose items own memory, and what it must answer. An item that was put in is named by how many were put in
-// before it.
-#[derive(Clone, Copy)]
-enum Call {
-    // Room is made for so many more.
-    Reserve(usize),
-    // One more is put in, which is due at a moment.
-    Insert(u64, &'static [u8]),
-    // The least due moment, and which item is due then.
-    First(Option<(u64, usize)>),
-    // What an item is.
-    Get(usize, Option<&'static [u8]>),
-    // An item is taken out.
-    Remove(usize, &'static [u8]),
-    // What is due by a moment is popped.
-    Pop(u64, Option<&'static [u8]>),
-    // Items are put in that are due at so many moments from 1 on, the latest first.
-    InsertLatestFirst(u64),
-    // They are popped in the order of their moments, each at its own and none before.
-    PopInOrder(u64),
-    // A step is counted.
-    Tick,
-}
-
-struct Row {
-    name: &'static str,
-    calls: &'static [Call],
-}
-
-static ROWS: [Row; 4] = [
-    Row {
-        name: "two steps counted",
-        calls: &[Call::Tick, Call::Tick],
-    },
-    Row {
-        name: "the least due comes first, of several the one put in earliest",
-        calls: &[
-            Call::First(None),
-            Call::Reserve(3),
-            Call::Insert(5, b"A"),
-            Call::Insert(3, b"B"),
-            Call::Insert(5, b"C"),
-            Call::First(Some((3, 1))),
-            Call::Get(0, Some(b"A")),
-            Call::Pop(4, Some(b"B")),
-            Call::Pop(4, None),
-            Call::Get(1, None),
-            Call::First(Some((5, 0))),
-            Call::Pop(5, Some(b"A")),
-            Call::Remove(2, b"C"),
-            Call::First(None),
-            Call::Get(2, None),
-        ],
-    },
-    Row {
-        name: "items of several bytes come out as they were",
-        calls: &[
-            Call::Insert(2, b"later"),
-            Call::Insert(1, b"sooner"),
-            Call::Pop(9, Some(b"sooner")),
-            Call::First(Some((2, 0))),
-            Call::Get(0, Some(b"later")),
-        ],
-    },
-    Row {
-        name: "a thousand items come out in order",
-        calls: &[
-            Call::InsertLatestFirst(1000),
-            Call::PopInOrder(1000),
-            Call::First(None),
-        ],
-    },
-];
+static ROWS: &[u8] = b"\
+two steps counted|tick;tick~\
+the least due comes first, of several the one put in earliest|first none;reserve 3;insert 5 A;insert 3 B;insert 5 C;first 3 1;get 0 A;pop 4 B;\
+pop 4 none;get 1 none;first 5 0;pop 5 A;remove 2 C;first none;get 2 none~\
+items of several bytes come out as they were|insert 2 later;insert 1 sooner;pop 9 sooner;first 2 0;get 0 later~\
+a thousand items come out in order|insert-latest-first 1000;pop-in-order 1000;first none~\
+";
 
 // A heap, and the keys of the items that were put in.
 #[derive(Drop)]
@@ -119,16 +64,30 @@ fn is_item(found: Option<&Body>, want: Option<&[u8]>) -> bool {
     }
 }
 
-// Whether the item with the least due moment is this one.
-fn is_first(made: &Made, want: Option<(u64, usize)>) -> bool {
-    match made.heap.first() {
-        None => want.is_none(),
-        Some((due, key)) => match want {
-            None => false,
-            Some((moment, which)) => {
-                moment == due && which < made.keys.len() && made.keys[which] == key
-            }
-        },
+// Whether the item with the least due moment is this one, or there is none.
+fn is_first(rt: &impl Abort, made: &Made, want: &'static [u8]) -> bool {
+    let Some((due, key)) = made.heap.first() else {
+        return same(want, b"none");
+    };
+    if same(want, b"none") {
+        return false;
+    }
+    let (moment, which) = cut(want, b' ');
+    let which = which_of(rt, which);
+    number_of(rt, moment) == due && which < made.keys.len() && made.keys[which] == key
+}
+
+// Which item these digits say.
+fn which_of(rt: &impl Abort, digits: &'static [u8]) -> usize {
+    number_of(rt, digits) as usize
+}
+
+// An item, or none.
+fn item_of(text: &'static [u8]) -> Option<&'static [u8]> {
+    if same(text, b"none") {
+        None
+    } else {
+        Some(text)
     }
 }
 
@@ -191,32 +150,63 @@ fn pops_in_order<L: Ledger>(heap: &mut DueHeap<Body>, count: u64, steps: &mut St
 }
 
 // Makes the call, and says whether it answers as it must.
-fn answers<L: Ledger>(alloc: Global, made: &mut Made, call: Call, steps: &mut Steps<L>) -> bool {
-    match call {
-        Call::Reserve(count) => made.heap.reserve(count).is_ok(),
-        Call::Insert(due, item) => insert(alloc, made, due, item, steps),
-        Call::First(want) => is_first(made, want),
-        Call::Get(which, want) => gets(made, which, want),
-        Call::Remove(which, want) => removes(made, which, want, steps),
-        Call::Pop(now, want) => pops(&mut made.heap, now, want, steps),
-        Call::InsertLatestFirst(count) => insert_latest_first(alloc, made, count, steps),
-        Call::PopInOrder(count) => pops_in_order(&mut made.heap, count, steps),
-        Call::Tick => {
+fn answers<R: Abort, L: Ledger>(
+    rt: &R,
+    alloc: Global,
+    made: &mut Made,
+    call: &'static [u8],
+    steps: &mut Steps<L>,
+) -> bool {
+    let (what, rest) = cut(call, b' ');
+    let (number, item) = cut(rest, b' ');
+    match text_of(rt, what) {
+        "tick" => {
             steps.tick();
             true
         }
+        "first" => is_first(rt, made, rest),
+        "reserve" => made.heap.reserve(which_of(rt, number)).is_ok(),
+        "insert" => insert(alloc, made, number_of(rt, number), item, steps),
+        _ => takes(rt, alloc, made, call, steps),
+    }
+}
+
+// The same of the other calls.
+fn takes<R: Abort, L: Ledger>(
+    rt: &R,
+    alloc: Global,
+    made: &mut Made,
+    call: &'static [u8],
+    steps: &mut Steps<L>,
+) -> bool {
+    let (what, rest) = cut(call, b' ');
+    let (digits, item) = cut(rest, b' ');
+    let number = number_of(rt, digits);
+    match text_of(rt, what) {
+        "get" => gets(made, which_of(rt, digits), item_of(item)),
+        "remove" => removes(made, which_of(rt, digits), item, steps),
+        "pop" => pops(&mut made.heap, number, item_of(item), steps),
+        "insert-latest-first" => insert_latest_first(alloc, made, number, steps),
+        "pop-in-order" => pops_in_order(&mut made.heap, number, steps),
+        _ => false,
     }
 }
 
 // Whether each call answers as it must, up to the first that doesn't.
-fn holds<L: Ledger>(alloc: Global, row: &Row, steps: &mut Steps<L>) -> bool {
+fn holds<R: Abort, L: Ledger>(
+    rt: &R,
+    alloc: Global,
+    row: &'static [u8],
+    steps: &mut Steps<L>,
+) -> bool {
+    let (_, calls) = cut(row, b'|');
     let mut made = Made {
         heap: DueHeap::new(alloc),
         keys: Vec::new(alloc),
     };
     let mut all = true;
-    for call in row.calls {
-        all = all && answers(alloc, &mut made, *call, steps);
+    for call in &rows_of(rt, alloc, calls, b';') {
+        all = all && answers(rt, alloc, &mut made, call, steps);
     }
     all
 }
@@ -228,9 +218,9 @@ fn check_rows<R: Abort, L: Ledger>(rt: &R, alloc: Global, blank: Blank)
     requires some { 0 < L.parts }
 {
     let mut steps: Steps<L> = Steps::new(blank);
-    for row in &ROWS {
-        let holds = holds(alloc, row, &mut steps);
-        check(rt, holds, row.name);
+    for row in &rows_of(rt, alloc, ROWS, b'~') {
+        let (name, _) = cut(row, b'|');
+        check_row(rt, holds(rt, alloc, row, &mut steps), name);
     }
 }
 

@@ -1,36 +1,15 @@
-use crate::{check, same};
+use crate::same;
+use crate::text::{check_row, cut, rows_of};
 use nsq_base::{Bodies, Body, Pair, Pairs};
 use std::alloc::Global;
 use std::process::Abort;
 
-// Bodies that are put into a list, those that are added once the list was taken apart, and all of them.
-struct Row {
-    name: &'static str,
-    first: &'static [&'static [u8]],
-    then: &'static [&'static [u8]],
-    all: &'static [&'static [u8]],
-}
-
-static ROWS: [Row; 3] = [
-    Row {
-        name: "nothing",
-        first: &[],
-        then: &[],
-        all: &[],
-    },
-    Row {
-        name: "one field",
-        first: &[b"t"],
-        then: &[],
-        all: &[b"t"],
-    },
-    Row {
-        name: "two bodies and one more",
-        first: &[b"one", b"two"],
-        then: &[b"three"],
-        all: &[b"one", b"two", b"three"],
-    },
-];
+// A name, and words: bodies that are put into a list, those that are added once the list was taken apart, and all of them.
+static ROWS: &[u8] = b"\
+nothing|||~\
+one field|t||t~\
+two bodies and one more|one two|three|one two three~\
+";
 
 // Whether the list has these bodies.
 fn has_bodies(bodies: &Bodies, want: &[&[u8]]) -> bool {
@@ -78,13 +57,19 @@ fn is_last(bodies: Bodies, want: &[&[u8]]) -> bool {
     }
 }
 
-fn holds_of_bodies(rt: &impl Abort, alloc: Global, row: &Row) -> bool {
+fn holds_of_bodies(
+    rt: &impl Abort,
+    alloc: Global,
+    put: &[&[u8]],
+    then: &[&[u8]],
+    whole: &[&[u8]],
+) -> bool {
     let mut bodies = Bodies::new(alloc);
-    add_bodies(rt, alloc, &mut bodies, row.first);
-    let first = are_bodies(rt, alloc, &bodies, row.first);
+    add_bodies(rt, alloc, &mut bodies, put);
+    let first = are_bodies(rt, alloc, &bodies, put);
     let mut bodies = Bodies::of(bodies.spend());
-    add_bodies(rt, alloc, &mut bodies, row.then);
-    first && are_bodies(rt, alloc, &bodies, row.all) && is_last(bodies, row.all)
+    add_bodies(rt, alloc, &mut bodies, then);
+    first && are_bodies(rt, alloc, &bodies, whole) && is_last(bodies, whole)
 }
 
 // Whether the list has pairs of these names and values.
@@ -114,19 +99,36 @@ fn add_pairs(rt: &impl Abort, alloc: Global, pairs: &mut Pairs, more: &[&[u8]]) 
     }
 }
 
-fn holds_of_pairs(rt: &impl Abort, alloc: Global, row: &Row) -> bool {
+fn holds_of_pairs(
+    rt: &impl Abort,
+    alloc: Global,
+    put: &[&[u8]],
+    then: &[&[u8]],
+    whole: &[&[u8]],
+) -> bool {
     let mut pairs = Pairs::new(alloc);
-    add_pairs(rt, alloc, &mut pairs, row.first);
-    let first = are_pairs(rt, alloc, &pairs, row.first);
+    add_pairs(rt, alloc, &mut pairs, put);
+    let first = are_pairs(rt, alloc, &pairs, put);
     let mut pairs = Pairs::of(pairs.spend());
-    add_pairs(rt, alloc, &mut pairs, row.then);
-    first && are_pairs(rt, alloc, &pairs, row.all)
+    add_pairs(rt, alloc, &mut pairs, then);
+    first && are_pairs(rt, alloc, &pairs, whole)
+}
+
+fn holds(rt: &impl Abort, alloc: Global, row: &'static [u8]) -> bool {
+    let (_, rest) = cut(row, b'|');
+    let (put, rest) = cut(rest, b'|');
+    let (then, whole) = cut(rest, b'|');
+    let put = rows_of(rt, alloc, put, b' ');
+    let then = rows_of(rt, alloc, then, b' ');
+    let whole = rows_of(rt, alloc, whole, b' ');
+    holds_of_bodies(rt, alloc, &put, &then, &whole)
+        && holds_of_pairs(rt, alloc, &put, &then, &whole)
 }
 
 #[test]
 fn rows(rt: HostRuntime) {
-    for row in &ROWS {
-        let holds = holds_of_bodies(&rt, rt.alloc(), row) && holds_of_pairs(&rt, rt.alloc(), row);
-        check(&rt, holds, row.name);
+    for row in &rows_of(&rt, rt.alloc(), ROWS, b'~') {
+        let (name, _) = cut(row, b'|');
+        check_row(&rt, holds(&rt, rt.alloc(), row), name);
     }
 }

@@ -1,49 +1,17 @@
-use crate::{check, same};
+//! Rows of names: a name, what is put in, in this order, and the topics with their channels that are there then, each with a `;` between them. A
+//! topic stands by itself, or before channels.
+
+use crate::same;
+use crate::text::{check_row, cut, rows_of};
 use nsq_base::{Chan, Names, Topic};
 use std::alloc::Global;
 use std::process::Abort;
 
-// What is put in.
-#[derive(Clone, Copy)]
-enum Given {
-    Topic(&'static [u8]),
-    Channel(&'static [u8], &'static [u8]),
-}
-
-// A topic and its channels.
-type Entry = (&'static [u8], &'static [&'static [u8]]);
-
-// What is put in, in this order, and the topics with their channels that are there then.
-struct Row {
-    name: &'static str,
-    given: &'static [Given],
-    topics: &'static [Entry],
-}
-
-static ROWS: [Row; 3] = [
-    Row {
-        name: "nothing",
-        given: &[],
-        topics: &[],
-    },
-    Row {
-        name: "topics and channels out of order and twice",
-        given: &[
-            Given::Channel(b"b", b"y"),
-            Given::Channel(b"a", b"z"),
-            Given::Channel(b"b", b"x"),
-            Given::Channel(b"b", b"y"),
-            Given::Topic(b"c"),
-            Given::Topic(b"b"),
-        ],
-        topics: &[(b"a", &[b"z"]), (b"b", &[b"x", b"y"]), (b"c", &[])],
-    },
-    Row {
-        name: "a name before each that it begins",
-        given: &[Given::Topic(b"tt"), Given::Topic(b"t"), Given::Topic(b"t-")],
-        topics: &[(b"t", &[]), (b"t-", &[]), (b"tt", &[])],
-    },
-];
+static ROWS: &[u8] = b"\
+nothing||~\
+topics and channels out of order and twice|b y;a z;b x;b y;c;b|a z;b x y;c~\
+a name before each that it begins|tt;t;t-|t;t-;tt~\
+";
 
 // How many channels a topic has, where it is there.
 fn channels_of(names: &Names, topic: Topic) -> Option<usize> {
@@ -56,11 +24,8 @@ fn channels_of(names: &Names, topic: Topic) -> Option<usize> {
 }
 
 // Puts it in. False where it has no names, or where after Memory the names weren't as before.
-fn puts(rt: &impl Abort, names: &mut Names, given: Given) -> bool {
-    let (topic, channel) = match given {
-        Given::Topic(topic) => (topic, b"".as_slice()),
-        Given::Channel(topic, channel) => (topic, channel),
-    };
+fn puts(rt: &impl Abort, names: &mut Names, given: &'static [u8]) -> bool {
+    let (topic, channel) = cut(given, b' ');
     let Some(topic) = Topic::read(topic) else {
         return false;
     };
@@ -90,33 +55,40 @@ fn are_channels(channels: &[Chan], want: &[&[u8]]) -> bool {
 }
 
 // Whether the topics are these, with their channels.
-fn are_topics(names: &Names, want: &[Entry]) -> bool {
+fn are_topics(rt: &impl Abort, alloc: Global, names: &Names, want: &[&'static [u8]]) -> bool {
     if names.count() != want.len() {
         return false;
     }
     let mut all = true;
     for i in 0..want.len() {
-        let (topic, channels) = want[i];
+        let (topic, channels) = cut(want[i], b' ');
+        let channels = rows_of(rt, alloc, channels, b' ');
         all = all
             && same(names.topic(i).bytes(), topic)
-            && are_channels(names.channels(i), channels);
+            && are_channels(names.channels(i), &channels);
     }
     all
 }
 
-fn holds(rt: &impl Abort, alloc: Global, row: &Row) -> bool {
+fn holds(rt: &impl Abort, alloc: Global, row: &'static [u8]) -> bool {
+    let (_, rest) = cut(row, b'|');
+    let (given, topics) = cut(rest, b'|');
+    let topics = rows_of(rt, alloc, topics, b';');
     let mut names = Names::new(alloc);
     let mut all = true;
-    for it in row.given {
-        all = all && puts(rt, &mut names, *it);
+    for it in &rows_of(rt, alloc, given, b';') {
+        all = all && puts(rt, &mut names, it);
     }
     let copy = names.copy(alloc).expect(rt, "memory");
-    all && copy == names && are_topics(&names, row.topics) && are_topics(&copy, row.topics)
+    all && copy == names
+        && are_topics(rt, alloc, &names, &topics)
+        && are_topics(rt, alloc, &copy, &topics)
 }
 
 #[test]
 fn rows(rt: HostRuntime) {
-    for row in &ROWS {
-        check(&rt, holds(&rt, rt.alloc(), row), row.name);
+    for row in &rows_of(&rt, rt.alloc(), ROWS, b'~') {
+        let (name, _) = cut(row, b'|');
+        check_row(&rt, holds(&rt, rt.alloc(), row), name);
     }
 }

@@ -1,6 +1,10 @@
-//! Whether a row holds.
+//! Whether a body is read as its row says: the body, and what it is read as with the default options, which is `refused`, `nothing` where the
+//! client says nothing, or the client, the host and the agent, with a `^` between them, the time between heartbeats in nanoseconds or `off`,
+//! the time for a message in nanoseconds, whether it negotiates (`json`) or not (`plain`), and its answer.
 
+use crate::identify::{read, refused, shapes};
 use crate::same;
+use crate::text::{check_row, cut, is_first, number_of, rows_of};
 use broker_plain::{Phase, reply};
 use negotiation::{Identity, identify_reply, read_identity};
 use nsq_base::{Body, Options};
@@ -8,45 +12,20 @@ use std::alloc::Global;
 use std::process::Abort;
 use v2_frame::{Command, Frame, FrameKind};
 
-/// A second in nanoseconds.
-pub const SECOND: u64 = 1_000_000_000;
+/// What a client gets that says nothing.
+const NOTHING: &[u8] = b"^^ 30000000000 60000000000 plain OK";
 
-/// What a body is read as. What isn't named is as it is where a client says nothing.
-#[derive(Clone, Copy)]
-pub enum Gets {
-    /// It is refused.
-    Refused,
-    /// Nothing is said.
-    Nothing,
-    /// These texts: client, host, agent.
-    Texts(&'static [u8], &'static [u8], &'static [u8]),
-    /// This time between heartbeats, in nanoseconds; None where they are off.
-    Beats(Option<u64>),
-    /// This time for a message, in nanoseconds.
-    Waits(u64),
-    /// It negotiates, has this time for a message in nanoseconds, and is answered this text.
-    Json(u64, &'static [u8]),
-}
-
-/// A body, and what it is read as, with the default options.
-pub struct Row {
-    /// The body.
-    pub body: &'static str,
-    /// What it is read as.
-    pub gets: Gets,
-}
-
-/// Whether a body is read so with the default options.
-pub fn holds(rt: &impl Abort, alloc: Global, body: &str, gets: Gets) -> bool {
-    let options = Options::defaults(alloc).expect(rt, "memory");
-    is_got(rt, alloc, &options, body.as_bytes(), gets)
-}
-
-/// Whether a body is read so with these options, and is answered so, by the plain program too.
-pub fn is_got(rt: &impl Abort, alloc: Global, options: &Options, body: &[u8], gets: Gets) -> bool {
+// Whether a body is read so with these options, and is answered so, by the plain program too.
+fn is_got(
+    rt: &impl Abort,
+    alloc: Global,
+    options: &Options,
+    body: &[u8],
+    wanted: &'static [u8],
+) -> bool {
     let found = read_identity(alloc, options, body).expect(rt, "memory");
     let frame = identify_reply(alloc, options, found.as_ref()).expect(rt, "memory");
-    is_read(&found, gets) && is_answer(&frame, gets) && is_plain(rt, alloc, options, body, &frame)
+    is_read(rt, &found, &frame, wanted) && is_plain(rt, alloc, options, body, &frame)
 }
 
 // Whether the plain program answers so.
@@ -58,11 +37,42 @@ fn is_plain(rt: &impl Abort, alloc: Global, options: &Options, body: &[u8], fram
     }
 }
 
-fn is_answer(frame: &Frame, gets: Gets) -> bool {
-    match gets {
-        Gets::Refused => is_frame(frame, FrameKind::Error, b"E_BAD_BODY bad JSON"),
-        Gets::Json(_, text) => is_frame(frame, FrameKind::Response, text),
-        _ => is_frame(frame, FrameKind::Response, b"OK"),
+fn is_read(
+    rt: &impl Abort,
+    found: &Option<Identity>,
+    frame: &Frame,
+    wanted: &'static [u8],
+) -> bool {
+    match found {
+        None => same(wanted, b"refused")
+            && is_frame(frame, FrameKind::Error, b"E_BAD_BODY bad JSON"),
+        Some(_) if same(wanted, b"refused") => false,
+        Some(identity) if same(wanted, b"nothing") => is_said(rt, identity, frame, NOTHING),
+        Some(identity) => is_said(rt, identity, frame, wanted),
+    }
+}
+
+// Whether an identity says this, and is answered so.
+fn is_said(rt: &impl Abort, identity: &Identity, frame: &Frame, wanted: &'static [u8]) -> bool {
+    let (client, rest) = cut(wanted, b'^');
+    let (host, rest) = cut(rest, b'^');
+    let (agent, rest) = cut(rest, b' ');
+    let (heartbeat, rest) = cut(rest, b' ');
+    let (timeout, rest) = cut(rest, b' ');
+    let (how, answer) = cut(rest, b' ');
+    same(identity.client_id.bytes(), client)
+        && same(identity.hostname.bytes(), host)
+        && same(identity.user_agent.bytes(), agent)
+        && is_beat(rt, identity.heartbeat, heartbeat)
+        && identity.timeout == number_of(rt, timeout)
+        && identity.negotiates == is_first(rt, how, b"json", b"plain")
+        && is_frame(frame, FrameKind::Response, answer)
+}
+
+fn is_beat(rt: &impl Abort, heartbeat: Option<u64>, wanted: &'static [u8]) -> bool {
+    match heartbeat {
+        None => same(wanted, b"off"),
+        Some(time) => !same(wanted, b"off") && time == number_of(rt, wanted),
     }
 }
 
@@ -70,43 +80,72 @@ fn is_frame(frame: &Frame, kind: FrameKind, text: &[u8]) -> bool {
     frame.kind == kind && same(frame.body.bytes(), text)
 }
 
-fn is_read(found: &Option<Identity>, gets: Gets) -> bool {
-    match found {
-        None => matches!(gets, Gets::Refused),
-        Some(identity) => is_said(identity, gets),
-    }
+// Whether a body is read so with the default options.
+fn holds(rt: &impl Abort, alloc: Global, body: &[u8], wanted: &'static [u8]) -> bool {
+    let options = Options::defaults(alloc).expect(rt, "memory");
+    is_got(rt, alloc, &options, body, wanted)
 }
 
-// Texts of which none is said.
-const NO_TEXTS: [&'static [u8]; 3] = [b"", b"", b""];
+// A body of an unknown member with so many lists, one inside the other: with the object itself it nests one deeper.
+fn nested(rt: &impl Abort, alloc: Global, lists: u64) -> Vec<u8> {
+    let mut body = br#"{"unknown":"#.to_vec(alloc).expect(rt, "memory");
+    for _ in 0..lists {
+        body.push(b'[').expect(rt, "memory");
+    }
+    for _ in 0..lists {
+        body.push(b']').expect(rt, "memory");
+    }
+    body.push(b'}').expect(rt, "memory");
+    body
+}
 
-fn is_said(identity: &Identity, gets: Gets) -> bool {
-    let beat = Some(30 * SECOND);
-    let wait = 60 * SECOND;
-    match gets {
-        Gets::Refused => false,
-        Gets::Nothing => says(identity, NO_TEXTS, beat, wait, false),
-        Gets::Texts(client, host, agent) => {
-            says(identity, [client, host, agent], beat, wait, false)
+// With other options: the longest heartbeat interval and time for a message, and the time for a message where none is said, in
+// nanoseconds.
+fn holds_other(rt: &impl Abort, alloc: Global, row: &'static [u8]) -> bool {
+    let (longest_beat, rest) = cut(row, b'|');
+    let (longest_wait, rest) = cut(rest, b'|');
+    let (wait, rest) = cut(rest, b'|');
+    let (body, wanted) = cut(rest, b'|');
+    let mut options = Options::defaults(alloc).expect(rt, "memory");
+    options.max_heartbeat_interval = number_of(rt, longest_beat);
+    options.max_msg_timeout = number_of(rt, longest_wait);
+    options.msg_timeout = number_of(rt, wait);
+    is_got(rt, alloc, &options, body, wanted)
+}
+
+#[test]
+fn rows(rt: HostRuntime) {
+    let alloc = rt.alloc();
+    let tables = [
+        read::SAID,
+        shapes::SHAPES,
+        refused::KINDS,
+        refused::TIMES,
+        refused::NUMBERS,
+    ];
+    for table in tables {
+        for row in &rows_of(&rt, alloc, table, b'\n') {
+            let (body, wanted) = cut(row, b'|');
+            check_row(&rt, holds(&rt, alloc, body, wanted), row);
         }
-        Gets::Beats(heartbeat) => says(identity, NO_TEXTS, heartbeat, wait, false),
-        Gets::Waits(timeout) => says(identity, NO_TEXTS, beat, timeout, false),
-        Gets::Json(timeout, _) => says(identity, NO_TEXTS, beat, timeout, true),
+    }
+    for row in &rows_of(&rt, alloc, read::OTHERS, b'\n') {
+        check_row(&rt, holds_other(&rt, alloc, row), row);
     }
 }
 
-// Whether an identity says this: client, host and agent, its heartbeat, its time for a message, and whether it negotiates.
-fn says(
-    identity: &Identity,
-    texts: [&'static [u8]; 3],
-    heartbeat: Option<u64>,
-    timeout: u64,
-    negotiates: bool,
-) -> bool {
-    same(identity.client_id.bytes(), texts[0])
-        && same(identity.hostname.bytes(), texts[1])
-        && same(identity.user_agent.bytes(), texts[2])
-        && identity.heartbeat == heartbeat
-        && identity.timeout == timeout
-        && identity.negotiates == negotiates
+#[test]
+fn named_rows(rt: HostRuntime) {
+    let alloc = rt.alloc();
+    for row in &rows_of(&rt, alloc, shapes::NAMED, b'~') {
+        let (name, rest) = cut(row, b'|');
+        let (body, wanted) = cut(rest, b'|');
+        check_row(&rt, holds(&rt, alloc, body, wanted), name);
+    }
+    for row in &rows_of(&rt, alloc, shapes::NESTED, b'~') {
+        let (name, wanted) = cut(row, b'|');
+        let (lists, _) = cut(name, b' ');
+        let body = nested(&rt, alloc, number_of(&rt, lists));
+        check_row(&rt, holds(&rt, alloc, &body, wanted), row);
+    }
 }

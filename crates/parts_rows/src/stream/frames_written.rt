@@ -1,80 +1,58 @@
-use crate::{check, same};
+use crate::same;
+use crate::stream::frames_read::kind_of;
+use crate::text::{check_row, cut, rows_of};
 use nsq_base::Body;
 use std::alloc::Global;
 use std::process::Abort;
 use v2_frame::{Frame, FrameKind, write_frame, write_frame_of};
 
-// A frame, and the bytes that it is written as.
-struct Row {
-    name: &'static str,
-    kind: FrameKind,
-    text: &'static [u8],
-    bytes: &'static [u8],
-}
+// A name, a frame's kind and its text, and the bytes that it is written as.
+static ROWS: &[u8] = b"\
+OK|response|OK|\0\0\0\x06\0\0\0\0OK~\
+an error|error|E_FIN_FAILED message not in flight|\0\0\0\x26\0\0\0\x01E_FIN_FAILED message not in flight~\
+a message|message|\0\0\0\0\0\0\0\0\0\x010000010000000000a|\0\0\0\x1f\0\0\0\x02\0\0\0\0\0\0\0\0\0\x010000010000000000a~\
+no text|response||\0\0\0\x04\0\0\0\0~\
+";
 
-static ROWS: [Row; 4] = [
-    Row {
-        name: "OK",
-        kind: FrameKind::Response,
-        text: b"OK",
-        bytes: b"\0\0\0\x06\0\0\0\0OK",
-    },
-    Row {
-        name: "an error",
-        kind: FrameKind::Error,
-        text: b"E_FIN_FAILED message not in flight",
-        bytes: b"\0\0\0\x26\0\0\0\x01E_FIN_FAILED message not in flight",
-    },
-    Row {
-        name: "a message",
-        kind: FrameKind::Message,
-        text: b"\0\0\0\0\0\0\0\0\0\x010000010000000000a",
-        bytes: b"\0\0\0\x1f\0\0\0\x02\0\0\0\0\0\0\0\0\0\x010000010000000000a",
-    },
-    Row {
-        name: "no text",
-        kind: FrameKind::Response,
-        text: b"",
-        bytes: b"\0\0\0\x04\0\0\0\0",
-    },
-];
-
-// Whether the frame is written as the row says.
-fn writes(rt: &impl Abort, alloc: Global, row: &Row, frame: &Frame) -> bool {
+// Whether the frame is written as these bytes.
+fn writes(rt: &impl Abort, alloc: Global, frame: &Frame, bytes: &[u8]) -> bool {
     if frame.body.bytes().len() >= 1 << 31 {
         return false;
     }
     let mut out = Vec::new(alloc);
     write_frame(alloc, frame, &mut out).expect(rt, "memory");
-    same(&out, row.bytes)
+    same(&out, bytes)
 }
 
-// Whether the text alone is written as the row says.
-fn writes_text(rt: &impl Abort, alloc: Global, row: &Row) -> bool {
-    if row.text.len() >= 1 << 31 {
+// Whether the text alone is written as these bytes.
+fn writes_text(rt: &impl Abort, alloc: Global, kind: FrameKind, text: &[u8], bytes: &[u8]) -> bool {
+    if text.len() >= 1 << 31 {
         return false;
     }
     let mut out = Vec::new(alloc);
-    write_frame_of(row.kind, row.text, &mut out).expect(rt, "memory");
-    same(&out, row.bytes)
+    write_frame_of(kind, text, &mut out).expect(rt, "memory");
+    same(&out, bytes)
 }
 
 // Whether a frame and its text alone are written as the row says, and a copy of the frame is the row's.
-fn holds(rt: &impl Abort, alloc: Global, row: &Row) -> bool {
-    let frame = Frame {
-        kind: row.kind,
-        body: Body::copy(alloc, row.text).expect(rt, "memory"),
-    };
+fn holds(rt: &impl Abort, alloc: Global, row: &'static [u8]) -> bool {
+    let (_, rest) = cut(row, b'|');
+    let (kind, rest) = cut(rest, b'|');
+    let (text, bytes) = cut(rest, b'|');
+    let kind = kind_of(rt, kind);
+    let body = Body::copy(alloc, text).expect(rt, "memory");
+    let frame = Frame { kind, body };
     let copy = frame.copy(alloc).expect(rt, "memory");
-    writes_text(rt, alloc, row)
-        && writes(rt, alloc, row, &frame)
-        && copy.kind == row.kind
-        && same(copy.body.bytes(), row.text)
+    writes_text(rt, alloc, kind, text, bytes)
+        && writes(rt, alloc, &frame, bytes)
+        && copy.kind == kind
+        && same(copy.body.bytes(), text)
 }
 
 #[test]
 fn rows(rt: HostRuntime) {
-    for row in &ROWS {
-        check(&rt, holds(&rt, rt.alloc(), row), row.name);
+    for row in &rows_of(&rt, rt.alloc(), ROWS, b'~') {
+        let (name, _) = cut(row, b'|');
+        check_row(&rt, holds(&rt, rt.alloc(), row), name);
     }
 }

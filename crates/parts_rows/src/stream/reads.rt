@@ -122,3 +122,14 @@ fn reads_bytes(
     }
     reading.finds(rt, alloc, want, rest)
 }
+
+/// Whether copies of the commands that the plain program finds print as this.
+pub fn copies(rt: &impl Abort, alloc: Global, limits: Limits, bytes: &[u8], want: &str) -> bool {
+    let (commands, _) = script_of(alloc, limits, bytes).expect(rt, "memory");
+    let mut copies = Vec::new(alloc);
+    for command in &commands {
+        copies.reserve(1).expect(rt, "memory");
+        copies.push_reserved(Command::copy(command, alloc).expect(rt, "memory"));
+    }
+    prints(rt, alloc, &copies, want)
+}

@@ -1,107 +1,31 @@
 ghost use Rattle.std.specs.Prelude.{◌≡◌, ◌^◌, ◌<◌, IfSome};
 ghost use Rattle.v2_frame.specs.Writing.{CanWrite};
 
-use crate::{check, same};
+use crate::same;
+use crate::text::{check_row, cut, rows_of, text_of};
 use std::alloc::Global;
 use std::process::Abort;
 use v2_frame::{Command, Found, Limits, judge_front, write_command};
 
 const LIMITS: Limits = Limits { msg: 5, body: 100 };
 
-// A spelling of a command, the command, and its canonical spelling.
-struct Row {
-    name: &'static str,
-    spelled: &'static [u8],
-    command: &'static str,
-    written: &'static [u8],
-}
-
-static ROWS: [Row; 14] = [
-    Row {
-        name: "IDENTIFY",
-        spelled: b"IDENTIFY\n\0\0\0\x02{}",
-        command: "Identify(Body { bytes: [123, 125] })",
-        written: b"IDENTIFY\n\0\0\0\x02{}",
-    },
-    Row {
-        name: "PUB with a carriage return",
-        spelled: b"PUB t\r\n\0\0\0\x02hi",
-        command: "Pub(Topic { name: \"t\" }, Body { bytes: [104, 105] })",
-        written: b"PUB t\n\0\0\0\x02hi",
-    },
-    Row {
-        name: "DPUB with a minus sign and a leading zero",
-        spelled: b"DPUB t -07\n\0\0\0\x01d",
-        command: "Dpub(Topic { name: \"t\" }, -7, Body { bytes: [100] })",
-        written: b"DPUB t -7\n\0\0\0\x01d",
-    },
-    Row {
-        name: "MPUB of two bodies",
-        spelled: b"MPUB t\n\0\0\0\x0f\0\0\0\x02\0\0\0\x01a\0\0\0\x02bc",
-        command: "Mpub(Topic { name: \"t\" }, Bodies { items: [Body { bytes: [97] }, Body { bytes: [98, 99] }] })",
-        written: b"MPUB t\n\0\0\0\x0f\0\0\0\x02\0\0\0\x01a\0\0\0\x02bc",
-    },
-    Row {
-        name: "SUB",
-        spelled: b"SUB t c\n",
-        command: "Sub(Topic { name: \"t\" }, Chan { name: \"c\" })",
-        written: b"SUB t c\n",
-    },
-    Row {
-        name: "RDY",
-        spelled: b"RDY 1\n",
-        command: "Rdy(1)",
-        written: b"RDY 1\n",
-    },
-    Row {
-        name: "RDY without its number",
-        spelled: b"RDY\n",
-        command: "Rdy(1)",
-        written: b"RDY 1\n",
-    },
-    Row {
-        name: "RDY of 18 digits",
-        spelled: b"RDY -123456789012345678\n",
-        command: "Rdy(-123456789012345678)",
-        written: b"RDY -123456789012345678\n",
-    },
-    Row {
-        name: "RDY of minus zero",
-        spelled: b"RDY -000\n",
-        command: "Rdy(0)",
-        written: b"RDY 0\n",
-    },
-    Row {
-        name: "FIN",
-        spelled: b"FIN 0000010000000000\n",
-        command: "Fin(MsgId { bytes: [48, 48, 48, 48, 48, 49, 48, 48, 48, 48, 48, 48, 48, 48, 48, 48] })",
-        written: b"FIN 0000010000000000\n",
-    },
-    Row {
-        name: "REQ",
-        spelled: b"REQ 0000010000000000 100\n",
-        command: "Req(MsgId { bytes: [48, 48, 48, 48, 48, 49, 48, 48, 48, 48, 48, 48, 48, 48, 48, 48] }, 100)",
-        written: b"REQ 0000010000000000 100\n",
-    },
-    Row {
-        name: "TOUCH",
-        spelled: b"TOUCH 0000010000000000\n",
-        command: "Touch(MsgId { bytes: [48, 48, 48, 48, 48, 49, 48, 48, 48, 48, 48, 48, 48, 48, 48, 48] })",
-        written: b"TOUCH 0000010000000000\n",
-    },
-    Row {
-        name: "CLS",
-        spelled: b"CLS\n",
-        command: "Cls",
-        written: b"CLS\n",
-    },
-    Row {
-        name: "NOP",
-        spelled: b"NOP\n",
-        command: "Nop",
-        written: b"NOP\n",
-    },
-];
+// A name, a spelling of a command, the command as it prints, and its canonical spelling.
+static ROWS: &[u8] = b"\
+IDENTIFY|IDENTIFY\n\0\0\0\x02{}|Identify(Body { bytes: [123, 125] })|IDENTIFY\n\0\0\0\x02{}~\
+PUB with a carriage return|PUB t\r\n\0\0\0\x02hi|Pub(Topic { name: \"t\" }, Body { bytes: [104, 105] })|PUB t\n\0\0\0\x02hi~\
+DPUB with a minus sign and a leading zero|DPUB t -07\n\0\0\0\x01d|Dpub(Topic { name: \"t\" }, -7, Body { bytes: [100] })|DPUB t -7\n\0\0\0\x01d~\
+MPUB of two bodies|MPUB t\n\0\0\0\x0f\0\0\0\x02\0\0\0\x01a\0\0\0\x02bc|Mpub(Topic { name: \"t\" }, Bodies { items: [Body { bytes: [97] }, Body { bytes: [98, 99] }] })|MPUB t\n\0\0\0\x0f\0\0\0\x02\0\0\0\x01a\0\0\0\x02bc~\
+SUB|SUB t c\n|Sub(Topic { name: \"t\" }, Chan { name: \"c\" })|SUB t c\n~\
+RDY|RDY 1\n|Rdy(1)|RDY 1\n~\
+RDY without its number|RDY\n|Rdy(1)|RDY 1\n~\
+RDY of 18 digits|RDY -123456789012345678\n|Rdy(-123456789012345678)|RDY -123456789012345678\n~\
+RDY of minus zero|RDY -000\n|Rdy(0)|RDY 0\n~\
+FIN|FIN 0000010000000000\n|Fin(MsgId { bytes: [48, 48, 48, 48, 48, 49, 48, 48, 48, 48, 48, 48, 48, 48, 48, 48] })|FIN 0000010000000000\n~\
+REQ|REQ 0000010000000000 100\n|Req(MsgId { bytes: [48, 48, 48, 48, 48, 49, 48, 48, 48, 48, 48, 48, 48, 48, 48, 48] }, 100)|REQ 0000010000000000 100\n~\
+TOUCH|TOUCH 0000010000000000\n|Touch(MsgId { bytes: [48, 48, 48, 48, 48, 49, 48, 48, 48, 48, 48, 48, 48, 48, 48, 48] })|TOUCH 0000010000000000\n~\
+CLS|CLS\n|Cls|CLS\n~\
+NOP|NOP\n|Nop|NOP\n~\
+";
 
 // The command that the bytes spell, where they spell one and nothing stands behind it.
 fn command_of(rt: &impl Abort, alloc: Global, bytes: &[u8]) -> Option<Command>
@@ -120,21 +44,27 @@ fn prints(rt: &impl Abort, alloc: Global, command: &Command, want: &str) -> bool
 }
 
 // Whether the command that is spelled prints as the row says, and is written behind what is there as its canonical spelling.
-fn holds(rt: &impl Abort, alloc: Global, row: &Row) -> bool {
-    let Some(command) = command_of(rt, alloc, row.spelled) else {
+fn holds(rt: &impl Abort, alloc: Global, row: &'static [u8]) -> bool {
+    let (_, rest) = cut(row, b'|');
+    let (spelled, rest) = cut(rest, b'|');
+    let (prints_as, canonical) = cut(rest, b'|');
+    let Some(command) = command_of(rt, alloc, spelled) else {
         return false;
     };
     let mut out = b"  V2".to_vec(alloc).expect(rt, "memory");
     write_command(alloc, &command, &mut out).expect(rt, "memory");
     match out.strip_prefix(b"  V2") {
-        Some(written) => { same(written, row.written) && prints(rt, alloc, &command, row.command) }
+        Some(written) => {
+            same(written, canonical) && prints(rt, alloc, &command, text_of(rt, prints_as))
+        }
         None => false,
     }
 }
 
 #[test]
 fn rows(rt: HostRuntime) {
-    for row in &ROWS {
-        check(&rt, holds(&rt, rt.alloc(), row), row.name);
+    for row in &rows_of(&rt, rt.alloc(), ROWS, b'~') {
+        let (name, _) = cut(row, b'|');
+        check_row(&rt, holds(&rt, rt.alloc(), row), name);
     }
 }

@@ -1,117 +1,37 @@
 //! Turns of three passes, one after another.
+//!
+//! A row has a name, the list with which the turnstile is made, the turns with a `;` between them, and the list at close. A turn is the number
+//! of its pass, the list that it finds behind a `:`, and what it appends behind a `>`. An entry is its number and its value, with a `.` between
+//! them.
 ghost use Rattle.std.specs.Prelude.{◌≡◌, ◌⊎◌, IsTrue, All};
 ghost use Rattle.turnstile.specs.Passes.{number};
 ghost use Rattle.parts_rows.specs.Keeps.{KeepsNumbers, IsReady, IsUnsplit};
 
-use crate::check;
+use crate::text::{check_row, cut, number_of, rows_of};
 use crate::turnstiles::pairs::{Pairs, append, same};
 use std::alloc::Global;
 use std::process::Abort;
 use std::sync::Wait;
 use turnstile::{Pass, Turnstile};
 
-#[derive(Clone, Copy)]
-enum Who {
-    First,
-    One,
-    Two,
-}
+static ROWS: &[u8] = b"\
+one pass appends an entry of its own and a common one||1:>1.7 0.9|1.7 0.9~\
+two passes, the second finds what the first appended||1:>1.7;2:1.7>2.8|1.7 2.8~\
+a list that is there at the start, and turns that append nothing|0.3|2:0.3>;0:0.3>|0.3~\
+the first pass takes turns too||0:>0.1;2:0.1>2.2 0.3 2.4;0:0.1 2.2 0.3 2.4>0.5;1:0.1 2.2 0.3 2.4 0.5>1.6|0.1 2.2 0.3 2.4 0.5 1.6~\
+no turn at all|||~\
+";
 
-/// One turn: whose it is, the list that it finds, and what it appends.
-struct Step {
-    who: Who,
-    finds: &'static [(u64, u64)],
-    adds: &'static [(u64, u64)],
+/// The entries of a text.
+fn entries_of(rt: &impl Abort, alloc: Global, text: &'static [u8]) -> Vec<(u64, u64)> {
+    let mut entries = Vec::new(alloc);
+    for entry in &rows_of(rt, alloc, text, b' ') {
+        let (number, value) = cut(entry, b'.');
+        let entry = (number_of(rt, number), number_of(rt, value));
+        entries.push(entry).expect(rt, "memory");
+    }
+    entries
 }
-
-struct Row {
-    name: &'static str,
-    /// The list with which the turnstile is made.
-    begins: &'static [(u64, u64)],
-    steps: &'static [Step],
-    /// The list at close.
-    ends: &'static [(u64, u64)],
-}
-
-static ROWS: [Row; 5] = [
-    Row {
-        name: "one pass appends an entry of its own and a common one",
-        begins: &[],
-        steps: &[Step {
-            who: Who::One,
-            finds: &[],
-            adds: &[(1, 7), (0, 9)],
-        }],
-        ends: &[(1, 7), (0, 9)],
-    },
-    Row {
-        name: "two passes, the second finds what the first appended",
-        begins: &[],
-        steps: &[
-            Step {
-                who: Who::One,
-                finds: &[],
-                adds: &[(1, 7)],
-            },
-            Step {
-                who: Who::Two,
-                finds: &[(1, 7)],
-                adds: &[(2, 8)],
-            },
-        ],
-        ends: &[(1, 7), (2, 8)],
-    },
-    Row {
-        name: "a list that is there at the start, and turns that append nothing",
-        begins: &[(0, 3)],
-        steps: &[
-            Step {
-                who: Who::Two,
-                finds: &[(0, 3)],
-                adds: &[],
-            },
-            Step {
-                who: Who::First,
-                finds: &[(0, 3)],
-                adds: &[],
-            },
-        ],
-        ends: &[(0, 3)],
-    },
-    Row {
-        name: "the first pass takes turns too",
-        begins: &[],
-        steps: &[
-            Step {
-                who: Who::First,
-                finds: &[],
-                adds: &[(0, 1)],
-            },
-            Step {
-                who: Who::Two,
-                finds: &[(0, 1)],
-                adds: &[(2, 2), (0, 3), (2, 4)],
-            },
-            Step {
-                who: Who::First,
-                finds: &[(0, 1), (2, 2), (0, 3), (2, 4)],
-                adds: &[(0, 5)],
-            },
-            Step {
-                who: Who::One,
-                finds: &[(0, 1), (2, 2), (0, 3), (2, 4), (0, 5)],
-                adds: &[(1, 6)],
-            },
-        ],
-        ends: &[(0, 1), (2, 2), (0, 3), (2, 4), (0, 5), (1, 6)],
-    },
-    Row {
-        name: "no turn at all",
-        begins: &[],
-        steps: &[],
-        ends: &[],
-    },
-];
 
 /// Whether each entry names 0 or this number.
 fn may_append(whose: u64, adds: &[(u64, u64)]) -> bool
@@ -143,11 +63,12 @@ pub fn turn<R: Abort + Wait>(
 /// All turns of a row: whether each found what it should.
 fn run<R: Abort + Wait>(
     rt: &R,
+    alloc: Global,
     turnstile: &Turnstile<Pairs>,
     first: &mut Pass<Pairs>,
     one: &mut Pass<Pairs>,
     two: &mut Pass<Pairs>,
-    steps: &[Step],
+    steps: &[&'static [u8]],
 ) -> bool
     requires first { IsReady turnstile.now first.old × (number first.old ≡ 0) }
     requires one { IsReady turnstile.now one.old × (number one.old ≡ 1) }
@@ -159,10 +80,12 @@ fn run<R: Abort + Wait>(
 {
     let mut all = true;
     for step in steps {
-        let found = match step.who {
-            Who::First => turn_of(rt, turnstile, first, 0, step),
-            Who::One => turn_of(rt, turnstile, one, 1, step),
-            Who::Two => turn_of(rt, turnstile, two, 2, step),
+        let (who, step) = cut(step, b':');
+        let found = match number_of(rt, who) {
+            0 => turn_of(rt, alloc, turnstile, first, 0, step),
+            1 => turn_of(rt, alloc, turnstile, one, 1, step),
+            2 => turn_of(rt, alloc, turnstile, two, 2, step),
+            _ => false,
         };
         all = all && found;
     }
@@ -172,20 +95,25 @@ fn run<R: Abort + Wait>(
 /// One turn of the pass of this number, where it may append what it should.
 fn turn_of<R: Abort + Wait>(
     rt: &R,
+    alloc: Global,
     turnstile: &Turnstile<Pairs>,
     pass: &mut Pass<Pairs>,
     whose: u64,
-    step: &Step,
+    step: &'static [u8],
 ) -> bool
     requires ready { IsReady turnstile.now pass.old }
     requires number { number pass.old ≡ whose }
     ensures ready { IsReady turnstile.now pass.new }
     ensures kept { KeepsNumbers pass.old pass.new }
 {
-    if !may_append(whose, step.adds) {
+    let (finds, adds) = cut(step, b'>');
+    let finds = entries_of(rt, alloc, finds);
+    let entries = entries_of(rt, alloc, adds);
+    let adds = entries.as_slice();
+    if !may_append(whose, adds) {
         return false;
     }
-    turn(rt, turnstile, pass, step.finds, step.adds)
+    turn(rt, turnstile, pass, &finds, adds)
 }
 
 /// Makes a turnstile of a list of common entries.
@@ -207,20 +135,27 @@ pub fn made(
     }
 }
 
-fn holds<R: Abort + Wait>(rt: &R, alloc: Global, row: &Row) -> bool {
-    let (turnstile, mut first) = made(rt, alloc, row.begins);
+fn holds<R: Abort + Wait>(rt: &R, alloc: Global, row: &'static [u8]) -> bool {
+    let (_, rest) = cut(row, b'|');
+    let (begins, rest) = cut(rest, b'|');
+    let (steps, ends) = cut(rest, b'|');
+    let steps = rows_of(rt, alloc, steps, b';');
+    let (turnstile, mut first) = made(rt, alloc, &entries_of(rt, alloc, begins));
     let mut one = turnstile.split(&mut first, 1);
     let mut two = turnstile.split(&mut first, 2);
-    let found = run(rt, &turnstile, &mut first, &mut one, &mut two, row.steps);
+    let found = run(
+        rt, alloc, &turnstile, &mut first, &mut one, &mut two, &steps,
+    );
     turnstile.join(&mut first, two);
     turnstile.join(&mut first, one);
     let ended = turnstile.close(first);
-    found && same(&ended.list, row.ends)
+    found && same(&ended.list, &entries_of(rt, alloc, ends))
 }
 
 #[test]
 fn rows(rt: HostRuntime) {
-    for row in &ROWS {
-        check(&rt, holds(&rt, rt.alloc(), row), row.name);
+    for row in &rows_of(&rt, rt.alloc(), ROWS, b'~') {
+        let (name, _) = cut(row, b'|');
+        check_row(&rt, holds(&rt, rt.alloc(), row), name);
     }
 }

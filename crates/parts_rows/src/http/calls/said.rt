@@ -1,4 +1,9 @@
+//! Rows of what is said to what was asked: a name, whether a `publish` was asked or something `else`, what is said, and its answer. What is
+//! said is `done`, `no topic`, `no channel`, `ids`, `disk` or `stats`; a `stop` is; nothing is, as memory is wanting (`out of memory`) or as the
+//! daemon stops (`stopping`).
+
 use crate::http::calls::requests::text_of_answer;
+use crate::text::{check_row, cut, is_first, rows_of, text_of};
 use crate::{check, same};
 use broker_history::{Items, Said, Stats};
 use http_calls::{HttpAnswer, Refusal, answer_to, stop_answer};
@@ -6,117 +11,53 @@ use http_wire::write_answer;
 use std::alloc::Global;
 use std::process::Abort;
 
-/// Something that is said to what was asked, and its answer.
-struct Row {
-    name: &'static str,
-    publish: bool,
-    said: Told,
-    wanted: &'static [u8],
-}
-
-/// What is said.
-#[derive(Clone, Copy)]
-enum Told {
-    Done,
-    NoTopic,
-    NoChannel,
-    Ids,
-    Disk,
-    Stats,
-    /// A stop is.
-    Stop,
-    /// Nothing is, as memory is wanting.
-    OutOfMemory,
-    /// Nothing is, as the daemon stops.
-    Stopping,
-}
-
-static ROWS: [Row; 10] = [
-    Row {
-        name: "a publish",
-        publish: true,
-        said: Told::Done,
-        wanted: b"200 text OK",
-    },
-    Row {
-        name: "something else that is done",
-        publish: false,
-        said: Told::Done,
-        wanted: b"200 text ",
-    },
-    Row {
-        name: "no topic",
-        publish: false,
-        said: Told::NoTopic,
-        wanted: b"404 json {\"message\":\"TOPIC_NOT_FOUND\"}",
-    },
-    Row {
-        name: "no channel",
-        publish: false,
-        said: Told::NoChannel,
-        wanted: b"404 json {\"message\":\"CHANNEL_NOT_FOUND\"}",
-    },
-    Row {
-        name: "ids are spent",
-        publish: true,
-        said: Told::Ids,
-        wanted: b"503 json {\"message\":\"IDS_SPENT\"}",
-    },
-    Row {
-        name: "a disk fault",
-        publish: true,
-        said: Told::Disk,
-        wanted: b"500 json {\"message\":\"DISK_FAULT\"}",
-    },
-    Row {
-        name: "statistics",
-        publish: false,
-        said: Told::Stats,
-        wanted: b"200 json {\"health\":\"OK\",\"start_time\":3,\"topics\":[],\"version\":\"1.0.0\"}",
-    },
-    Row {
-        name: "a stop",
-        publish: false,
-        said: Told::Stop,
-        wanted: b"200 text OK",
-    },
-    Row {
-        name: "want of memory",
-        publish: false,
-        said: Told::OutOfMemory,
-        wanted: b"503 json {\"message\":\"OUT_OF_MEMORY\"}",
-    },
-    Row {
-        name: "a daemon that stops",
-        publish: false,
-        said: Told::Stopping,
-        wanted: b"503 json {\"message\":\"STOPPING\"}",
-    },
-];
+static ROWS: &[u8] = b"\
+a publish|publish|done|200 text OK~\
+something else that is done|else|done|200 text ~\
+no topic|else|no topic|404 json {\"message\":\"TOPIC_NOT_FOUND\"}~\
+no channel|else|no channel|404 json {\"message\":\"CHANNEL_NOT_FOUND\"}~\
+ids are spent|publish|ids|503 json {\"message\":\"IDS_SPENT\"}~\
+a disk fault|publish|disk|500 json {\"message\":\"DISK_FAULT\"}~\
+statistics|else|stats|200 json {\"health\":\"OK\",\"start_time\":3,\"topics\":[],\"version\":\"1.0.0\"}~\
+a stop|else|stop|200 text OK~\
+want of memory|else|out of memory|503 json {\"message\":\"OUT_OF_MEMORY\"}~\
+a daemon that stops|else|stopping|503 json {\"message\":\"STOPPING\"}~\
+";
 
 /// What it is answered.
-fn answer_of(rt: &impl Abort, alloc: Global, row: &Row) -> HttpAnswer {
-    let said = match row.said {
-        Told::Done => Said::Done,
-        Told::NoTopic => Said::NoTopic,
-        Told::NoChannel => Said::NoChannel,
-        Told::Ids => Said::Ids,
-        Told::Disk => Said::Disk,
-        Told::Stats => Said::Stats(Stats {
+fn answer_of(rt: &impl Abort, alloc: Global, publish: bool, told: &str) -> HttpAnswer {
+    let said = match told {
+        "done" => Said::Done,
+        "no topic" => Said::NoTopic,
+        "no channel" => Said::NoChannel,
+        "ids" => Said::Ids,
+        "disk" => Said::Disk,
+        "stats" => Said::Stats(Stats {
             topics: Items::new(alloc),
         }),
-        Told::Stop => return stop_answer(alloc).expect(rt, "memory"),
-        Told::OutOfMemory => return Refusal::OutOfMemory.answer(alloc).expect(rt, "memory"),
-        Told::Stopping => return Refusal::Stopping.answer(alloc).expect(rt, "memory"),
+        _ => return other_answer(rt, alloc, told),
     };
-    answer_to(alloc, row.publish, 3_900_000_000, &said).expect(rt, "memory")
+    answer_to(alloc, publish, 3_900_000_000, &said).expect(rt, "memory")
+}
+
+/// What it is answered where nothing is said, or a stop is.
+fn other_answer(rt: &impl Abort, alloc: Global, told: &str) -> HttpAnswer {
+    match told {
+        "stop" => stop_answer(alloc).expect(rt, "memory"),
+        "out of memory" => Refusal::OutOfMemory.answer(alloc).expect(rt, "memory"),
+        "stopping" => Refusal::Stopping.answer(alloc).expect(rt, "memory"),
+        _ => panic!(rt; "{} is no word", told),
+    }
 }
 
 /// Whether it is answered as the row wants.
-fn holds(rt: &impl Abort, alloc: Global, row: &Row) -> bool {
-    let answer = answer_of(rt, alloc, row);
-    let text = text_of_answer(rt, alloc, &answer);
-    same(&text, row.wanted)
+fn holds(rt: &impl Abort, alloc: Global, row: &'static [u8]) -> bool {
+    let (_, rest) = cut(row, b'|');
+    let (asked, rest) = cut(rest, b'|');
+    let (told, wanted) = cut(rest, b'|');
+    let publish = is_first(rt, asked, b"publish", b"else");
+    let answer = answer_of(rt, alloc, publish, text_of(rt, told));
+    same(&text_of_answer(rt, alloc, &answer), wanted)
 }
 
 /// Whether a refusal is written so.
@@ -132,8 +73,9 @@ fn is_written(rt: &impl Abort, alloc: Global) -> bool {
 
 #[test]
 fn rows(rt: HostRuntime) {
-    for row in &ROWS {
-        check(&rt, holds(&rt, rt.alloc(), row), row.name);
+    for row in &rows_of(&rt, rt.alloc(), ROWS, b'~') {
+        let (name, _) = cut(row, b'|');
+        check_row(&rt, holds(&rt, rt.alloc(), row), name);
     }
     check(&rt, is_written(&rt, rt.alloc()), "bytes");
 }

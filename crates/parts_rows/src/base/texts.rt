@@ -1,0 +1,160 @@
+//! Texts of the base types. A row is a name, a text, and what it is.
+
+use crate::text::{check_row, cut, number_of, rows_of};
+use crate::{check, same};
+use nsq_base::{Chan, Memory, MsgId, Topic, is_address, port};
+use std::process::Abort;
+
+// Addresses, each with its port, or `none`.
+static ADDRESSES: &[u8] = b"\
+an empty host|:4150|4150~\
+colons in the host, and the greatest port|[::1]:65535|65535~\
+the least port|h:1|1~\
+a zero in front|h:04150|none~\
+a port too great|h:65536|none~\
+a port of 0|h:0|none~\
+no port|h:|none~\
+no colon|4150|none~\
+a letter behind the port|h:1x|none~\
+";
+
+// Ids, each with its epoch and its number in hexadecimal digits, or `none`.
+static IDS: &[u8] = b"\
+the first id of the first epoch|0000010000000000|1 0~\
+the second id|0000010000000001|1 1~\
+digits above nine|abcdeffedcba9876|abcdef fedcba9876~\
+the last id of the last epoch|ffffffffffffffff|ffffff ffffffffff~\
+15 bytes|000001000000000|none~\
+17 bytes|00000100000000012|none~\
+";
+
+// Names of topics and of channels: a `name`, an `ephemeral` one, or `none`.
+static NAMES: &[u8] = b"\
+one letter|a|name~\
+each byte of a name|abcdefghijklmnopqrstuvwxyz.ABCDEFGHIJKLMNOPQRSTUVWXYZ-0123456789|name~\
+an underscore and the suffix|_#ephemeral|ephemeral~\
+64 bytes|aaaaaaaaaaaaaaaaaaaaaaaaaaaaaaaaaaaaaaaaaaaaaaaaaaaaaaaaaaaaaaaa|name~\
+65 bytes|aaaaaaaaaaaaaaaaaaaaaaaaaaaaaaaaaaaaaaaaaaaaaaaaaaaaaaaaaaaaaaaaa|none~\
+64 bytes with the suffix|aaaaaaaaaaaaaaaaaaaaaaaaaaaaaaaaaaaaaaaaaaaaaaaaaaaaaa#ephemeral|ephemeral~\
+65 bytes with the suffix|aaaaaaaaaaaaaaaaaaaaaaaaaaaaaaaaaaaaaaaaaaaaaaaaaaaaaaa#ephemeral|none~\
+nothing||none~\
+the suffix alone|#ephemeral|none~\
+the suffix twice|a#ephemeral#ephemeral|none~\
+a cut suffix|a#ephemera|none~\
+a space|a b|none~\
+a colon|a:b|none~\
+a slash|a/b|none~\
+a line feed|a\n|none~\
+a letter beyond ASCII|\xc3\xa4|none~\
+a topic that is ephemeral|t#ephemeral|ephemeral~\
+a channel that isn't|c|name~\
+";
+
+// Whether the text is an address with this port, or none.
+fn is_port(rt: &impl Abort, text: &[u8], wanted: &'static [u8]) -> bool {
+    if !is_address(text) {
+        return same(wanted, b"none");
+    }
+    !same(wanted, b"none") && u64::from(port(text)) == number_of(rt, wanted)
+}
+
+// The number of hexadecimal digits.
+fn hex(digits: &[u8]) -> u64 {
+    let mut number = 0u64;
+    for digit in digits {
+        let value = match *digit {
+            b'0'..=b'9' => *digit - b'0',
+            b'a'..=b'f' => *digit - b'a' + 10,
+            _ => return u64::MAX,
+        };
+        number = number.wrapping_mul(16) | u64::from(value);
+    }
+    number
+}
+
+// Whether the epoch and the number make this id.
+fn is_made(id: MsgId, epoch: u64, number: u64) -> bool {
+    let Ok(epoch) = u32::try_from(epoch) else {
+        return false;
+    };
+    if epoch >= 1 << 24 || number >= 1 << 40 {
+        return false;
+    }
+    id == MsgId::make(epoch, number)
+}
+
+fn is_id(bytes: &[u8], wanted: &'static [u8]) -> bool {
+    let (epoch, number) = cut(wanted, b' ');
+    match MsgId::read(bytes) {
+        None => same(wanted, b"none"),
+        Some(id) => same(id.bytes(), bytes) && is_made(id, hex(epoch), hex(number)),
+    }
+}
+
+// Whether a name is of the wanted kind, with its bytes and its text.
+fn is_name(given: &[u8], wanted: &[u8], ephemeral: bool, bytes: &[u8], text: &str) -> bool {
+    let kind: &[u8] = if ephemeral { b"ephemeral" } else { b"name" };
+    same(kind, wanted) && same(bytes, given) && same(text.as_bytes(), given)
+}
+
+// Whether a topic is read so.
+fn is_topic(given: &[u8], wanted: &[u8]) -> bool {
+    match Topic::read(given) {
+        None => same(wanted, b"none"),
+        Some(topic) => is_name(
+            given,
+            wanted,
+            topic.ephemeral(),
+            topic.bytes(),
+            topic.as_str(),
+        ),
+    }
+}
+
+// The same of a channel.
+fn is_channel(given: &[u8], wanted: &[u8]) -> bool {
+    match Chan::read(given) {
+        None => same(wanted, b"none"),
+        Some(channel) => is_name(
+            given,
+            wanted,
+            channel.ephemeral(),
+            channel.bytes(),
+            channel.as_str(),
+        ),
+    }
+}
+
+// The fields of a row: its name, a text, and what it is.
+fn fields(row: &'static [u8]) -> [&'static [u8]; 3] {
+    let (name, rest) = cut(row, b'|');
+    let (text, wanted) = cut(rest, b'|');
+    [name, text, wanted]
+}
+
+#[test]
+fn rows(rt: HostRuntime) {
+    let alloc = rt.alloc();
+    for row in &rows_of(&rt, alloc, ADDRESSES, b'~') {
+        let [name, text, wanted] = fields(row);
+        check_row(&rt, is_port(&rt, text, wanted), name);
+    }
+    for row in &rows_of(&rt, alloc, IDS, b'~') {
+        let [name, text, wanted] = fields(row);
+        check_row(&rt, is_id(text, wanted), name);
+    }
+    for row in &rows_of(&rt, alloc, NAMES, b'~') {
+        let [name, text, wanted] = fields(row);
+        check_row(
+            &rt,
+            is_topic(text, wanted) && is_channel(text, wanted),
+            name,
+        );
+    }
+    let told = format!(in alloc; "{}", Memory).expect(&rt, "memory");
+    check(
+        &rt,
+        same(told.as_bytes(), b"out of memory"),
+        "want of memory",
+    );
+}

@@ -2,6 +2,7 @@
 
 ghost use Rattle.std.specs.Prelude.{◌≤◌, ◌<◌};
 
+use crate::texts::{part, put, put_text};
 use nsq_base::Body;
 use nsq_fakes::{Failing, FolderCall, Piece};
 use std::alloc::Global;
@@ -13,89 +14,79 @@ pub struct Dice {
     state: u64,
 }
 
-// What a client says. Most of it fits somewhere.
-static COMMANDS: [&[u8]; 24] = [
-    b"PUB t\n\0\0\0\x01x",
-    b"PUB t\n\0\0\0\x02yy",
-    b"PUB t\n\0\0\0\x03zzz",
-    b"PUB u#ephemeral\n\0\0\0\x01x",
-    b"MPUB t\n\0\0\0\x0f\0\0\0\x02\0\0\0\x02aa\0\0\0\x01b",
-    b"DPUB t 0\n\0\0\0\x01d",
-    b"DPUB t 300\n\0\0\0\x02dd",
-    b"RDY 1\n",
-    b"RDY 2\n",
-    b"RDY 5\n",
-    b"RDY 0\n",
-    b"NOP\n",
-    b"NOP\n",
-    b"CLS\n",
-    b"SUB t a\n",
-    b"SUB t b#ephemeral\n",
-    b"SUB u#ephemeral a\n",
-    b"IDENTIFY\n\0\0\0\x02{}",
-    b"IDENTIFY\n\0\0\0\x19{\"heartbeat_interval\":-1}",
-    b"PUB t\n\0\0\0\0",
-    b"MPUB t\n\0\0\0\x08\0\0\0\x02\0\0\0\x01",
-    b"DPUB t 3600001\n\0\0\0\x01d",
-    b"PUB a b\n",
-    b"HELLO\n",
-];
+// What a client says, 24 commands. Most of it fits somewhere.
+static COMMANDS: &'static str = r#"PUB t\n\0\0\0\x01x
+PUB t\n\0\0\0\x02yy
+PUB t\n\0\0\0\x03zzz
+PUB u#ephemeral\n\0\0\0\x01x
+MPUB t\n\0\0\0\x0f\0\0\0\x02\0\0\0\x02aa\0\0\0\x01b
+DPUB t 0\n\0\0\0\x01d
+DPUB t 300\n\0\0\0\x02dd
+RDY 1\n
+RDY 2\n
+RDY 5\n
+RDY 0\n
+NOP\n
+NOP\n
+CLS\n
+SUB t a\n
+SUB t b#ephemeral\n
+SUB u#ephemeral a\n
+IDENTIFY\n\0\0\0\x02{}
+IDENTIFY\n\0\0\0\x19{"heartbeat_interval":-1}
+PUB t\n\0\0\0\0
+MPUB t\n\0\0\0\x08\0\0\0\x02\0\0\0\x01
+DPUB t 3600001\n\0\0\0\x01d
+PUB a b\n
+HELLO\n"#;
 
-// How a client begins that waits for messages.
-static BEGINNINGS: [&[u8]; 4] = [
-    b"SUB t a\nRDY 1\n",
-    b"SUB t a\nRDY 5\n",
-    b"SUB t b#ephemeral\nRDY 2\n",
-    b"IDENTIFY\n\0\0\0\x1b{\"heartbeat_interval\":1000}SUB t a\nRDY 3\n",
-];
+// How a client begins that waits for messages, in 4 ways.
+static BEGINNINGS: &'static str = r#"SUB t a\nRDY 1\n
+SUB t a\nRDY 5\n
+SUB t b#ephemeral\nRDY 2\n
+IDENTIFY\n\0\0\0\x1b{"heartbeat_interval":1000}SUB t a\nRDY 3\n"#;
 
-// What is done with a message: what stands before its id, and behind it.
-static HANDLINGS: [(&[u8], &[u8]); 6] = [
-    (b"FIN ", b"\n"),
-    (b"FIN ", b"\n"),
-    (b"FIN ", b"\n"),
-    (b"TOUCH ", b"\n"),
-    (b"REQ ", b" 0\n"),
-    (b"REQ ", b" 500\n"),
-];
+// What is done with a message, 6 times: what stands before its id, and behind it.
+static HANDLINGS: &'static str = r#"FIN @\n
+FIN @\n
+FIN @\n
+TOUCH @\n
+REQ @ 0\n
+REQ @ 500\n"#;
 
-// What a caller of HTTP sends. Most of it fits somewhere.
-static REQUESTS: [&[u8]; 32] = [
-    b"POST /pub?topic=t HTTP/1.1\r\nContent-Length: 1\r\n\r\nx",
-    b"POST /pub?topic=t HTTP/1.1\r\nHost: h\r\nContent-Length: 2\r\n\r\nyy",
-    b"POST /pub?topic=u%23ephemeral HTTP/1.1\r\nContent-Length: 1\r\n\r\nx",
-    b"POST /pub?topic=t&defer=0 HTTP/1.1\r\nContent-Length: 1\r\n\r\nd",
-    b"POST /pub?topic=t&defer=300 HTTP/1.1\r\nContent-Length: 1\r\n\r\nd",
-    b"POST /mpub?topic=t HTTP/1.1\r\nContent-Length: 5\r\n\r\naa\n\nb",
-    b"POST /mpub?topic=t&binary=true HTTP/1.1\r\nContent-Length: 15\r\n\r\n\0\0\0\x02\0\0\0\x02aa\0\0\0\x01b",
-    b"GET /stats?format=json HTTP/1.1\r\n\r\n",
-    b"GET /stats?format=json HTTP/1.0\r\n\r\n",
-    b"GET /stats?format=json&topic=t&channel=a HTTP/1.1\r\n\r\n",
-    b"POST /topic/create?topic=t HTTP/1.1\r\n\r\n",
-    b"POST /channel/create?topic=t&channel=a HTTP/1.1\r\n\r\n",
-    b"POST /channel/create?topic=t&channel=b%23ephemeral HTTP/1.1\r\n\r\n",
-    b"POST /topic/pause?topic=t HTTP/1.1\r\n\r\n",
-    b"POST /topic/unpause?topic=t HTTP/1.1\r\n\r\n",
-    b"POST /channel/pause?topic=t&channel=a HTTP/1.1\r\n\r\n",
-    b"POST /channel/unpause?topic=t&channel=a HTTP/1.1\r\n\r\n",
-    b"POST /topic/empty?topic=t HTTP/1.1\r\n\r\n",
-    b"POST /channel/empty?topic=t&channel=a HTTP/1.1\r\n\r\n",
-    b"POST /channel/delete?topic=t&channel=a HTTP/1.1\r\n\r\n",
-    b"POST /topic/delete?topic=t HTTP/1.1\r\n\r\n",
-    b"POST /stop HTTP/1.1\r\n\r\n",
-    b"POST /stop HTTP/1.1\r\n\r\nGET /ping HTTP/1.1\r\n\r\n",
-    b"GET /ping HTTP/1.1\r\n\r\n",
-    b"GET /info HTTP/1.1\r\n\r\n",
-    b"GET /x HTTP/1.1\r\n\r\n",
-    b"GET /pub?topic=t HTTP/1.1\r\n\r\n",
-    b"POST /pub?topic=t HTTP/1.1\r\n\r\n",
-    b"POST /pub?topic=t HTTP/1.1\r\nContent-Length: 3\r\n\r\nxy",
-    b"POST /pub?topic=t HTTP/1.1\r\nTransfer-Encoding: chunked\r\n\r\n1\r\nx\r\n0\r\n\r\n",
-    b"POST /pub?topic=t HTTP/1.1\r\nContent-Length: 1073741824\r\n\r\nx",
-    b"  V2PUB t\n\0\0\0\x01x\n\n",
-];
-
-const DIGITS: &[u8] = b"0123456789abcdef";
+// What a caller of HTTP sends, 32 requests. Most of it fits somewhere.
+static REQUESTS: &'static str = r#"POST /pub?topic=t HTTP/1.1\r\nContent-Length: 1\r\n\r\nx
+POST /pub?topic=t HTTP/1.1\r\nHost: h\r\nContent-Length: 2\r\n\r\nyy
+POST /pub?topic=u%23ephemeral HTTP/1.1\r\nContent-Length: 1\r\n\r\nx
+POST /pub?topic=t&defer=0 HTTP/1.1\r\nContent-Length: 1\r\n\r\nd
+POST /pub?topic=t&defer=300 HTTP/1.1\r\nContent-Length: 1\r\n\r\nd
+POST /mpub?topic=t HTTP/1.1\r\nContent-Length: 5\r\n\r\naa\n\nb
+POST /mpub?topic=t&binary=true HTTP/1.1\r\nContent-Length: 15\r\n\r\n\0\0\0\x02\0\0\0\x02aa\0\0\0\x01b
+GET /stats?format=json HTTP/1.1\r\n\r\n
+GET /stats?format=json HTTP/1.0\r\n\r\n
+GET /stats?format=json&topic=t&channel=a HTTP/1.1\r\n\r\n
+POST /topic/create?topic=t HTTP/1.1\r\n\r\n
+POST /channel/create?topic=t&channel=a HTTP/1.1\r\n\r\n
+POST /channel/create?topic=t&channel=b%23ephemeral HTTP/1.1\r\n\r\n
+POST /topic/pause?topic=t HTTP/1.1\r\n\r\n
+POST /topic/unpause?topic=t HTTP/1.1\r\n\r\n
+POST /channel/pause?topic=t&channel=a HTTP/1.1\r\n\r\n
+POST /channel/unpause?topic=t&channel=a HTTP/1.1\r\n\r\n
+POST /topic/empty?topic=t HTTP/1.1\r\n\r\n
+POST /channel/empty?topic=t&channel=a HTTP/1.1\r\n\r\n
+POST /channel/delete?topic=t&channel=a HTTP/1.1\r\n\r\n
+POST /topic/delete?topic=t HTTP/1.1\r\n\r\n
+POST /stop HTTP/1.1\r\n\r\n
+POST /stop HTTP/1.1\r\n\r\nGET /ping HTTP/1.1\r\n\r\n
+GET /ping HTTP/1.1\r\n\r\n
+GET /info HTTP/1.1\r\n\r\n
+GET /x HTTP/1.1\r\n\r\n
+GET /pub?topic=t HTTP/1.1\r\n\r\n
+POST /pub?topic=t HTTP/1.1\r\n\r\n
+POST /pub?topic=t HTTP/1.1\r\nContent-Length: 3\r\n\r\nxy
+POST /pub?topic=t HTTP/1.1\r\nTransfer-Encoding: chunked\r\n\r\n1\r\nx\r\n0\r\n\r\n
+POST /pub?topic=t HTTP/1.1\r\nContent-Length: 1073741824\r\n\r\nx
+  V2PUB t\n\0\0\0\x01x\n\n"#;
 
 impl Dice {
     /// Random numbers of this seed.
@@ -117,21 +108,22 @@ impl Dice {
         (self.state >> 33) % bound
     }
 
-    // One of these texts; an empty one where there are none.
-    fn text(&mut self, texts: &[&'static [u8]]) -> &'static [u8] {
-        let count = (texts.len() as u64).max(1);
+    // Adds one of the first so many texts of these.
+    fn add_one(&mut self, rt: &impl Abort, bytes: &mut Vec<u8>, texts: &'static str, count: u64)
+        requires { 1 ≤ count }
+    {
         let at = self.below(count) as usize;
-        texts.get(at).copied().unwrap_or(b"")
+        put_text(rt, bytes, texts.split('\n').nth(at).unwrap_or(""));
     }
 
     /// What a client sends in the run of this epoch, as bytes.
     pub fn stream(&mut self, rt: &impl Abort, alloc: Global, epoch: u64) -> Vec<u8> {
         let mut bytes = Vec::from_slice(alloc, b"  V2").expect(rt, "memory");
         if self.below(16) == 0 {
-            bytes.push(b'x').expect(rt, "memory");
+            put(rt, &mut bytes, b"x");
         }
         if self.below(3) != 0 {
-            add(rt, &mut bytes, self.text(&BEGINNINGS));
+            self.add_one(rt, &mut bytes, BEGINNINGS, 4);
         }
         for _ in 0..3 + self.below(10) {
             self.add_command(rt, &mut bytes, epoch);
@@ -141,7 +133,9 @@ impl Dice {
 
     /// What a caller of HTTP sends, as bytes.
     pub fn request(&mut self, rt: &impl Abort, alloc: Global) -> Vec<u8> {
-        Vec::from_slice(alloc, self.text(&REQUESTS)).expect(rt, "memory")
+        let mut bytes = Vec::new(alloc);
+        self.add_one(rt, &mut bytes, REQUESTS, 32);
+        bytes
     }
 
     fn add_command(&mut self, rt: &impl Abort, bytes: &mut Vec<u8>, epoch: u64) {
@@ -149,24 +143,26 @@ impl Dice {
             return self.add_handling(rt, bytes, epoch);
         }
         // The first ones come more often, so that some clients go on for a while.
-        let most = 1 + self.below(COMMANDS.len() as u64) as usize;
-        add(rt, bytes, self.text(&COMMANDS[..most]));
+        let most = 1 + self.below(24);
+        self.add_one(rt, bytes, COMMANDS, most);
     }
 
     // What is done with one of the first messages of a run.
     fn add_handling(&mut self, rt: &impl Abort, bytes: &mut Vec<u8>, epoch: u64) {
-        let at = self.below(HANDLINGS.len() as u64) as usize;
+        let at = self.below(6) as usize;
         let digit = self.below(8) as usize;
-        let (before, behind) = HANDLINGS[at];
+        let handling = HANDLINGS.split('\n').nth(at).unwrap_or("");
+        let (before, behind) = part(rt, handling, "@");
         let run: &[u8] = if epoch == 1 {
             b"000001000000000"
         } else {
             b"000002000000000"
         };
-        add(rt, bytes, before);
-        add(rt, bytes, run);
-        add(rt, bytes, &DIGITS[digit..digit + 1]);
-        add(rt, bytes, behind);
+        put_text(rt, bytes, before);
+        put(rt, bytes, run);
+        let digits: &[u8] = b"01234567";
+        put(rt, bytes, digits.get(digit..digit + 1).unwrap_or(b"0"));
+        put_text(rt, bytes, behind);
     }
 
     /// These bytes, cut anywhere, with nothing between some pieces.
@@ -198,9 +194,8 @@ impl Dice {
         numbers
     }
 
-    /// Some calls of a folder that fail, of any method.
-    pub fn faults(&mut self, rt: &impl Abort, alloc: Global) -> Vec<Failing> {
-        let mut fails = Vec::new(alloc);
+    /// Adds some calls of a folder that fail, of any method.
+    pub fn add_faults(&mut self, rt: &impl Abort, fails: &mut Vec<Failing>) {
         for _ in 0..self.below(5) {
             let call = match self.below(4) {
                 0 => FolderCall::WriteAt,
@@ -211,12 +206,10 @@ impl Dice {
             let to = from.wrapping_add(self.below(3)).wrapping_add(1);
             fails.push(Failing { call, from, to }).expect(rt, "memory");
         }
-        fails
     }
 
-    /// The readings of a clock that mostly stands, and then goes on.
-    pub fn readings(&mut self, rt: &impl Abort, alloc: Global) -> Vec<u64> {
-        let mut readings = Vec::new(alloc);
+    /// Adds the readings of a clock that mostly stands, and then goes on.
+    pub fn add_readings(&mut self, rt: &impl Abort, readings: &mut Vec<u64>) {
         let mut moment: u64 = 0;
         for _ in 0..300 {
             moment = moment.saturating_add(match self.below(16) {
@@ -227,11 +220,5 @@ impl Dice {
             });
             readings.push(moment).expect(rt, "memory");
         }
-        readings
     }
-}
-
-// Adds bytes.
-fn add(rt: &impl Abort, bytes: &mut Vec<u8>, further: &[u8]) {
-    bytes.extend_from_slice(further).expect(rt, "memory");
 }

@@ -8,9 +8,6 @@ use queue_plain::NamedFile;
 use std::alloc::Global;
 use std::process::Abort;
 
-/// A file's name and its bytes.
-pub type File = (&'static str, &'static [u8]);
-
 /// A folder with these files, of which these calls fail.
 pub fn folder_of(
     rt: &impl Abort,
@@ -30,13 +27,6 @@ fn given_as(rt: &impl Abort, alloc: Global, files: &[NamedFile]) -> Vec<(String,
         given.push((name, bytes)).expect(rt, "memory");
     }
     given
-}
-
-/// Adds files to a list.
-pub fn add_files(rt: &impl Abort, alloc: Global, files: &mut Vec<NamedFile>, further: &[File]) {
-    for (name, bytes) in further {
-        add_file(rt, alloc, files, name, bytes);
-    }
 }
 
 /// Adds a file to a list.
@@ -81,7 +71,7 @@ fn names_in(rt: &impl Abort, alloc: Global, folder: &mut MemFolder) -> Vec<Strin
 }
 
 /// The bytes of a file, where there is one.
-pub fn bytes_of<'a>(files: &'a [NamedFile], name: &str) -> Option<&'a [u8]> {
+pub fn found_in<'a>(files: &'a [NamedFile], name: &str) -> Option<&'a [u8]> {
     for file in files {
         if same(file.name.bytes(), name.as_bytes()) {
             return Some(file.bytes.bytes());

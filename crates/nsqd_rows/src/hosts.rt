@@ -3,10 +3,11 @@
 ghost use Rattle.std.specs.Prelude.{IsSome};
 ghost use Rattle.nsq_fakes.specs.MemHosts.{state_of};
 
-use crate::files::list_files;
+use crate::files::{folder_of, list_files};
+use crate::setting::push_word;
 use broker_history::Entry;
 use daemon_main::nsqd_run;
-use nsq_fakes::{MemClock, MemConn, MemFolder, MemHost, MemJournal};
+use nsq_fakes::{Failing, MemClock, MemConn, MemFolder, MemHost, MemJournal};
 use nsq_outside::{End, Host, Kind, Kit};
 use queue_plain::NamedFile;
 use std::alloc::Global;
@@ -16,31 +17,34 @@ use std::sync::Wait;
 // What a host in memory stands on.
 type MemKit = Kit<MemFolder, MemClock, MemJournal<Entry>>;
 
-/// Which calls of a host fail, by their numbers from 0.
-#[derive(Clone, Copy)]
-pub struct HostFails {
-    /// Starts and accepts, counted together.
-    pub accepts: &'static [u64],
-    pub prints: &'static [u64],
-    pub tells: &'static [u64],
-}
-
-/// No call of the host fails.
-pub const NONE_FAILS: HostFails = HostFails {
-    accepts: &[],
-    prints: &[],
-    tells: &[],
-};
-
 /// What a run is given.
 #[derive(Drop)]
 pub struct Given {
     pub words: Vec<String>,
     pub callers: Vec<(Kind, MemConn)>,
-    pub folder: MemFolder,
+    /// Which calls of the folder fail.
+    pub fails: Vec<Failing>,
     /// The readings of the clock.
     pub readings: Vec<u64>,
-    pub fails: HostFails,
+    /// Which calls of the host fail, by their numbers from 0: starts and accepts, counted together, prints, and tells.
+    pub accepts: Vec<u64>,
+    pub prints: Vec<u64>,
+    pub tells: Vec<u64>,
+}
+
+/// A run without callers in which nothing fails, with the program's name as its only word.
+pub fn nothing(rt: &impl Abort, alloc: Global) -> Given {
+    let mut words = Vec::new(alloc);
+    push_word(rt, alloc, &mut words, "nsqd");
+    Given {
+        words,
+        callers: Vec::new(alloc),
+        fails: Vec::new(alloc),
+        readings: Vec::new(alloc),
+        accepts: Vec::new(alloc),
+        prints: Vec::new(alloc),
+        tells: Vec::new(alloc),
+    }
 }
 
 /// What a run came to.
@@ -51,17 +55,25 @@ pub struct Outcome {
     ghost home: { IsSome (state_of host).kit },
 }
 
-/// Makes a run.
-pub fn run_with<R: Abort + Wait>(rt: &R, alloc: Global, given: Given) -> Outcome {
+/// Makes a run over a folder with these files.
+pub fn run_with<R: Abort + Wait>(
+    rt: &R,
+    alloc: Global,
+    given: Given,
+    files: &[NamedFile],
+) -> Outcome {
     let Given {
         words,
         callers,
-        folder,
-        readings,
         fails,
+        readings,
+        accepts,
+        prints,
+        tells,
     } = given;
-    let kit = kit_of(rt, alloc, folder, readings);
-    let mut host = host_of(rt, alloc, callers, kit, fails);
+    let kit = kit_of(rt, alloc, folder_of(rt, alloc, files, fails), readings);
+    let mut host = host_of(rt, alloc, callers, kit);
+    host.fail_at(accepts, prints, tells);
     let status = nsqd_run(rt, alloc, &words, &mut host);
     Outcome { status, host }
 }
@@ -75,30 +87,16 @@ fn kit_of(rt: &impl Abort, alloc: Global, folder: MemFolder, readings: Vec<u64>)
     }
 }
 
-// A host over this kit, of which these calls fail.
+// A host over this kit.
 fn host_of(
     rt: &impl Abort,
     alloc: Global,
     callers: Vec<(Kind, MemConn)>,
     kit: MemKit,
-    fails: HostFails,
 ) -> MemHost<Entry>
     ensures { IsSome (state_of result).kit }
 {
-    let mut host = MemHost::new(alloc, callers, Vec::new(alloc), kit, false).expect(rt, "memory");
-    fail(rt, alloc, &mut host, fails);
-    host
-}
-
-// Has these calls of a host fail.
-fn fail(rt: &impl Abort, alloc: Global, host: &mut MemHost<Entry>, fails: HostFails)
-    requires { IsSome (state_of host.old).kit }
-    ensures { IsSome (state_of host.new).kit }
-{
-    let accepts = Vec::from_slice(alloc, fails.accepts).expect(rt, "memory");
-    let prints = Vec::from_slice(alloc, fails.prints).expect(rt, "memory");
-    let tells = Vec::from_slice(alloc, fails.tells).expect(rt, "memory");
-    host.fail_at(accepts, prints, tells);
+    MemHost::new(alloc, callers, Vec::new(alloc), kit, false).expect(rt, "memory")
 }
 
 impl Outcome {

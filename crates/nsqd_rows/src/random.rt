@@ -5,13 +5,13 @@
 ghost use Rattle.nsq_base.specs.Options.{IsInRange};
 
 use crate::dice::Dice;
-use crate::files::folder_of;
-use crate::hosts::{Given, NONE_FAILS, Outcome, run_with};
+use crate::hosts::{Given, Outcome, nothing, run_with};
 use crate::judged::{is_served, noted_wrong};
-use crate::setting::{DEFAULTS, SECOND, Setting, options_of, words_of};
+use crate::setting::{add_words, options_of};
+use crate::texts::{cut, part};
 use broker_history::{Act, Ended, Entry};
 use nsq_base::Options;
-use nsq_fakes::{MemConn, MemFolder};
+use nsq_fakes::MemConn;
 use nsq_outside::{End, Kind};
 use queue_plain::NamedFile;
 use std::alloc::Global;
@@ -31,31 +31,18 @@ static ENDINGS: [Ended; 4] = [
     Ended::WriteFault,
 ];
 
-static SETTINGS: [Setting; 3] = [
-    Setting {
-        words: &["--mem-queue-size=0", "--msg-timeout=1s"],
-        memory: 0,
-        timeout: SECOND,
-        ..DEFAULTS
-    },
-    Setting {
-        words: &["--mem-queue-size=2", "--msg-timeout", "1s"],
-        memory: 2,
-        timeout: SECOND,
-        ..DEFAULTS
-    },
-    Setting {
-        words: &["--http-stop"],
-        stops: true,
-        ..DEFAULTS
-    },
+// What the runs of seeds are given, as lines: words, and what they make of the options.
+static SETTINGS: [&'static str; 3] = [
+    "words --mem-queue-size=0 --msg-timeout=1s\noption memory 0\noption timeout 1000000000",
+    "words --mem-queue-size=2 --msg-timeout 1s\noption memory 2\noption timeout 1000000000",
+    "words --http-stop\noption stops",
 ];
 
 // A seed's dice, and what its runs are given.
 #[derive(Drop)]
 struct Seed {
     dice: Dice,
-    setting: Setting,
+    setting: &'static str,
     // Whether the folder fails.
     fails: bool,
 }
@@ -91,39 +78,30 @@ fn bytes_of(rt: &impl Abort, alloc: Global, dice: &mut Dice, kind: Kind, epoch: 
     }
 }
 
-fn callers_of(rt: &impl Abort, alloc: Global, dice: &mut Dice, epoch: u64) -> Vec<(Kind, MemConn)> {
-    let mut callers = Vec::new(alloc);
+fn add_callers(
+    rt: &impl Abort,
+    alloc: Global,
+    dice: &mut Dice,
+    epoch: u64,
+    callers: &mut Vec<(Kind, MemConn)>,
+) {
     for _ in 0..CALLERS {
         let caller = caller_of(rt, alloc, dice, epoch);
         callers.push(caller).expect(rt, "memory");
     }
-    callers
 }
 
-fn given_by(
-    rt: &impl Abort,
-    alloc: Global,
-    seed: &mut Seed,
-    epoch: u64,
-    files: &[NamedFile],
-) -> Given {
-    Given {
-        callers: callers_of(rt, alloc, &mut seed.dice, epoch),
-        folder: seed_folder(rt, alloc, seed, files),
-        readings: seed.dice.readings(rt, alloc),
-        words: words_of(rt, alloc, seed.setting.words),
-        fails: NONE_FAILS,
+fn given_by(rt: &impl Abort, alloc: Global, seed: &mut Seed, epoch: u64) -> Given {
+    let mut given = nothing(rt, alloc);
+    add_callers(rt, alloc, &mut seed.dice, epoch, &mut given.callers);
+    if seed.fails {
+        seed.dice.add_faults(rt, &mut given.fails);
     }
-}
-
-// A folder with these files, which fails where a seed's does.
-fn seed_folder(rt: &impl Abort, alloc: Global, seed: &mut Seed, files: &[NamedFile]) -> MemFolder {
-    let fails = if seed.fails {
-        seed.dice.faults(rt, alloc)
-    } else {
-        Vec::new(alloc)
-    };
-    folder_of(rt, alloc, files, fails)
+    seed.dice.add_readings(rt, &mut given.readings);
+    let (line, _) = part(rt, seed.setting, "\n");
+    let (_, words) = cut(line);
+    add_words(rt, alloc, &mut given.words, words);
+    given
 }
 
 // What is wrong with a run of a seed over these files. Then they are those that it left.
@@ -134,9 +112,9 @@ fn run_wrong<R: Abort + Wait>(
     epoch: u64,
     files: &mut Vec<NamedFile>,
 ) -> Option<&'static str> {
-    let given = given_by(rt, alloc, seed, epoch, files);
+    let given = given_by(rt, alloc, seed, epoch);
     let began = given.readings.first().copied().unwrap_or(0);
-    let outcome = run_with(rt, alloc, given);
+    let outcome = run_with(rt, alloc, given, files);
     outcome_wrong(rt, alloc, seed, began, files, outcome)
 }
 
@@ -205,18 +183,8 @@ fn is_status(seed: &Seed, status: u8) -> bool {
 fn seed_wrong<R: Abort + Wait>(rt: &R, alloc: Global, number: u64) -> Option<&'static str> {
     let mut seed = seed_of(number);
     let mut files = Vec::new(alloc);
-    runs_wrong(rt, alloc, &mut seed, &mut files)
-}
-
-// What is wrong with the runs of a seed over these files, one after another.
-fn runs_wrong<R: Abort + Wait>(
-    rt: &R,
-    alloc: Global,
-    seed: &mut Seed,
-    files: &mut Vec<NamedFile>,
-) -> Option<&'static str> {
     for epoch in 1..3 {
-        let wrong = run_wrong(rt, alloc, seed, epoch, files);
+        let wrong = run_wrong(rt, alloc, &mut seed, epoch, &mut files);
         if wrong.is_some() {
             return wrong;
         }
@@ -224,18 +192,14 @@ fn runs_wrong<R: Abort + Wait>(
     None
 }
 
-// The same, begun once more where it is wrong, so that a seed holds too where one allocation of the daemon's fails.
-fn seed_wrong_at_last<R: Abort + Wait>(rt: &R, alloc: Global, number: u64) -> Option<&'static str> {
-    if seed_wrong(rt, alloc, number).is_none() {
-        return None;
-    }
-    seed_wrong(rt, alloc, number)
-}
-
+// Where a seed is wrong it begins once more, so that it holds too where one allocation of the daemon's fails.
 #[test]
 fn random_runs(rt: HostRuntime) {
     for number in 1..SEEDS + 1 {
-        let wrong = seed_wrong_at_last(&rt, rt.alloc(), number);
+        let mut wrong = seed_wrong(&rt, rt.alloc(), number);
+        if wrong.is_some() {
+            wrong = seed_wrong(&rt, rt.alloc(), number);
+        }
         assert!(rt; wrong.is_none(), "seed {number}: {}", wrong.unwrap_or(""));
     }
 }

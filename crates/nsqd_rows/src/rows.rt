@@ -1,128 +1,63 @@
-//! Rows, what differs in one, and the test over all tables.
+//! Rows, what differs in one, and the tests over all tables.
+//!
+//! A row is a text of lines: its name, and a run, or several with `then` between them, over a folder that is empty at first. A run's lines:
+//!
+//! - `words` behind the program's name; `option` and what these words make of the options, see `options_of`;
+//! - `file`, a name and bytes: it is put beside the files that were left;
+//! - `fails`, a call of the folder, and the numbers of those that fail, from one `to` before another; or `accept`, `print` or `tell` and the number of the call
+//!   of the host that fails, where starts and accepts are counted together;
+//! - `clock`, how many readings show a moment, `at` and the moment in nanoseconds, with `, ` between: first at the opening, and then at each turn; the last one
+//!   is shown from then on. Or `rises` and so much at each reading, from 0 on;
+//! - `size`: how many bytes of the callers below come at a time;
+//! - `tcp` or `http`: a caller of that kind, what comes from it at each read, with `|` between and nothing where it is empty, `=>` what it gets, see `put_got`
+//!   and `put_answer`. One without words ends at once. `tcp-closed`: the daemon closes its connection;
+//! - `ends behind`: so many callers, the last ones, are behind a served stop or a failed accept, and aren't accepted; `ends status` where that isn't 0;
+//!   `ends told` and the line that is told, if one is; `ends printed` and what is; `ends unused` where the host is never started;
+//! - `leaves`, a name and bytes: such a file is there in the end; `lacks` and a name: none is;
+//! - `//`: a word on the run.
 
 ghost use Rattle.nsq_base.specs.Options.{IsInRange};
 
-use crate::files::{File, add_files, bytes_of, folder_of};
-use crate::hosts::{Given, HostFails, NONE_FAILS, Outcome, run_with};
+use crate::files::{add_file, found_in};
+use crate::hosts::{Given, Outcome, nothing, run_with};
 use crate::judged::{is_served, noted_wrong};
-use crate::setting::{DEFAULTS, Setting, options_of, words_of};
-use crate::tables::tables;
-use crate::texts::same;
+use crate::setting::{add_words, options_of};
+use crate::tables::{drill_rows, tables};
+use crate::texts::{bytes_of, cut, number, part, put_answer, put_got, same};
 use broker_history::Ended;
 use nsq_base::{Body, Options};
-use nsq_fakes::{Failing, MemConn, Piece};
+use nsq_fakes::{Failing, FolderCall, MemConn, Piece};
 use nsq_outside::Kind;
 use queue_plain::NamedFile;
 use std::alloc::Global;
 use std::process::Abort;
 use std::sync::Wait;
 
-/// More than the bytes of any piece.
-pub const WHOLE: usize = 1 << 24;
-
-/// More than the calls of any run.
-pub const ALWAYS: u64 = 1_000_000;
+// More than the bytes of any piece.
+const WHOLE: usize = 1 << 24;
 
 // How many readings a clock gives that goes on.
 const READINGS: u64 = 400;
 
-/// A caller: what it speaks, what comes from it at each read, and what it gets.
+/// What a run must come to.
 #[derive(Clone, Copy)]
-pub struct Caller {
-    pub kind: Kind,
-    /// Where one is empty nothing comes.
-    pub sends: &'static [&'static [u8]],
-    /// The frames, or the parts of an answer, in order.
-    pub gets: &'static [&'static [u8]],
-    /// How it ends, if it speaks the TCP protocol.
-    pub ended: Ended,
+struct Ends<'a> {
+    status: u64,
+    line: &'a str,
+    printed: &'a str,
+    /// How many callers aren't accepted.
+    behind: u64,
+    unused: bool,
 }
 
-/// A caller of TCP that ends at once.
-pub const CALLER: Caller = Caller {
-    kind: Kind::Tcp,
-    sends: &[],
-    gets: &[],
-    ended: Ended::EndOfInput,
-};
-
-/// A caller of HTTP that ends at once.
-pub const ASKER: Caller = Caller {
-    kind: Kind::Http,
-    ..CALLER
-};
-
-/// What the clock shows, in nanoseconds.
-#[derive(Clone, Copy)]
-pub enum Shows {
-    /// Each of these moments so many times, and the last one from then on: first at the opening, and then at each turn.
-    These(&'static [(u64, u32)]),
-    /// At first 0, and at each further reading so much more than at the last.
-    Rises(u64),
-}
-
-/// A run over the files that the one before it left.
-#[derive(Clone, Copy)]
-pub struct Run {
-    pub setting: Setting,
-    /// Files that are put beside those that were left.
-    pub files: &'static [File],
-    /// Which calls of the folder fail.
-    pub fails: &'static [Failing],
-    /// Which calls of the host fail.
-    pub host_fails: HostFails,
-    pub clock: Shows,
-    pub callers: &'static [Caller],
-    /// How many of them, the last ones, are behind a served stop or a failed accept, and aren't accepted.
-    pub behind: usize,
-    /// How many bytes of a caller come at a time.
-    pub size: usize,
-    pub status: u8,
-    /// The line that is told, if one is.
-    pub line: &'static [u8],
-    pub printed: &'static [u8],
-    /// Files in the end: None for one that isn't there.
-    pub leaves: &'static [(&'static str, Option<&'static [u8]>)],
-}
-
-/// A run without callers that ends with status 0.
-pub const RUN: Run = Run {
-    setting: DEFAULTS,
-    files: &[],
-    fails: &[],
-    host_fails: NONE_FAILS,
-    clock: Shows::These(&[]),
-    callers: &[],
-    behind: 0,
-    size: WHOLE,
+// What a run must come to where no line says something else.
+const ENDS: Ends<'static> = Ends {
     status: 0,
-    line: b"",
-    printed: b"",
-    leaves: &[],
+    line: "",
+    printed: "",
+    behind: 0,
+    unused: false,
 };
-
-/// Runs over a folder that is empty at first, one after another.
-#[derive(Clone, Copy)]
-pub struct Row {
-    pub name: &'static str,
-    pub runs: &'static [Run],
-}
-
-fn readings_of(rt: &impl Abort, alloc: Global, clock: Shows) -> Vec<u64> {
-    let mut readings = Vec::new(alloc);
-    match clock {
-        Shows::These(moments) => add_moments(rt, &mut readings, moments),
-        Shows::Rises(step) => add_readings(rt, &mut readings, 0, step, READINGS),
-    }
-    readings
-}
-
-// Adds each of these moments so many times.
-fn add_moments(rt: &impl Abort, readings: &mut Vec<u64>, moments: &[(u64, u32)]) {
-    for (moment, count) in moments {
-        add_readings(rt, readings, *moment, 0, u64::from(*count));
-    }
-}
 
 // Adds so many readings, the first of this moment, each so much later than the last.
 fn add_readings(rt: &impl Abort, readings: &mut Vec<u64>, moment: u64, step: u64, count: u64) {
@@ -133,22 +68,36 @@ fn add_readings(rt: &impl Abort, readings: &mut Vec<u64>, moment: u64, step: u64
     }
 }
 
-fn callers_of(rt: &impl Abort, alloc: Global, run: &Run) -> Vec<(Kind, MemConn)> {
-    let mut callers = Vec::new(alloc);
-    for caller in run.callers {
-        let conn = conn_of(rt, alloc, caller.sends, run.size);
-        callers.push((caller.kind, conn)).expect(rt, "memory");
+// Adds each of these moments so many times.
+fn add_moments(rt: &impl Abort, readings: &mut Vec<u64>, words: &str) {
+    for words in words.split(", ") {
+        let (count, moment) = part(rt, words, " at ");
+        add_readings(rt, readings, number(rt, moment), 0, number(rt, count));
     }
-    callers
 }
 
-// A connection from which this comes, so many bytes at a time.
-fn conn_of(rt: &impl Abort, alloc: Global, sends: &[&[u8]], size: usize) -> MemConn {
+// Adds a caller of this kind from whom this comes, so many bytes at a time.
+fn add_caller(
+    rt: &impl Abort,
+    alloc: Global,
+    given: &mut Given,
+    (word, words): (&str, &str),
+    size: usize,
+) {
+    let kind = match word {
+        "tcp" | "tcp-closed" => Kind::Tcp,
+        "http" => Kind::Http,
+        _ => panic!(rt; "{word} {words} says nothing of a run"),
+    };
     let mut pieces = Vec::new(alloc);
-    for bytes in sends {
-        add_pieces(rt, alloc, &mut pieces, bytes, size);
+    if !words.is_empty() {
+        let (sends, _) = part(rt, words, " =>");
+        for text in sends.split('|') {
+            add_pieces(rt, alloc, &mut pieces, &bytes_of(rt, alloc, text), size);
+        }
     }
-    MemConn::new(alloc, pieces, Vec::new(alloc), Vec::new(alloc)).expect(rt, "memory")
+    let conn = MemConn::new(alloc, pieces, Vec::new(alloc), Vec::new(alloc)).expect(rt, "memory");
+    given.callers.push((kind, conn)).expect(rt, "memory");
 }
 
 fn add_pieces(rt: &impl Abort, alloc: Global, pieces: &mut Vec<Piece>, bytes: &[u8], size: usize) {
@@ -167,32 +116,245 @@ fn add_pieces(rt: &impl Abort, alloc: Global, pieces: &mut Vec<Piece>, bytes: &[
     }
 }
 
-fn given_by(rt: &impl Abort, alloc: Global, run: &Run, files: &[NamedFile]) -> Given {
-    let fails = Vec::from_slice(alloc, run.fails).expect(rt, "memory");
-    Given {
-        words: words_of(rt, alloc, run.setting.words),
-        callers: callers_of(rt, alloc, run),
-        folder: folder_of(rt, alloc, files, fails),
-        readings: readings_of(rt, alloc, run.clock),
-        fails: run.host_fails,
+// These calls fail.
+fn fail(rt: &impl Abort, given: &mut Given, words: &str) {
+    let (name, numbers) = cut(words);
+    let call = match name {
+        "accept" => return push(rt, &mut given.accepts, number(rt, numbers)),
+        "print" => return push(rt, &mut given.prints, number(rt, numbers)),
+        "tell" => return push(rt, &mut given.tells, number(rt, numbers)),
+        "WriteAt" => FolderCall::WriteAt,
+        "Rename" => FolderCall::Rename,
+        "Any" => FolderCall::Any,
+        _ => panic!(rt; "{name} is no call that fails"),
+    };
+    let (from, to) = part(rt, numbers, " to ");
+    let calls = Failing {
+        call,
+        from: number(rt, from),
+        to: number(rt, to),
+    };
+    given.fails.push(calls).expect(rt, "memory");
+}
+
+fn push(rt: &impl Abort, numbers: &mut Vec<u64>, number: u64) {
+    numbers.push(number).expect(rt, "memory");
+}
+
+// Takes up what a run must come to, by what stands behind `ends`.
+fn end<'a>(rt: &impl Abort, ends: &mut Ends<'a>, line: &'a str) {
+    match cut(line) {
+        ("behind", count) => ends.behind = number(rt, count),
+        ("status", status) => ends.status = number(rt, status),
+        ("told", line) => ends.line = line,
+        ("printed", printed) => ends.printed = printed,
+        ("unused", "") => ends.unused = true,
+        _ => panic!(rt; "no run ends {line}"),
+    }
+}
+
+// Takes up what a line gives to a run over these files.
+fn give(
+    rt: &impl Abort,
+    alloc: Global,
+    given: &mut Given,
+    files: &mut Vec<NamedFile>,
+    (word, words): (&str, &str),
+    size: usize,
+) {
+    match word {
+        "words" => add_words(rt, alloc, &mut given.words, words),
+        "file" => {
+            let (name, bytes) = cut(words);
+            add_file(rt, alloc, files, name, &bytes_of(rt, alloc, bytes));
+        }
+        "fails" => fail(rt, given, words),
+        "clock" => add_moments(rt, &mut given.readings, words),
+        "rises" => add_readings(rt, &mut given.readings, 0, number(rt, words), READINGS),
+        _ => add_caller(rt, alloc, given, (word, words), size),
+    }
+}
+
+// Takes up what the lines of a run over these files say.
+fn read<'a>(
+    rt: &impl Abort,
+    alloc: Global,
+    given: &mut Given,
+    ends: &mut Ends<'a>,
+    files: &mut Vec<NamedFile>,
+    lines: &'a str,
+) {
+    let mut size = WHOLE;
+    for line in lines.split('\n') {
+        match cut(line) {
+            ("ends", words) => end(rt, ends, words),
+            ("size", words) => size = words.parse::<usize>().expect(rt, "a number"),
+            ("option" | "leaves" | "lacks" | "//", _) => {}
+            words => give(rt, alloc, given, files, words, size),
+        }
+    }
+}
+
+// What differs in a run over these files. Then they are those that it left.
+fn run_differs<'a, R: Abort + Wait>(
+    rt: &R,
+    alloc: Global,
+    lines: &'a str,
+    files: &mut Vec<NamedFile>,
+) -> Option<&'a str> {
+    let mut given = nothing(rt, alloc);
+    let mut ends = ENDS;
+    read(rt, alloc, &mut given, &mut ends, files, lines);
+    let began = given.readings.first().copied().unwrap_or(0);
+    let outcome = run_with(rt, alloc, given, files);
+    outcome_differs(rt, alloc, lines, ends, began, files, outcome)
+}
+
+// What differs in what a run over these files came to. Then they are those that it left.
+fn outcome_differs<'a>(
+    rt: &impl Abort,
+    alloc: Global,
+    lines: &'a str,
+    ends: Ends<'a>,
+    began: u64,
+    files: &mut Vec<NamedFile>,
+    outcome: Outcome,
+) -> Option<&'a str> {
+    let options = options_of(rt, alloc, lines);
+    let shown = shown_differs(rt, alloc, ends, &outcome);
+    let got = callers_differ(rt, alloc, &options, began, lines, ends.behind, &outcome);
+    let noted = noted_wrong(rt, alloc, &options, began, files, outcome);
+    drop(options);
+    shown
+        .or(got)
+        .or(noted)
+        .or(files_differ(rt, alloc, lines, files))
+}
+
+// What differs in what a run showed.
+fn shown_differs(
+    rt: &impl Abort,
+    alloc: Global,
+    ends: Ends<'_>,
+    outcome: &Outcome,
+) -> Option<&'static str> {
+    if u64::from(outcome.status) != ends.status {
+        return Some("the status");
+    }
+    if !same(outcome.line(), ends.line.as_bytes())
+        || outcome.lines() != usize::from(!ends.line.is_empty())
+    {
+        return Some("the line");
+    }
+    if !same(outcome.printed(), &bytes_of(rt, alloc, ends.printed)) {
+        return Some("what is printed");
+    }
+    if ends.unused && !outcome.is_unused() {
+        return Some("the host was used");
+    }
+    None
+}
+
+// How the caller of a line with this word must end; none where it has no caller.
+fn ended_by(word: &str) -> Option<Ended> {
+    match word {
+        "tcp" | "http" => Some(Ended::EndOfInput),
+        "tcp-closed" => Some(Ended::Closed),
+        _ => None,
+    }
+}
+
+// What differs in the callers that are handed back, all but so many.
+fn callers_differ<'a>(
+    rt: &impl Abort,
+    alloc: Global,
+    options: &Options,
+    began: u64,
+    lines: &'a str,
+    behind: u64,
+    outcome: &Outcome,
+) -> Option<&'a str>
+    requires { IsInRange options.now }
+{
+    let mut place = 0usize;
+    for line in lines.split('\n') {
+        let (word, words) = cut(line);
+        if let Some(ended) = ended_by(word) {
+            if place < outcome.count()
+                && !(has_got(rt, alloc, outcome, place, word, words)
+                    && is_served(rt, alloc, options, began, outcome, place, &[ended]))
+            {
+                return Some(line);
+            }
+            place = place.saturating_add(1);
+        }
+    }
+    if behind.saturating_add(outcome.count() as u64) == place as u64 {
+        None
+    } else {
+        Some("how many are handed back")
+    }
+}
+
+// Whether the caller at this place got what a line says.
+fn has_got(
+    rt: &impl Abort,
+    alloc: Global,
+    outcome: &Outcome,
+    place: usize,
+    word: &str,
+    words: &str,
+) -> bool {
+    let Some((_, _, conn)) = outcome.caller(place) else {
+        return false;
+    };
+    let mut got = Vec::new(alloc);
+    if let Some((_, gets)) = words.split_once(" => ") {
+        if matches!(word, "http") {
+            put_answer(rt, &mut got, gets);
+        } else {
+            for frame in gets.split(", ") {
+                put_got(rt, &mut got, frame);
+            }
+        }
+    }
+    same(conn.bytes_written(), &got)
+}
+
+// What differs in the files that were left.
+fn files_differ<'a>(
+    rt: &impl Abort,
+    alloc: Global,
+    lines: &'a str,
+    files: &[NamedFile],
+) -> Option<&'a str> {
+    for line in lines.split('\n') {
+        let is_right = match cut(line) {
+            ("leaves", file) => is_left(rt, alloc, files, file),
+            ("lacks", name) => found_in(files, name).is_none(),
+            _ => true,
+        };
+        if !is_right {
+            return Some(line);
+        }
+    }
+    None
+}
+
+// Whether a file is there, by its name and its bytes.
+fn is_left(rt: &impl Abort, alloc: Global, files: &[NamedFile], file: &str) -> bool {
+    let (name, bytes) = cut(file);
+    match found_in(files, name) {
+        Some(found) => same(found, &bytes_of(rt, alloc, bytes)),
+        None => false,
     }
 }
 
 // What differs in a row; nothing where it holds.
-fn differs<R: Abort + Wait>(rt: &R, alloc: Global, row: &Row) -> Option<&'static str> {
+fn differs<'a, R: Abort + Wait>(rt: &R, alloc: Global, runs: &'a str) -> Option<&'a str> {
     let mut files = Vec::new(alloc);
-    runs_differ(rt, alloc, row.runs, &mut files)
-}
-
-// What differs in runs over these files, one after another.
-fn runs_differ<R: Abort + Wait>(
-    rt: &R,
-    alloc: Global,
-    runs: &[Run],
-    files: &mut Vec<NamedFile>,
-) -> Option<&'static str> {
-    for run in runs {
-        let wrong = run_differs(rt, alloc, run, files);
+    for lines in runs.split("\nthen\n") {
+        let wrong = run_differs(rt, alloc, lines, &mut files);
         if wrong.is_some() {
             return wrong;
         }
@@ -200,149 +362,28 @@ fn runs_differ<R: Abort + Wait>(
     None
 }
 
-// What differs in a run over these files. Then they are those that it left.
-fn run_differs<R: Abort + Wait>(
-    rt: &R,
-    alloc: Global,
-    run: &Run,
-    files: &mut Vec<NamedFile>,
-) -> Option<&'static str> {
-    add_files(rt, alloc, files, run.files);
-    let given = given_by(rt, alloc, run, files);
-    let outcome = run_with(rt, alloc, given);
-    outcome_differs(rt, alloc, run, files, outcome)
-}
-
-// What differs in what a run over these files came to. Then they are those that it left.
-fn outcome_differs(
-    rt: &impl Abort,
-    alloc: Global,
-    run: &Run,
-    files: &mut Vec<NamedFile>,
-    outcome: Outcome,
-) -> Option<&'static str> {
-    let options = options_of(rt, alloc, run.setting);
-    let shown = shown_differs(rt, alloc, &options, run, &outcome);
-    let noted = noted_wrong(rt, alloc, &options, began(run.clock), files, outcome);
-    drop(options);
-    shown.or(noted).or(leaves_differ(run, files))
-}
-
-// What differs in what a run showed.
-fn shown_differs(
-    rt: &impl Abort,
-    alloc: Global,
-    options: &Options,
-    run: &Run,
-    outcome: &Outcome,
-) -> Option<&'static str>
-    requires { IsInRange options.now }
-{
-    if outcome.status != run.status {
-        return Some("the status");
+// Ends the run where a row doesn't hold. One that doesn't begins once more, so that it holds too where one allocation of the daemon's fails.
+fn check<R: Abort + Wait>(rt: &R, alloc: Global, row: &str) {
+    let (name, runs) = part(rt, row, "\n");
+    let mut wrong = differs(rt, alloc, runs);
+    if wrong.is_some() {
+        wrong = differs(rt, alloc, runs);
     }
-    if !same(outcome.line(), run.line) || outcome.lines() != usize::from(!run.line.is_empty()) {
-        return Some("the line");
-    }
-    if !same(outcome.printed(), run.printed) {
-        return Some("what is printed");
-    }
-    let count = run.callers.len().saturating_sub(run.behind);
-    if outcome.count() != count {
-        return Some("how many are handed back");
-    }
-    callers_differ(
-        rt,
-        alloc,
-        options,
-        began(run.clock),
-        &run.callers[..count],
-        outcome,
-    )
-}
-
-// What differs in the callers that are handed back.
-fn callers_differ(
-    rt: &impl Abort,
-    alloc: Global,
-    options: &Options,
-    began: u64,
-    callers: &[Caller],
-    outcome: &Outcome,
-) -> Option<&'static str>
-    requires { IsInRange options.now }
-{
-    for (place, caller) in callers.iter().enumerate() {
-        if !has_got(outcome, place, caller.gets) {
-            return Some("what a caller gets");
-        }
-        if !is_served(rt, alloc, options, began, outcome, place, &[caller.ended]) {
-            return Some("a conversation or an exchange");
-        }
-    }
-    None
-}
-
-// Whether the caller at this place got these frames, or these parts of an answer.
-fn has_got(outcome: &Outcome, place: usize, frames: &[&[u8]]) -> bool {
-    let Some((_, _, conn)) = outcome.caller(place) else {
-        return false;
-    };
-    let mut rest = conn.bytes_written();
-    for frame in frames {
-        match rest.strip_prefix(*frame) {
-            Some(after) => rest = after,
-            None => return false,
-        }
-    }
-    rest.is_empty()
-}
-
-// What the clock shows at the opening.
-fn began(clock: Shows) -> u64 {
-    match clock {
-        Shows::These([(moment, _), ..]) => *moment,
-        _ => 0,
-    }
-}
-
-// What differs in the files that were left.
-fn leaves_differ(run: &Run, files: &[NamedFile]) -> Option<&'static str> {
-    for (name, bytes) in run.leaves {
-        if !is_left(files, name, *bytes) {
-            return Some(name);
-        }
-    }
-    None
-}
-
-// Whether the file of this name has these bytes, or isn't there.
-fn is_left(files: &[NamedFile], name: &str, bytes: Option<&[u8]>) -> bool {
-    match (bytes_of(files, name), bytes) {
-        (Some(found), Some(bytes)) => same(found, bytes),
-        (found, bytes) => found.is_none() && bytes.is_none(),
-    }
-}
-
-// What differs in a row. One that doesn't hold begins once more, so that it holds too where one allocation of the daemon's fails.
-fn differs_at_last<R: Abort + Wait>(rt: &R, alloc: Global, row: &Row) -> Option<&'static str> {
-    if differs(rt, alloc, row).is_none() {
-        return None;
-    }
-    differs(rt, alloc, row)
+    assert!(rt; wrong.is_none(), "{}: {}", name, wrong.unwrap_or(""));
 }
 
 #[test]
 fn rows(rt: HostRuntime) {
     for table in &tables() {
-        for row in *table {
-            let differs = differs_at_last(&rt, rt.alloc(), row);
-            assert!(rt;
-                differs.is_none(),
-                "{}: {}",
-                row.name,
-                differs.unwrap_or("")
-            );
+        for row in table.trim().split("\n\n") {
+            check(&rt, rt.alloc(), row);
         }
+    }
+}
+
+#[test]
+fn printed_drills(rt: HostRuntime) {
+    for row in drill_rows().trim().split("\n\n") {
+        check(&rt, rt.alloc(), row);
     }
 }

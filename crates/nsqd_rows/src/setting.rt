@@ -1,62 +1,52 @@
-//! The options of a run.
+//! The options of a run, and its words.
 
 ghost use Rattle.nsq_base.specs.Options.{IsInRange};
 
+use crate::texts::{cut, number};
 use nsq_base::Options;
 use std::alloc::Global;
 use std::process::Abort;
 
-pub const SECOND: u64 = 1_000_000_000;
-
-pub const MILLISECOND: u64 = 1_000_000;
-
-/// The options of a run that aren't the defaults, by its words and by their values.
-#[derive(Clone, Copy)]
-pub struct Setting {
-    /// The words behind the program's name.
-    pub words: &'static [&'static str],
-    /// How many messages a topic or a channel keeps in memory.
-    pub memory: u64,
-    /// How long a client has for a message, in nanoseconds.
-    pub timeout: u64,
-    /// How long a queue may be unsaved, in nanoseconds.
-    pub unsaved: u64,
-    /// Whether a stop is served over HTTP.
-    pub stops: bool,
-}
-
-/// No words, and the default options.
-pub const DEFAULTS: Setting = Setting {
-    words: &[],
-    memory: 10_000,
-    timeout: 60 * SECOND,
-    unsaved: 2 * SECOND,
-    stops: false,
-};
-
-/// The options of a setting.
-pub fn options_of(rt: &impl Abort, alloc: Global, setting: Setting) -> Options
+/// The default options but for what lines say behind `option`: how many messages a topic or a channel keeps in `memory`; a message's `timeout`, and how long a
+/// queue may be `unsaved`, both in nanoseconds; and that the daemon `stops` when it is asked to over HTTP.
+pub fn options_of(rt: &impl Abort, alloc: Global, lines: &str) -> Options
     ensures { IsInRange result }
 {
     let mut options = Options::defaults(alloc).expect(rt, "memory");
-    options.mem_queue_size = setting.memory;
-    options.msg_timeout = setting.timeout;
-    options.sync_timeout = setting.unsaved;
-    options.http_stop = setting.stops;
-    if !options.in_range() {
-        panic!(rt; "options that aren't in range");
+    for line in lines.split('\n') {
+        match cut(line) {
+            ("option", words) => set(rt, &mut options, words),
+            _ => {}
+        }
     }
+    assert!(rt; options.in_range(), "options that none has");
     options
 }
 
-/// The words of a command line: the program's name, and these.
-pub fn words_of(rt: &impl Abort, alloc: Global, further: &[&str]) -> Vec<String> {
+// This is said of an option.
+fn set(rt: &impl Abort, options: &mut Options, words: &str) {
+    match cut(words) {
+        ("memory", count) => options.mem_queue_size = number(rt, count),
+        ("timeout", time) => options.msg_timeout = number(rt, time),
+        ("unsaved", time) => options.sync_timeout = number(rt, time),
+        ("stops", "") => options.http_stop = true,
+        _ => panic!(rt; "no option says {words}"),
+    }
+}
+
+/// The words of a command line: the program's name, and these, with a space between them.
+pub fn words_of(rt: &impl Abort, alloc: Global, further: &str) -> Vec<String> {
     let mut words = Vec::new(alloc);
     push_word(rt, alloc, &mut words, "nsqd");
-    for word in further {
-        push_word(rt, alloc, &mut words, word);
-    }
+    add_words(rt, alloc, &mut words, further);
     words
+}
+
+/// Adds words, with a space between them.
+pub fn add_words(rt: &impl Abort, alloc: Global, words: &mut Vec<String>, further: &str) {
+    for word in further.split(' ') {
+        push_word(rt, alloc, words, word);
+    }
 }
 
 /// Adds a word.

@@ -1,66 +1,115 @@
-//! Bytes that several tables expect, and whether bytes are the same.
+//! What the rows' texts have in common: parts, numbers, bytes, and what a caller gets.
+//!
+//! In a text that stands for bytes `\n`, `\r` and `\0` stand for the same bytes as in Rust, and `\x` with two digits for that byte.
 
-/// The reply of a command that is carried out.
-pub const OK: &[u8] = b"\0\0\0\x06\0\0\0\0OK";
-
-/// A publish of `hi` to the topic `t`.
-pub const PUBLISH: &[u8] = b"  V2PUB t\n\0\0\0\x02hi";
-
-/// A message of one byte that was published at moment 0 and is sent for the first time, up to its id.
-pub const FIRST: &[u8] = b"\0\0\0\x1f\0\0\0\x02\0\0\0\0\0\0\0\0\0\x01";
-
-/// The same where it is sent for the second time.
-pub const SECOND_TIME: &[u8] = b"\0\0\0\x1f\0\0\0\x02\0\0\0\0\0\0\0\0\0\x02";
-
-/// The answer to a FIN of a message that isn't in flight.
-pub const NOT_IN_FLIGHT: &[u8] = b"\0\0\0\x26\0\0\0\x01E_FIN_FAILED message not in flight";
-
-/// The data file of the topic `t`.
-pub const DATA: &str = "t.diskqueue.000000.dat";
-
-/// The metadata of the topic `t`.
-pub const META: &str = "t.diskqueue.meta.dat";
-
-/// The file of the durable names.
-pub const NAMES: &str = "nsqd.dat";
-
-/// The record of `hi`, published first, at the moment 0.
-pub const RECORD: &[u8] = b"\0\0\0\x1c\0\0\0\0\0\0\0\0\0\00000010000000000hi";
-
-/// The metadata of a queue with that record.
-pub const ONE_RECORD: &[u8] = b"1\n0,0\n0,32\n";
-
-pub const NO_TOPIC: &[u8] = br#"{"id_epoch":1,"topics":[],"version":"1.0.0"}"#;
-
-/// The names where `t` is the one durable topic.
-pub const ONE_TOPIC: &[u8] =
-    br#"{"id_epoch":1,"topics":[{"channels":[],"name":"t","paused":false}],"version":"1.0.0"}"#;
-
-/// The answer to a publish, a ping or a stop over HTTP.
-pub const HTTP_OK: &[u8] =
-    b"HTTP/1.1 200 OK\r\nContent-Type: text/plain; charset=utf-8\r\nContent-Length: 2\r\nConnection: close\r\n\r\nOK";
-
-/// The answer to what is done over HTTP and is no publish.
-pub const HTTP_DONE: &[u8] =
-    b"HTTP/1.1 200 OK\r\nContent-Type: text/plain; charset=utf-8\r\nContent-Length: 0\r\nConnection: close\r\n\r\n";
-
-/// The answer to an unknown call.
-pub const HTTP_NOT_FOUND: &[u8] =
-    b"HTTP/1.1 404 Not Found\r\nContent-Type: application/json; charset=utf-8\r\nContent-Length: 23\r\nConnection: close\r\n\r\n{\"message\":\"NOT_FOUND\"}";
-
-/// The answer to a call that wants a topic that isn't there.
-pub const HTTP_NO_TOPIC: &[u8] =
-    b"HTTP/1.1 404 Not Found\r\nContent-Type: application/json; charset=utf-8\r\nContent-Length: 29\r\nConnection: close\r\n\r\n{\"message\":\"TOPIC_NOT_FOUND\"}";
-
-/// The answer to a body that is too big.
-pub const HTTP_TOO_BIG: &[u8] =
-    b"HTTP/1.1 413 Payload Too Large\r\nContent-Type: application/json; charset=utf-8\r\nContent-Length: 26\r\nConnection: close\r\n\r\n{\"message\":\"BODY_TOO_BIG\"}";
-
-/// The answer to what a disk fault keeps off.
-pub const HTTP_DISK_FAULT: &[u8] =
-    b"HTTP/1.1 500 Internal Server Error\r\nContent-Type: application/json; charset=utf-8\r\nContent-Length: 24\r\nConnection: close\r\n\r\n{\"message\":\"DISK_FAULT\"}";
+use itoa::Buffer;
+use std::alloc::Global;
+use std::process::Abort;
 
 /// Whether the bytes are the same.
 pub fn same(one: &[u8], other: &[u8]) -> bool {
     one == other
+}
+
+/// Adds bytes.
+pub fn put(rt: &impl Abort, out: &mut Vec<u8>, bytes: &[u8]) {
+    out.extend_from_slice(bytes).expect(rt, "memory");
+}
+
+/// The first word of a text, and what stands behind it.
+pub fn cut(text: &str) -> (&str, &str) {
+    match text.split_once(' ') {
+        Some(parts) => parts,
+        None => (text, ""),
+    }
+}
+
+/// The parts of a text before and behind a mark.
+pub fn part<'a>(rt: &impl Abort, text: &'a str, mark: &str) -> (&'a str, &'a str) {
+    text.split_once(mark).expect(rt, "a mark in a row")
+}
+
+/// The number that a word says.
+pub fn number(rt: &impl Abort, word: &str) -> u64 {
+    word.parse::<u64>().expect(rt, "a number")
+}
+
+/// The bytes that a text stands for.
+pub fn bytes_of(rt: &impl Abort, alloc: Global, text: &str) -> Vec<u8> {
+    let mut bytes = Vec::new(alloc);
+    put_text(rt, &mut bytes, text);
+    bytes
+}
+
+/// Adds the bytes that a text stands for.
+pub fn put_text(rt: &impl Abort, out: &mut Vec<u8>, text: &str) {
+    let mut is_escape = false;
+    for part in text.split('\\') {
+        if is_escape {
+            put_escape(rt, out, part.as_bytes());
+        } else {
+            put(rt, out, part.as_bytes());
+        }
+        is_escape = true;
+    }
+}
+
+// Adds the byte that stands behind a backslash, and what follows it.
+fn put_escape(rt: &impl Abort, out: &mut Vec<u8>, text: &[u8]) {
+    let (byte, rest) = match text {
+        [b'n', rest @ ..] => (b'\n', rest),
+        [b'r', rest @ ..] => (b'\r', rest),
+        [b'0', rest @ ..] => (b'\0', rest),
+        [b'x', high, low, rest @ ..] => {
+            let high = digit(rt, *high).wrapping_mul(16);
+            (high.wrapping_add(digit(rt, *low)), rest)
+        }
+        _ => panic!(rt; "a backslash without its byte"),
+    };
+    put(rt, out, &[byte]);
+    put(rt, out, rest);
+}
+
+// What a hexadecimal digit says.
+fn digit(rt: &impl Abort, digit: u8) -> u8 {
+    match digit {
+        b'0'..=b'9' => digit.wrapping_sub(b'0'),
+        b'a'..=b'f' => digit.wrapping_sub(b'a').wrapping_add(10),
+        _ => panic!(rt; "no hexadecimal digit"),
+    }
+}
+
+/// Adds what a client of TCP gets: `OK`, `close wait` and `not in flight`, the answers to a command that is carried out, to a first CLS, and to a FIN of a
+/// message that isn't in flight; `first` or `second` before a message's id and its body of one byte, where it was published at moment 0 and is sent for that
+/// time; or `bytes`.
+pub fn put_got(rt: &impl Abort, out: &mut Vec<u8>, gets: &str) {
+    let (front, rest): (&[u8], &str) = match cut(gets) {
+        ("OK", "") => (b"\0\0\0\x06\0\0\0\0OK", ""),
+        ("close", "wait") => (b"\0\0\0\x0e\0\0\0\0CLOSE_WAIT", ""),
+        ("not", "in flight") => (
+            b"\0\0\0\x26\0\0\0\x01E_FIN_FAILED message not in flight",
+            "",
+        ),
+        ("first", message) => (b"\0\0\0\x1f\0\0\0\x02\0\0\0\0\0\0\0\0\0\x01", message),
+        ("second", message) => (b"\0\0\0\x1f\0\0\0\x02\0\0\0\0\0\0\0\0\0\x02", message),
+        ("bytes", text) => (b"", text),
+        _ => panic!(rt; "no client gets {gets}"),
+    };
+    put(rt, out, front);
+    put_text(rt, out, rest);
+}
+
+/// Adds the answer that a caller of HTTP gets: its status with its phrase, the type of its body and the body, with `|` between.
+pub fn put_answer(rt: &impl Abort, out: &mut Vec<u8>, gets: &str) {
+    let (status, rest) = part(rt, gets, "|");
+    let (kind, body) = part(rt, rest, "|");
+    let mut digits = Buffer::new();
+    put(rt, out, b"HTTP/1.1 ");
+    put(rt, out, status.as_bytes());
+    put(rt, out, b"\r\nContent-Type: ");
+    put(rt, out, kind.as_bytes());
+    put(rt, out, b"; charset=utf-8\r\nContent-Length: ");
+    put(rt, out, digits.format(body.len()).as_bytes());
+    put(rt, out, b"\r\nConnection: close\r\n\r\n");
+    put(rt, out, body.as_bytes());
 }

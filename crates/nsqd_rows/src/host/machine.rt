@@ -2,7 +2,7 @@
 ghost use Rattle.nsq_base.specs.Options.{IsInRange};
 ghost use Rattle.nsqd_host.specs.SysHosts.{IsAtHome, state_of};
 
-use crate::texts::{HTTP_OK, OK, ONE_TOPIC, PUBLISH, same};
+use crate::texts::same;
 use daemon_main::{Ending, close, line, serve};
 use nsq_base::{Body, Options};
 use nsq_outside::{Accept, Clock as _, Did, Folder, Host, Kind, Read, Sink, Source, Write};
@@ -26,6 +26,10 @@ const FILES: &str = "nsqd_host_files";
 const PUBLISHED: &str = "nsqd_loopback_published";
 
 const IN_USE: &str = "nsqd_loopback_in_use";
+
+/// The answer to a stop over HTTP.
+const HTTP_OK: &[u8] =
+    b"HTTP/1.1 200 OK\r\nContent-Type: text/plain; charset=utf-8\r\nContent-Length: 2\r\nConnection: close\r\n\r\nOK";
 
 /// A listener at a port of this machine that the system chose.
 fn listener(rt: &impl Abort, own: &HostRuntime) -> TcpListener {
@@ -224,9 +228,7 @@ fn options_at(rt: &impl Abort, alloc: Global, tcp: &str, http: &str, path: &str)
     set(rt, alloc, &mut options.http_address, http);
     set(rt, alloc, &mut options.data_path, path);
     options.http_stop = true;
-    if !options.in_range() {
-        panic!(rt; "options that aren't in range");
-    }
+    assert!(rt; options.in_range(), "options that none has");
     options
 }
 
@@ -238,7 +240,7 @@ fn set(rt: &impl Abort, alloc: Global, text: &mut Body, new: &str) {
 /// Publishes one message over TCP and waits for the reply, and closes.
 fn publish(rt: &impl Abort, own: &HostRuntime, address: &str) -> [u8; 10] {
     let mut stream = connected(rt, own, address);
-    send(rt, &mut stream, PUBLISH);
+    send(rt, &mut stream, b"  V2PUB t\n\0\0\0\x02hi");
     let mut got = [0u8; 10];
     stream.read_exact(&mut got).expect(rt, "a reply");
     got
@@ -260,7 +262,7 @@ fn publish_and_stop(rt: &impl Abort, own: &HostRuntime, tcp: &str, http: &str) -
     let published = publish(rt, own, tcp);
     let stopper = call(rt, own, http, b"POST /stop HTTP/1.1\r\n\r\n");
     let stopped = io::read_to_string(own.alloc(), stopper).expect(rt, "an answer");
-    same(&published, OK) && same(stopped.as_bytes(), HTTP_OK)
+    same(&published, b"\0\0\0\x06\0\0\0\0OK") && same(stopped.as_bytes(), HTTP_OK)
 }
 
 /// Serves at these addresses with this folder, as the program does: the status, and the line that was told.
@@ -296,7 +298,10 @@ fn is_kept(rt: &impl Abort, own: &HostRuntime, before: u64, after: u64) -> bool 
     let names = taken(rt, own, "nsqd_loopback_published/nsqd.dat");
     is_published(&record, before, after)
         && same(&meta, b"1\n0,0\n0,32\n")
-        && same(&names, ONE_TOPIC)
+        && same(
+            &names,
+            br#"{"id_epoch":1,"topics":[{"channels":[],"name":"t","paused":false}],"version":"1.0.0"}"#,
+        )
         && fs::remove_dir(own, PUBLISHED).is_ok()
 }
 

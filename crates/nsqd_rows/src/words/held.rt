@@ -1,6 +1,6 @@
 //! Whether a row holds.
 
-use crate::setting::push_word;
+use crate::setting::add_words;
 use crate::texts::same;
 use crate::words::told::told;
 use std::alloc::Global;
@@ -16,14 +16,7 @@ pub fn holds(rt: &impl Abort, alloc: Global, row: &str) -> bool {
 
 // Whether the words of a line ask for this.
 fn asks(rt: &impl Abort, alloc: Global, line: &str, asked: &str) -> bool {
-    let words = words_in(rt, alloc, line);
-    same(&told(rt, alloc, &words), asked.as_bytes())
-}
-
-fn words_in(rt: &impl Abort, alloc: Global, line: &str) -> Vec<String> {
     let mut words = Vec::new(alloc);
-    for word in line.split(' ') {
-        push_word(rt, alloc, &mut words, word);
-    }
-    words
+    add_words(rt, alloc, &mut words, line);
+    same(&told(rt, alloc, &words), asked.as_bytes())
 }

@@ -19,7 +19,7 @@ fn address_of(rt: &impl Abort, alloc: Global, length: usize) -> String {
 // Whether a broadcast address of so many bytes is served.
 fn is_served(rt: &impl Abort, alloc: Global, length: usize) -> bool {
     let word = address_of(rt, alloc, length);
-    let words = words_of(rt, alloc, &[word.as_str()]);
+    let words = words_of(rt, alloc, word.as_str());
     let request = read_words(alloc, &words).expect(rt, "memory");
     let is_served = matches!(&request, Request::Serve(_));
     drop(request);

@@ -1,8 +1,8 @@
 //! What words ask for, as a text.
 
-use crate::texts::same;
+use crate::texts::{put, same};
 use itoa::Buffer;
-use nsq_base::Options;
+use nsq_base::{Body, Options};
 use nsqd_words::{Request, read_words};
 use std::alloc::Global;
 use std::process::Abort;
@@ -22,46 +22,25 @@ fn tell(rt: &impl Abort, alloc: Global, text: &mut Vec<u8>, request: &Request) {
     match request {
         Request::Serve(options) => tell_options(rt, alloc, text, options),
         Request::Drill(seed, count) => tell_drill(rt, text, *seed, *count),
-        Request::Help(help) => append(rt, text, help_told(help.as_str())),
-        Request::Version(version) => append(rt, text, version_told(version.as_str())),
-        Request::Unknown => append(rt, text, b"unknown"),
+        Request::Help(help) => put(rt, text, help_told(help.as_str())),
+        Request::Version(version) => put(rt, text, version_told(version.as_str())),
+        Request::Unknown => put(rt, text, b"unknown"),
     }
 }
 
-fn append(rt: &impl Abort, text: &mut Vec<u8>, further: &[u8]) {
-    text.extend_from_slice(further).expect(rt, "memory");
-}
-
 fn tell_drill(rt: &impl Abort, text: &mut Vec<u8>, seed: u64, count: u64) {
-    append(rt, text, b"drill");
+    put(rt, text, b"drill");
     append_number(rt, text, " ", seed);
     append_number(rt, text, " ", count);
 }
 
 // What help has to speak of: each option, and the flag.
-static NAMED: [&'static str; 17] = [
-    "Usage: nsqd",
-    "--mem-queue-size",
-    "--max-bytes-per-file",
-    "--sync-every",
-    "--max-msg-size",
-    "--max-body-size",
-    "--max-rdy-count",
-    "--sync-timeout",
-    "--msg-timeout",
-    "--max-msg-timeout",
-    "--max-req-timeout",
-    "--max-heartbeat-interval",
-    "--tcp-address",
-    "--http-address",
-    "--broadcast-address",
-    "--data-path",
-    "--http-stop",
-];
+static NAMED: &'static str =
+    "Usage: nsqd|--mem-queue-size|--max-bytes-per-file|--sync-every|--max-msg-size|--max-body-size|--max-rdy-count|--sync-timeout|--msg-timeout|--max-msg-timeout|--max-req-timeout|--max-heartbeat-interval|--tcp-address|--http-address|--broadcast-address|--data-path|--http-stop";
 
 fn help_told(text: &str) -> &'static [u8] {
-    for name in &NAMED {
-        if !text.contains(*name) {
+    for name in NAMED.split('|') {
+        if !text.contains(name) {
             return b"another help";
         }
     }
@@ -78,54 +57,46 @@ fn version_told(text: &str) -> &'static [u8] {
 
 fn tell_options(rt: &impl Abort, alloc: Global, text: &mut Vec<u8>, options: &Options) {
     let defaults = Options::defaults(alloc).expect(rt, "memory");
-    append(rt, text, b"serve");
+    put(rt, text, b"serve");
     append_texts(rt, text, options, &defaults);
     append_sizes(rt, text, options, &defaults);
     append_times(rt, text, options, &defaults);
-    append_rest(rt, text, options, &defaults);
+    if options.http_stop {
+        put(rt, text, b" http-stop");
+    }
+    // No word says these yet.
+    if options.lookupd_tcp_address != defaults.lookupd_tcp_address {
+        put(rt, text, b" rest");
+    }
     drop(defaults);
 }
 
 fn append_texts(rt: &impl Abort, text: &mut Vec<u8>, is: &Options, was: &Options) {
-    append_text(
-        rt,
-        text,
-        " tcp-address=",
-        is.tcp_address.bytes(),
-        was.tcp_address.bytes(),
-    );
+    append_text(rt, text, " tcp-address=", &is.tcp_address, &was.tcp_address);
     append_text(
         rt,
         text,
         " http-address=",
-        is.http_address.bytes(),
-        was.http_address.bytes(),
+        &is.http_address,
+        &was.http_address,
     );
-    append_text(
-        rt,
-        text,
-        " broadcast-address=",
-        is.broadcast_address.bytes(),
-        was.broadcast_address.bytes(),
-    );
-    append_text(
-        rt,
-        text,
-        " data-path=",
-        is.data_path.bytes(),
-        was.data_path.bytes(),
-    );
+    let (address, usual) = (&is.broadcast_address, &was.broadcast_address);
+    append_text(rt, text, " broadcast-address=", address, usual);
+    append_text(rt, text, " data-path=", &is.data_path, &was.data_path);
 }
 
 // Adds a text that isn't at its default.
-fn append_text(rt: &impl Abort, text: &mut Vec<u8>, name: &str, value: &[u8], default: &[u8]) {
-    if !same(value, default) {
-        append(rt, text, name.as_bytes());
-        append(rt, text, value);
+fn append_text(rt: &impl Abort, text: &mut Vec<u8>, name: &str, value: &Body, default: &Body) {
+    if !same(value.bytes(), default.bytes()) {
+        put(rt, text, name.as_bytes());
+        put(rt, text, value.bytes());
     }
 }
 
 fn append_sizes(rt: &impl Abort, text: &mut Vec<u8>, is: &Options, was: &Options) {
+    let (size, usual) = (u64::from(is.max_msg_size), u64::from(was.max_msg_size));
+    let (body, usually) = (u64::from(is.max_body_size), u64::from(was.max_body_size));
+    let (count, most) = (u64::from(is.max_rdy_count), u64::from(was.max_rdy_count));
     append_changed(
         rt,
         text,
@@ -141,30 +112,13 @@ fn append_sizes(rt: &impl Abort, text: &mut Vec<u8>, is: &Options, was: &Options
         was.max_bytes_per_file,
     );
     append_changed(rt, text, " sync-every=", is.sync_every, was.sync_every);
-    append_changed(
-        rt,
-        text,
-        " max-msg-size=",
-        u64::from(is.max_msg_size),
-        u64::from(was.max_msg_size),
-    );
-    append_changed(
-        rt,
-        text,
-        " max-body-size=",
-        u64::from(is.max_body_size),
-        u64::from(was.max_body_size),
-    );
-    append_changed(
-        rt,
-        text,
-        " max-rdy-count=",
-        u64::from(is.max_rdy_count),
-        u64::from(was.max_rdy_count),
-    );
+    append_changed(rt, text, " max-msg-size=", size, usual);
+    append_changed(rt, text, " max-body-size=", body, usually);
+    append_changed(rt, text, " max-rdy-count=", count, most);
 }
 
 fn append_times(rt: &impl Abort, text: &mut Vec<u8>, is: &Options, was: &Options) {
+    let (beat, usual) = (is.max_heartbeat_interval, was.max_heartbeat_interval);
     append_changed(
         rt,
         text,
@@ -187,23 +141,7 @@ fn append_times(rt: &impl Abort, text: &mut Vec<u8>, is: &Options, was: &Options
         is.max_req_timeout,
         was.max_req_timeout,
     );
-    append_changed(
-        rt,
-        text,
-        " max-heartbeat-interval=",
-        is.max_heartbeat_interval,
-        was.max_heartbeat_interval,
-    );
-}
-
-// The flag, and what no word says yet.
-fn append_rest(rt: &impl Abort, text: &mut Vec<u8>, options: &Options, defaults: &Options) {
-    if options.http_stop {
-        append(rt, text, b" http-stop");
-    }
-    if options.lookupd_tcp_address != defaults.lookupd_tcp_address {
-        append(rt, text, b" rest");
-    }
+    append_changed(rt, text, " max-heartbeat-interval=", beat, usual);
 }
 
 // Adds a number that isn't at its default.
@@ -215,6 +153,6 @@ fn append_changed(rt: &impl Abort, text: &mut Vec<u8>, name: &str, value: u64, d
 
 fn append_number(rt: &impl Abort, text: &mut Vec<u8>, name: &str, value: u64) {
     let mut digits = Buffer::new();
-    append(rt, text, name.as_bytes());
-    append(rt, text, digits.format(value).as_bytes());
+    put(rt, text, name.as_bytes());
+    put(rt, text, digits.format(value).as_bytes());
 }

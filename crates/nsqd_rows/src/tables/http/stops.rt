@@ -1,46 +1,27 @@
 //! Stops that are asked for over HTTP.
 
-use super::{FINISHER, PUBLISHES_A, STOPPER, STOPS};
-use crate::rows::{ASKER, CALLER, Caller, RUN, Row, Run};
-use crate::tables::PUBLISHER;
-use crate::texts::{DATA, HTTP_NOT_FOUND, META, NAMES, ONE_RECORD, ONE_TOPIC, RECORD};
+pub static ROWS: &'static str = r#"
+a stop that is served ends the run, and what is left is found by the next one
+words --http-stop
+option stops
+http POST /pub?topic=t HTTP/1.1\r\nContent-Length: 1\r\n\r\na => 200 OK|text/plain|OK
+http POST /stop HTTP/1.1\r\n\r\n => 200 OK|text/plain|OK
+tcp   V2PUB t\n\0\0\0\x02hi => OK
+ends behind 1
+leaves t.diskqueue.meta.dat 1\n0,0\n0,31\n
+leaves nsqd.dat {"id_epoch":1,"topics":[{"channels":[],"name":"t","paused":false}],"version":"1.0.0"}
+then
+words --http-stop
+option stops
+tcp   V2SUB t c\nRDY 1\n|FIN 0000010000000000\n => OK, first 0000010000000000a
+http POST /stop HTTP/1.1\r\n\r\n => 200 OK|text/plain|OK
+http
+tcp
+ends behind 2
 
-static ROWS: [Row; 2] = [
-    Row {
-        name: "a stop that is served ends the run, and what is left is found by the next one",
-        runs: &[
-            Run {
-                setting: STOPS,
-                callers: &[PUBLISHES_A, STOPPER, PUBLISHER],
-                behind: 1,
-                leaves: &[(META, Some(b"1\n0,0\n0,31\n")), (NAMES, Some(ONE_TOPIC))],
-                ..RUN
-            },
-            Run {
-                setting: STOPS,
-                callers: &[FINISHER, STOPPER, ASKER, CALLER],
-                behind: 2,
-                ..RUN
-            },
-        ],
-    },
-    Row {
-        name: "a stop that isn't served is an unknown call, and the run goes on",
-        runs: &[Run {
-            callers: &[
-                Caller {
-                    sends: &[b"POST /stop HTTP/1.1\r\n\r\n"],
-                    gets: &[HTTP_NOT_FOUND],
-                    ..ASKER
-                },
-                PUBLISHER,
-            ],
-            leaves: &[(DATA, Some(RECORD)), (META, Some(ONE_RECORD))],
-            ..RUN
-        }],
-    },
-];
-
-pub fn rows() -> &'static [Row] {
-    &ROWS
-}
+a stop that isn't served is an unknown call, and the run goes on
+http POST /stop HTTP/1.1\r\n\r\n => 404 Not Found|application/json|{"message":"NOT_FOUND"}
+tcp   V2PUB t\n\0\0\0\x02hi => OK
+leaves t.diskqueue.000000.dat \0\0\0\x1c\0\0\0\0\0\0\0\0\0\00000010000000000hi
+leaves t.diskqueue.meta.dat 1\n0,0\n0,32\n
+"#;

@@ -13,7 +13,10 @@ use Rattle.disk_queue.specs.Seen.{Seen as Queue}
 use Rattle.disk_queue.specs.Holding.{Holds}
 use Rattle.disk_queue.specs.Reading.{PeekSeen, IsFirst}
 use Rattle.disk_queue.specs.declared.answers.Peek.{Peek}
-use Rattle.backlog.specs.Seen.{Seen, Peeks, size_of}
+use Rattle.disk_queue.specs.declared.standing.Staged.{Staged}
+use Rattle.backlog.specs.Seen.{Seen, Peeks, DrawsOne, ForMessages, FitsLimit, size_of}
+use Rattle.backlog.specs.Seen.DrawsOne.{of_ring}
+use Rattle.backlog.specs.Kept.{IsSound, IsQueue, IsQueueWhere, IsLent}
 use Rattle.backlog.specs.Lists.{IsStored, HoldsAll, OnDisk, DiskChanges, IsFirstMessage, list_with, disk_settled}
 use Rattle.backlog.specs.declared.backlog.Lent.{Lent}
 use Rattle.backlog.specs.declared.backlog.Lent.TheVariants.{Nothing, OfRing, OfDisk}
@@ -92,6 +95,62 @@ no_message old items capacity queue lent q files disk view empty there gives hel
     let holds : HoldsAll q files disk = subst (λ (w : Option Queue). OnDisk w files disk) there on_disk in
     let before : old.ring ≡ items = ap (λ (b : Seen). b.ring) (sym view) in
     ap (λ (xs : List Message). xs ++ disk) (before ∙ empty) ∙ none_mapped disk (gives (map message_bytes disk) [] holds.list)
+
+-- the ring's first message left it
+pub ring_gave : (items : List Message) (capacity : ℕ) (ring : Buffer Message) (first : Option Message) (m : Message) → first ≡ slice_get items 0 → first ≡ Some m → ring ≡ buffer (drop 1 items) capacity → items ≡ m ∷ ring.items
+ring_gave [] capacity ring first m is e now = absurd (let contra : None ≡ Some m = sym is ∙ e in cc)
+ring_gave (x ∷ xs) capacity ring first m is e now =
+    let same : x ≡ m = (let there : Some x ≡ Some m = sym is ∙ e in cc) in
+    ap (λ (y : Message). y ∷ xs) same ∙ ap (λ (b : Buffer Message). m ∷ b.items) (sym now)
+
+pub ring_draws : (old : Seen) (items : List Message) (capacity : ℕ) (queue : Option Queue) (lent : Lent) (ring : Buffer Message) (m : Message)
+    → record { ring = items; capacity = capacity; queue = queue; lent = lent } ≡ old → items ≡ m ∷ ring.items → ring ≡ buffer (drop 1 items) capacity
+    → DrawsOne old (record { ring = ring.items; capacity = ring.capacity; queue = queue; lent = OfRing }) m
+ring_draws old items capacity queue lent ring m view whole now =
+    subst (λ (b : Seen). DrawsOne b (record { ring = ring.items; capacity = ring.capacity; queue = queue; lent = OfRing }) m) view
+    (of_ring whole (ap (λ (b : Buffer Message). record { ring = ring.items; capacity = b.capacity; queue = queue; lent = OfRing }) now))
+
+pub sound_drawn : (items : List Message) (capacity : ℕ) (queue : Option Queue) (lent : Lent) (ring : Buffer Message) (m : Message) → items ≡ m ∷ ring.items → ring ≡ buffer (drop 1 items) capacity
+    → IsSound items capacity queue lent → IsSound ring.items ring.capacity queue OfRing
+sound_drawn items capacity queue lent ring m whole now i =
+    let within = i.within in
+    let room : ring.capacity ≡ capacity = ap (λ (b : Buffer Message). b.capacity) now in
+    record {
+      within = omega (arith, ap length whole, within, room);
+      short = subst (All FitsLimit) (sym (ap (λ (b : Buffer Message). b.items) now)) (All-drop FitsLimit 1 items i.short);
+      queue = i.queue;
+      lent = omega (arith, ap length whole, within, room);
+    }
+
+-- a ring that gave none and has no queue behind it is as it was
+pub sound_idle : (items : List Message) (capacity : ℕ) (queue : Option Queue) (lent : Lent) (ring : Buffer Message) → items ≡ [] → ring ≡ buffer (drop 1 items) capacity
+    → IsSound items capacity queue lent → IsSound ring.items ring.capacity queue lent
+sound_idle items capacity queue lent ring empty is i = subst (λ (b : Buffer Message). IsSound b.items b.capacity queue lent) (sym (ring_stays items capacity ring empty is)) i
+
+-- a queue that was looked into is one of messages still
+pub sound_looked : (items : List Message) (capacity : ℕ) (queue : Option Queue) (was lent : Lent) (ring : Buffer Message) (q r : Queue) → items ≡ [] → ring ≡ buffer (drop 1 items) capacity → queue ≡ Some q
+    → r.options ≡ q.options → r.staged ≡ q.staged → IsLent items capacity (Some r) lent → IsSound items capacity queue was → IsSound ring.items ring.capacity (Some r) lent
+sound_looked items capacity queue was lent ring q r empty is there options staged left i =
+    let before : IsQueue q = subst IsQueueWhere there i.queue in
+    subst (λ (b : Buffer Message). IsSound b.items b.capacity (Some r) lent) (sym (ring_stays items capacity ring empty is))
+    (record {
+      within = i.within;
+      short = i.short;
+      queue = record { options = subst ForMessages (sym options) before.options; none_staged = ap (λ (s : Staged). s.count) staged ∙ before.none_staged };
+      lent = left;
+    })
+
+-- a backlog whose queue was saved or emptied is sound still
+pub sound_queue : (items : List Message) (capacity : ℕ) (queue : Option Queue) (lent : Lent) (q r : Queue) → queue ≡ Some q → r.options ≡ q.options → r.staged.count ≡ q.staged.count → lent ≡ Nothing
+    → IsSound items capacity queue lent → IsSound items capacity (Some r) lent
+sound_queue items capacity queue lent q r there options staged free i =
+    let before : IsQueue q = subst IsQueueWhere there i.queue in
+    record {
+      within = i.within;
+      short = i.short;
+      queue = record { options = subst ForMessages (sym options) before.options; none_staged = staged ∙ before.none_staged };
+      lent = subst (IsLent items capacity (Some r)) (sym free) tt;
+    }
 
 -- a record has as many bytes as its message is said to have
 pub sized : (n : ℕ) (into : List ℕ) (message : Message) → FitsItsBytes message → n ≤ length into → take n into ≡ message_bytes message → n ≡ size_of message

@@ -3,7 +3,8 @@ use Rattle.std.proofs.Common.{◌≡◌, ℕ, ◌+◌, ◌-◌, ◌<◌, ◌≤�
 use Rattle.std.specs.List.{All}
 use Rattle.circular_buffer.specs.Buffer.{Buffer, buffer, keep_last}
 use Rattle.std.specs.Int.{to_be_bytes, w16, w64}
-use Rattle.std.proofs.lemmas.List.{take_at, take_more, map-append, length-take-le, reverse-append}
+use Rattle.std.proofs.Math.Nat.{le_of_eq}
+use Rattle.std.proofs.lemmas.List.{take_at, take_all, take_more, map-append, append-nil, length-drop, length-take-le, reverse-append}
 use Rattle.std.proofs.lemmas.List.Elements.{All-nil, All-cons, All-push, All-append, All-map, All-weaker}
 use Rattle.nsq_outside.specs.Causes.{Rose}
 use Rattle.nsq_outside.specs.Files.{Files}
@@ -19,9 +20,9 @@ use Rattle.disk_queue.specs.declared.answers.Sync.{Sync}
 use Rattle.disk_queue.specs.declared.answers.Put.{Put}
 use Rattle.disk_queue.specs.declared.answers.Put.TheVariants.{Stored, Fault, TooLong}
 use Rattle.disk_queue.proofs.Kept.{own_join}
-use Rattle.backlog.specs.Seen.{size_of, ForMessages, FitsLimit, staged_all, SpillsAll, Unstages, IsSameQueue, SameQueue}
+use Rattle.backlog.specs.Seen.{Seen, QueueTakes, room, size_of, ForMessages, FitsLimit, staged_all, SpillsAll, Unstages, IsSameQueue, SameQueue}
 use Rattle.backlog.specs.Kept.{IsSound, IsQueue, IsQueueWhere, IsLent}
-use Rattle.backlog.specs.Lists.{OnDisk, DiskChanges, PutChanges, HoldsAll, IsStored, stored, disk_after}
+use Rattle.backlog.specs.Lists.{OnDisk, Stands, spilled, DiskChanges, PutChanges, HoldsAll, IsStored, stored, disk_after}
 use Rattle.backlog.specs.declared.backlog.Lent.{Lent}
 use Rattle.backlog.specs.declared.backlog.Lent.TheVariants.{Nothing}
 use Rattle.backlog.specs.declared.answers.PutOne.{PutOne}
@@ -218,6 +219,13 @@ pub disk_same : (queue : Option Queue) (files : Files) → DiskChanges queue fil
 disk_same None files = λ file. refl
 disk_same (Some q) files = λ file other. refl
 
+-- the ring took the message
+pub put_kept : (old : Seen) (items : List Message) (capacity : ℕ) (queue : Option Queue) (lent : Lent) (ring : Buffer Message) (m : Message)
+    → record { ring = items; capacity = capacity; queue = queue; lent = lent } ≡ old → ring ≡ buffer (items ++ m ∷ []) capacity
+    → record { ring = ring.items; capacity = ring.capacity; queue = queue; lent = lent } ≡ record old { ring = old.ring ++ m ∷ [] }
+put_kept old items capacity queue lent ring m view is =
+    ap (λ (b : Buffer Message). record { ring = b.items; capacity = b.capacity; queue = queue; lent = lent }) is ∙ ap (λ (b : Seen). record b { ring = b.ring ++ m ∷ [] }) view
+
 -- a ring that takes no more than it has room for stays sound
 pub sound_more : (ring : Buffer Message) (old more : List Message) (capacity : ℕ) (queue : Option Queue) (lent : Lent) → ring ≡ buffer (old ++ more) capacity
     → length old ≤ capacity → All FitsLimit old → length more ≤ capacity - length old → All FitsLimit more → IsQueueWhere queue → lent ≡ Nothing → IsSound ring.items ring.capacity queue lent
@@ -229,3 +237,55 @@ sound_more ring old more capacity queue lent is within short room fits q free =
       queue = q;
       lent = subst (λ (l : Lent). IsLent (old ++ more) capacity queue l) (sym free) tt;
     })
+
+-- what stands behind a place
+pub rest_of : (xs ys : List Message) (n m : ℕ) → xs ≡ ys → n ≡ m → take (length xs - n) (drop n xs) ≡ drop m ys
+rest_of xs ys n m e same = take_all (length xs - n) (drop n xs) (omega (arith, length-drop n xs)) ∙ ap (drop n) e ∙ ap (λ (k : ℕ). drop k ys) same
+
+spilled_none : (queue : Option Queue) (rest : List Message) → (rest ≡ []) ⊎ (queue ≡ None) → spilled queue rest ≡ []
+spilled_none None rest either = refl
+spilled_none (Some q) rest (inl none) = ap (map stored) none
+spilled_none (Some q) rest (inr e) = let contra : Some q ≡ None = e in cc
+
+takes_same : (queue : Option Queue) (rest : List Message) → (rest ≡ []) ⊎ (queue ≡ None) → QueueTakes queue queue rest
+takes_same None rest either = tt
+takes_same (Some q) rest (inl none) = subst (λ (ms : List Message). QueueTakes (Some q) (Some q) ms) (sym none) refl
+takes_same (Some q) rest (inr e) = let contra : Some q ≡ None = e in cc
+
+-- what became of the messages for which the ring had no room
+pub record Placed (tells : Bool) (old new : Option Queue) (before after : Files) (first last : ℕ) (rest : List Message) : Type 0 where
+  pub takes : QueueTakes old new rest
+  pub list : IsTrue tells → (disk : List Message) → OnDisk old before disk → OnDisk new after (disk ++ spilled old rest)
+  pub stands : IsTrue tells → Stands old before → Stands new after
+  pub faults : first ≤ last
+
+-- there were none, or there is no disk
+pub placed_nowhere : (tells : Bool) (queue : Option Queue) (files : Files) (faults : ℕ) (rest : List Message) → (rest ≡ []) ⊎ (queue ≡ None) → Placed tells queue queue files files faults faults rest
+placed_nowhere tells queue files faults rest either = record {
+  takes = takes_same queue rest either;
+  list = λ told disk. subst (λ (ms : List Message). OnDisk queue files disk → OnDisk queue files ms) (sym (ap (λ (ms : List Message). disk ++ ms) (spilled_none queue rest either) ∙ append-nil disk)) (λ on. on);
+  stands = λ told stood. stood;
+  faults = le_of_eq refl;
+}
+
+-- or they went to disk
+takes_spilled : (q r : Queue) (rest : List Message) → 0 < length rest → SpillsAll q r (map size_of rest) → QueueTakes (Some q) (Some r) rest
+takes_spilled q r [] some spills = absurd (omega (arith, some))
+takes_spilled q r (m ∷ ms) some spills = spills
+
+pub placed_behind : (tells : Bool) (queue : Option Queue) (q r : Queue) (before after : Files) (first last : ℕ) (rest : List Message) → queue ≡ Some q → 0 < length rest → SpillsAll q r (map size_of rest)
+    → (IsTrue tells → (disk : List Message) → HoldsAll q before disk → HoldsAll r after (disk ++ map stored rest)) → (IsTrue tells → SaveStands q before → SaveStands r after) → first ≤ last
+    → Placed tells queue (Some r) before after first last rest
+placed_behind tells queue q r before after first last rest is some spills list stands faults =
+    subst (λ (x : Option Queue). Placed tells x (Some r) before after first last rest) (sym is)
+    (record { takes = takes_spilled q r rest some spills; list = list; stands = stands; faults = faults })
+
+-- the ring took those for which it has room
+pub put_all_ring : (old : Seen) (items : List Message) (capacity : ℕ) (was queue : Option Queue) (before lent : Lent) (ring : Buffer Message) (more messages : List Message)
+    → record { ring = items; capacity = capacity; queue = was; lent = before } ≡ old → ring ≡ buffer (items ++ more) capacity → more ≡ take (capacity - length items) messages → lent ≡ before
+    → record { ring = ring.items; capacity = ring.capacity; queue = queue; lent = lent } ≡ record old { ring = old.ring ++ take (room old) messages; queue = queue }
+put_all_ring old items capacity was queue before lent ring more messages view is front free =
+    ap (λ (b : Buffer Message). record { ring = b.items; capacity = b.capacity; queue = queue; lent = lent }) is
+    ∙ ap (λ (xs : List Message). record { ring = items ++ xs; capacity = capacity; queue = queue; lent = lent }) front
+    ∙ ap (λ (l : Lent). record { ring = items ++ take (capacity - length items) messages; capacity = capacity; queue = queue; lent = l }) free
+    ∙ ap (λ (b : Seen). record b { ring = b.ring ++ take (room b) messages; queue = queue }) view

@@ -1,7 +1,7 @@
 -- Moving the ring's messages to the queue, and saving.
-use Rattle.std.proofs.Common.{ℕ, ◌≡◌, ◌≢◌, ◌+◌, ◌-◌, ◌≤◌, ◌<◌, ◌⊎◌, inl, inr, List, [], ◌∷◌, ◌++◌, length, take, drop, map, Bool, true, false, IsTrue, Some, refl, sym, ap, subst, ◌∙◌, arith, append_assoc, get_or, if◌then◌else◌}
+use Rattle.std.proofs.Common.{ℕ, ◌≡◌, ◌≢◌, ◌+◌, ◌-◌, ◌≤◌, ◌<◌, ◌⊎◌, inl, inr, List, [], ◌∷◌, ◌++◌, length, take, drop, map, Bool, true, false, IsTrue, Option, Some, refl, sym, ap, subst, ◌∙◌, arith, append_assoc, get_or, if◌then◌else◌}
 use Rattle.std.specs.List.{slice_get, All}
-use Rattle.std.proofs.lemmas.List.{map-append, drop-drop, length-drop, take_more, get_or-drop, length-take-le, take_all}
+use Rattle.std.proofs.lemmas.List.{map-append, drop-drop, length-drop, take_more, get_or-drop, length-take-le, take_all, drop_all}
 use Rattle.std.proofs.lemmas.List.Elements.{All-append, All-cons, All-nil, All-head, All-drop}
 use Rattle.std.proofs.lemmas.Option.{slice_get_within, get_or_from_slice_get}
 use Rattle.circular_buffer.specs.Buffer.{Buffer, buffer}
@@ -24,7 +24,12 @@ use Rattle.disk_queue.specs.declared.answers.Sync.TheVariants as sync
 use Rattle.disk_queue.proofs.Kept.{own_join}
 use Rattle.queue_image.specs.Places.{rolls}
 use Rattle.queue_image.specs.Finds.{IsFound, Records}
-use Rattle.backlog.specs.Seen.{FitsLimit, ForMessages, Lengthens, WritesAll, longest_body, size_of}
+use Rattle.disk_queue.specs.Emptying.{EmptySeen as QueueEmptySeen}
+use Rattle.disk_queue.specs.declared.answers.Emptied.TheVariants.{Done}
+use Rattle.backlog.specs.declared.backlog.Lent.{Lent}
+use Rattle.backlog.specs.declared.backlog.Lent.TheVariants.{Nothing}
+use Rattle.backlog.specs.Kept.{IsSound, IsLent}
+use Rattle.backlog.specs.Seen.{FitsLimit, ForMessages, IsSameQueue, Lengthens, WritesAll, longest_body, size_of}
 use Rattle.backlog.specs.Lists.{HoldsAll, IsStored, stored}
 use Rattle.backlog.proofs.Opening.{found_for}
 
@@ -171,6 +176,10 @@ moved tells items capacity ring q r old new n h = subst (λ (k : ℕ). Moving te
 pub left_over : (items : List Message) (capacity : ℕ) (ring : Buffer Message) (n : ℕ) → ring ≡ buffer (drop n items) capacity → length ring.items ≡ length items - n
 left_over items capacity ring n left = ap (λ (b : Buffer Message). length b.items) left ∙ length-drop n items
 
+-- none is left where all moved
+pub none_left : (items : List Message) (capacity : ℕ) (ring : Buffer Message) (n : ℕ) → ring ≡ buffer (drop n items) capacity → length items ≤ n → ring.items ≡ []
+none_left items capacity ring n left all = ap (λ (b : Buffer Message). b.items) left ∙ drop_all n items all
+
 -- an opening finds the list after a save that didn't fail
 found_saved : (s : Queue) (new : Files) (bodies : List (List ℕ)) (answer : Sync) → (answer ≡ sync.NotDue) ⊎ (answer ≡ sync.Done) → FoundUnlessFailed s new bodies answer
     → IsFound s.options.least s.options.limit new s.name (Records bodies [])
@@ -199,3 +208,19 @@ flush_finds q r s items left disk mid new wrote answer n options longer seen fin
     (found (map message_bytes (disk ++ map stored (take (length items - length left) items))) [] holds.list stands) in
     subst (λ (xs : List Message). IsFound 26 (26 + longest_body) new q.name (Records (map message_bytes (disk ++ map stored xs)) [])) whole
     (found_for 26 (26 + longest_body) s.options.least s.options.limit new s.name q.name (Records (map message_bytes (disk ++ map stored (take (length items - length left) items))) []) least limit named there)
+
+-- a queue that was emptied is the same one
+pub emptied_same : (q r : Queue) → QueueEmptySeen q r Done → IsSameQueue q r
+emptied_same q r (inl e) = record { name = ap (λ (x : Queue). x.name) e; options = ap (λ (x : Queue). x.options) e }
+emptied_same q r (inr e) = record { name = ap (λ (x : Queue). x.name) e; options = ap (λ (x : Queue). x.options) e }
+
+pub emptied_staged : (q r : Queue) → QueueEmptySeen q r Done → r.staged.count ≡ q.staged.count
+emptied_staged q r (inl e) = ap (λ (x : Queue). x.staged.count) e
+emptied_staged q r (inr e) = ap (λ (x : Queue). x.staged.count) e
+
+-- and a ring that was cleared is sound
+pub sound_cleared : (items : List Message) (capacity : ℕ) (queue : Option Queue) (lent : Lent) (ring : Buffer Message) → ring ≡ buffer [] capacity → lent ≡ Nothing → IsSound items capacity queue lent
+    → IsSound ring.items ring.capacity queue lent
+sound_cleared items capacity queue lent ring is free i =
+    subst (λ (b : Buffer Message). IsSound b.items b.capacity queue lent) (sym is)
+    (record { within = omega arith; short = All-nil FitsLimit; queue = i.queue; lent = subst (IsLent [] capacity queue) (sym free) tt })

@@ -1,10 +1,10 @@
 use crate::commands::{did, only, publish, sent};
-use crate::moves::{moved_or, one_made, put_made, same};
+use crate::moves::{if_done, moved_or, one_made, put_made, same};
 use broker_changes::state::{deleted, deleted_first, emptied, gone, made, set_paused};
 use broker_history::{Act, Ask, Entry, Said};
 use broker_plain::{Phase, default_heartbeat};
 use broker_state::{Client, State};
-use nsq_base::{Body, Chan, Memory, Topic};
+use nsq_base::{Body, Memory};
 use nsq_outside::End;
 use std::alloc::Global;
 use v2_frame::{Frame, FrameKind};
@@ -74,8 +74,8 @@ fn begun(alloc: Global, state: &State, at: u64, number: u64) -> Result<State, Me
 // The state in which a connection of this number began.
 fn with_begun(alloc: Global, state: &State, number: u64) -> Result<State, Memory> {
     let mut state = state.copy(alloc)?;
-    put_made(&mut state.began, Ok(number))?;
-    Ok(state)
+    let put = put_made(&mut state.began, Ok(number));
+    if_done(state, put)
 }
 
 // A client that began.
@@ -162,25 +162,19 @@ fn carried_out(alloc: Global, state: &State, at: u64, ask: &Ask) -> Result<Vec<S
 
 // The state after something was asked and done that is no publish.
 fn changed(alloc: Global, state: &State, ask: &Ask) -> Result<State, Memory> {
-    match ask {
-        Ask::Publish(_, _, _) | Ask::Stats(_, _) => state.copy(alloc),
-        Ask::Create(topic, channel) => made(alloc, state.copy(alloc)?, topic, channel),
-        Ask::Delete(topic, channel) => deleted(alloc, state.copy(alloc)?, topic, channel),
-        Ask::Empty(topic, channel) => emptied(alloc, state.copy(alloc)?, topic, channel),
-        Ask::Pause(topic, channel) => paused(alloc, state, true, topic, channel),
-        Ask::Unpause(topic, channel) => paused(alloc, state, false, topic, channel),
-    }
+    becomes(alloc, state.copy(alloc)?, ask)
 }
 
-// The state after a topic or a channel was paused, or isn't any more.
-fn paused(
-    alloc: Global,
-    state: &State,
-    on: bool,
-    topic: &Topic,
-    channel: &Option<Chan>,
-) -> Result<State, Memory> {
-    set_paused(alloc, state.copy(alloc)?, on, topic, channel)
+// What the state becomes after something was asked and done that is no publish.
+fn becomes(alloc: Global, state: State, ask: &Ask) -> Result<State, Memory> {
+    match ask {
+        Ask::Publish(_, _, _) | Ask::Stats(_, _) => Ok(state),
+        Ask::Create(topic, channel) => made(alloc, state, topic, channel),
+        Ask::Delete(topic, channel) => deleted(alloc, state, topic, channel),
+        Ask::Empty(topic, channel) => emptied(alloc, state, topic, channel),
+        Ask::Pause(topic, channel) => set_paused(alloc, state, true, topic, channel),
+        Ask::Unpause(topic, channel) => set_paused(alloc, state, false, topic, channel),
+    }
 }
 
 // What a disk fault leaves of what was asked: of a topic's deletion the channels that were deleted.

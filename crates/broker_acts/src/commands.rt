@@ -22,8 +22,10 @@ pub(crate) fn did(
     let Some(client) = state.client_of(number) else {
         return Ok(Vec::new(alloc));
     };
-    let state = with_one(alloc, state, spoke(alloc, at, client))?;
-    done(alloc, &state, at, number, command, kept_off)
+    let spoken = with_one(alloc, state, spoke(alloc, at, client))?;
+    let states = done(alloc, &spoken, at, number, command, kept_off);
+    drop(spoken);
+    states
 }
 
 // The states that a command leads to, in which its client of this number just gave it.
@@ -51,7 +53,13 @@ pub(crate) fn with_one(
     client: Result<Client, Memory>,
 ) -> Result<State, Memory> {
     let client = client?;
-    state.copy(alloc)?.with_client(alloc, client)
+    match state.copy(alloc) {
+        Ok(state) => state.with_client(alloc, client),
+        Err(error) => {
+            drop(client);
+            Err(error)
+        }
+    }
 }
 
 // One state, with this client.

@@ -13,11 +13,17 @@ pub(crate) fn put_made<T: Drop>(list: &mut Vec<T>, made: Result<T, Memory>) -> R
     Ok(())
 }
 
+// What was changed in place, where memory didn't want.
+pub(crate) fn if_done<T: Drop>(changed: T, done: Result<(), Memory>) -> Result<T, Memory> {
+    done?;
+    Ok(changed)
+}
+
 // A list of one that was made, where memory didn't want.
 pub(crate) fn one_made<T: Drop>(alloc: Global, made: Result<T, Memory>) -> Result<Vec<T>, Memory> {
     let mut list = Vec::new(alloc);
-    put_made(&mut list, made)?;
-    Ok(list)
+    let put = put_made(&mut list, made);
+    if_done(list, put)
 }
 
 // The same state.
@@ -107,8 +113,13 @@ fn by_copied(
 
 // The state with another topic.
 fn at_topic(alloc: Global, state: &State, topic: TopicState) -> Result<State, Memory> {
-    let state = state.copy(alloc)?;
-    state.with_topic(alloc, topic)
+    match state.copy(alloc) {
+        Ok(state) => state.with_topic(alloc, topic),
+        Err(error) => {
+            drop(topic);
+            Err(error)
+        }
+    }
 }
 
 // The topic and the channel of these names, where both are there.

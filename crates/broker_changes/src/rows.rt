@@ -233,16 +233,23 @@ pub(crate) fn is_same(a: &Message, b: &Message) -> bool
         && same(a.body.bytes(), b.body.bytes())
 }
 
-// Adds one behind a list. It goes with the refusal where memory is wanting.
-pub(crate) fn put_last<T: Drop>(list: &mut Vec<T>, one: T) -> Result<(), Memory> {
-    list.push(one)?;
-    Ok(())
-}
-
-// The same of one that was made, where memory didn't want.
+// Adds one that was made behind a list, where memory didn't want. It goes with the refusal where memory is wanting.
 pub(crate) fn put_made<T: Drop>(list: &mut Vec<T>, made: Result<T, Memory>) -> Result<(), Memory> {
     list.push(made?)?;
     Ok(())
+}
+
+// Removes the one at a place of a list, if one stands there.
+pub(crate) fn remove_at<T: Drop>(list: &mut Vec<T>, place: usize) {
+    if place < list.len() {
+        drop(list.remove(place));
+    }
+}
+
+// What was changed in place, where memory didn't want.
+pub(crate) fn if_done<T: Drop>(changed: T, done: Result<(), Memory>) -> Result<T, Memory> {
+    done?;
+    Ok(changed)
 }
 
 // Whether two texts are equal.

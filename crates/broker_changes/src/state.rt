@@ -1,6 +1,7 @@
 ghost use Rattle.std.specs.Prelude.{◌≤◌, ◌+◌, ◌^◌, length};
 
 use crate::channels::empty;
+use crate::rows::{if_done, remove_at};
 use crate::topics::{Publishing, channel_names, owe_no_more, put_bodies};
 use broker_plain::Phase;
 use broker_state::{ChannelState, Client, Route, State, TopicState, copy_route};
@@ -47,8 +48,10 @@ pub fn published(
 
 // The state with this topic at its place, where memory didn't want.
 fn placed(alloc: Global, state: State, topic: Result<TopicState, Memory>) -> Result<State, Memory> {
-    let topic = topic?;
-    state.with_topic(alloc, topic)
+    match topic {
+        Ok(topic) => state.with_topic(alloc, topic),
+        Err(error) => if_done(state, Err(error)),
+    }
 }
 
 // The topic of this name after messages of these bodies were published.
@@ -70,8 +73,8 @@ fn topic_with_bodies(
         delay,
     };
     let mut topic = topic_or_new(alloc, state, name)?;
-    put_bodies(alloc, &mut topic, publishing, bodies)?;
-    Ok(topic)
+    let put = put_bodies(alloc, &mut topic, publishing, bodies);
+    if_done(topic, put)
 }
 
 /// The state with this topic, or with this channel in it (`made`); what isn't there yet is made.
@@ -123,7 +126,28 @@ fn topic_with_new(
 
 // The topics but the one of this name (`without_topic`), with its messages and what is left of its channels.
 fn remove_topic(topics: &mut Vec<TopicState>, name: &Topic) {
-    topics.retain(|topic| !topic.is_named(name));
+    let place = place_of_topic(topics, name);
+    remove_at(topics, place);
+}
+
+// The place of the topic of this name, behind all where there is none.
+fn place_of_topic(topics: &[TopicState], name: &Topic) -> usize {
+    for i in 0..topics.len() {
+        if topics[i].is_named(name) {
+            return i;
+        }
+    }
+    topics.len()
+}
+
+// The place of the channel of this name, behind all where there is none.
+fn place_of_channel(channels: &[ChannelState], name: &Chan) -> usize {
+    for i in 0..channels.len() {
+        if channels[i].is_named(name) {
+            return i;
+        }
+    }
+    channels.len()
 }
 
 // Deletes the channel of the topic (`deleted_channel`): its copies, its clients' part in it and what it was owed are gone.
@@ -149,16 +173,16 @@ fn lose(clients: &mut Vec<Client>, topic: &Topic, channel: &Chan) {
 
 // Removes the channel of this name from the topic of that.
 fn remove_channels(topics: &mut Vec<TopicState>, name: &Topic, channel: &Chan) {
-    for topic in topics {
-        if topic.is_named(name) {
-            remove_channel(topic, channel);
-        }
+    let place = place_of_topic(topics, name);
+    if place < topics.len() {
+        remove_channel(&mut topics[place], channel);
     }
 }
 
 // Removes the channel of this name from a topic, which owes it nothing any more (`without_channel`).
 fn remove_channel(topic: &mut TopicState, name: &Chan) {
-    topic.channels.retain(|channel| !channel.is_named(name));
+    let place = place_of_channel(&topic.channels, name);
+    remove_at(&mut topic.channels, place);
     owe_no_more(&mut topic.taken, name);
 }
 
@@ -170,8 +194,8 @@ fn is_left_empty(topic: Option<&TopicState>) -> bool {
     }
 }
 
-/// The names of a topic's channels (`channels_in`), none where it isn't there.
-pub fn channels_in(alloc: Global, state: &State, name: &Topic) -> Result<Vec<Chan>, Memory> {
+// The names of a topic's channels (`channels_in`), none where it isn't there.
+fn channels_in(alloc: Global, state: &State, name: &Topic) -> Result<Vec<Chan>, Memory> {
     match state.topic_of(name) {
         None => Ok(Vec::new(alloc)),
         Some(topic) => channel_names(alloc, &topic.channels),
@@ -185,20 +209,27 @@ pub fn deleted_first(
     name: &Topic,
     count: u64,
 ) -> Result<State, Memory> {
-    let channels = channels_in(alloc, &state, name)?;
-    delete_channels(&mut state, name, &channels, count);
-    Ok(state)
+    let channels = channels_in(alloc, &state, name);
+    let deleted = delete_channels(&mut state, name, channels, count);
+    if_done(state, deleted)
 }
 
-// Deletes so many of these channels of a topic, or all.
-fn delete_channels(state: &mut State, name: &Topic, channels: &[Chan], count: u64) {
+// Deletes so many of these channels of a topic, or all, where memory didn't want.
+fn delete_channels(
+    state: &mut State,
+    name: &Topic,
+    channels: Result<Vec<Chan>, Memory>,
+    count: u64,
+) -> Result<(), Memory> {
+    let channels = channels?;
     let mut left = count;
-    for channel in channels {
+    for channel in &channels {
         if left > 0 {
             delete_channel(state, name, channel);
             left -= 1;
         }
     }
+    Ok(())
 }
 
 /// The state after a topic was deleted, its channels first, or a channel of it (`deleted`).
@@ -256,10 +287,9 @@ pub fn set_paused(
 
 // Changes the topic of this name, or its channel of that, where it is there.
 fn change_at(topics: &mut Vec<TopicState>, name: &Topic, channel: &Option<Chan>, change: Change) {
-    for topic in topics {
-        if topic.is_named(name) {
-            change_in(topic, channel, change);
-        }
+    let place = place_of_topic(topics, name);
+    if place < topics.len() {
+        change_in(&mut topics[place], channel, change);
     }
 }
 
@@ -281,10 +311,9 @@ fn change_topic(topic: &mut TopicState, change: Change) {
 
 // Changes the one of these channels that has this name.
 fn change_channels(channels: &mut Vec<ChannelState>, name: &Chan, change: Change) {
-    for channel in channels {
-        if channel.is_named(name) {
-            change_channel(channel, change);
-        }
+    let place = place_of_channel(channels, name);
+    if place < channels.len() {
+        change_channel(&mut channels[place], change);
     }
 }
 
@@ -298,7 +327,18 @@ fn change_channel(channel: &mut ChannelState, change: Change) {
 
 // The clients but the one of this number.
 fn remove_client(clients: &mut Vec<Client>, number: u64) {
-    clients.retain(|client| client.number != number);
+    let place = place_of_client(clients, number);
+    remove_at(clients, place);
+}
+
+// The place of the client of this number, behind all where there is none.
+fn place_of_client(clients: &[Client], number: u64) -> usize {
+    for i in 0..clients.len() {
+        if clients[i].is_numbered(number) {
+            return i;
+        }
+    }
+    clients.len()
 }
 
 // Whether a client goes with a channel of its own that it still has.

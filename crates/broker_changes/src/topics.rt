@@ -1,27 +1,11 @@
 ghost use Rattle.std.specs.Prelude.{◌<◌, ◌≤◌, ◌+◌, ◌^◌, length};
 
 use crate::channels::{Room, counted, gets, has_due};
-use crate::rows::{is_same, put_last, put_made, same};
+use crate::rows::{if_done, is_same, put_made, remove_at, same};
 use broker_state::{ChannelState, TakenMessage, TopicState, Waiting};
 use nsq_base::{Body, Chan, Memory, MsgId, Names};
 use std::alloc::Global;
 use v2_frame::Message;
-
-// Puts a message that was made into the topic (`put_message`), where so many messages find room in memory: an ephemeral topic drops what
-// finds no room.
-fn put_message(
-    topic: &mut TopicState,
-    mem: u64,
-    message: Result<Message, Memory>,
-) -> Result<(), Memory> {
-    let message = message?;
-    let loose = mem <= topic.waiting.len() as u64;
-    if topic.name.ephemeral() && loose {
-        return Ok(());
-    }
-    topic.message_count = counted(topic.message_count);
-    put_last(&mut topic.waiting, Waiting { message, loose })
-}
 
 // What is the same of all messages of a publish.
 #[derive(Clone, Copy)]
@@ -50,29 +34,47 @@ pub(crate) fn put_bodies(
 {
     for i in 0..bodies.len() {
         let id = MsgId::make(publishing.epoch, publishing.used + i as u64);
-        put_message(
-            topic,
-            publishing.mem,
-            new_message(alloc, publishing, id, &bodies[i]),
-        )?;
+        put_message(alloc, topic, publishing, id, &bodies[i])?;
     }
     Ok(())
 }
 
-// A message of a publish, of this id and body.
+// Puts a message of this id and body into the topic (`put_message`): an ephemeral topic drops what finds no room.
+fn put_message(
+    alloc: Global,
+    topic: &mut TopicState,
+    publishing: Publishing,
+    id: MsgId,
+    body: &Body,
+) -> Result<(), Memory> {
+    let loose = publishing.mem <= topic.waiting.len() as u64;
+    if topic.name.ephemeral() && loose {
+        return Ok(());
+    }
+    topic.message_count = counted(topic.message_count);
+    put_made(
+        &mut topic.waiting,
+        new_message(alloc, publishing, id, body, loose),
+    )
+}
+
+// A message of a publish, of this id and body, as it waits.
 fn new_message(
     alloc: Global,
     publishing: Publishing,
     id: MsgId,
     body: &Body,
-) -> Result<Message, Memory> {
-    Ok(Message {
+    loose: bool,
+) -> Result<Waiting, Memory> {
+    let body = Body::copy(alloc, body.bytes())?;
+    let message = Message {
         stamp: publishing.at,
         attempts: 0,
         id,
-        body: Body::copy(alloc, body.bytes())?,
+        body,
         delay: publishing.delay,
-    })
+    };
+    Ok(Waiting { message, loose })
 }
 
 /// Whether a Took is due (`takes`): the topic isn't paused, has a channel and a waiting message, and has taken none.
@@ -150,8 +152,8 @@ fn took_at(
     message: &Message,
 ) -> Result<TopicState, Memory> {
     let mut took = topic.copy(alloc)?;
-    take_at(alloc, &mut took, i, message)?;
-    Ok(took)
+    let taken = take_at(alloc, &mut took, i, message);
+    if_done(took, taken)
 }
 
 // Takes the message that waits at a place.
@@ -164,13 +166,6 @@ fn take_at(
     topic.taken = Some(taken_by(alloc, &topic.channels, message)?);
     remove_at(&mut topic.waiting, i);
     Ok(())
-}
-
-// Removes the message that waits at a place.
-fn remove_at(waiting: &mut Vec<Waiting>, i: usize) {
-    if i < waiting.len() {
-        let _waiting = waiting.remove(i);
-    }
 }
 
 // A copy of the message that these channels are owed.
@@ -188,7 +183,7 @@ fn taken_by(
 pub(crate) fn channel_names(alloc: Global, channels: &[ChannelState]) -> Result<Vec<Chan>, Memory> {
     let mut names = Vec::new(alloc);
     for channel in channels {
-        names.push(channel.name)?;
+        put_made(&mut names, Ok(channel.name))?;
     }
     Ok(names)
 }
@@ -242,7 +237,8 @@ pub(crate) fn owe_no_more(taken: &mut Option<TakenMessage>, name: &Chan) {
 
 // Takes a name out of the owed ones, and says whether none is left.
 fn is_last_owed(owed: &mut Vec<Chan>, name: &Chan) -> bool {
-    owed.retain(|other| !same(other.bytes(), name.bytes()));
+    let place = place_of_name(owed, name);
+    remove_at(owed, place);
     owed.is_empty()
 }
 
@@ -257,17 +253,17 @@ fn is_owed(taken: &Option<TakenMessage>, name: &Chan, message: &Message) -> bool
     if !is_same(message, &taken.message) {
         return false;
     }
-    is_among(&taken.owed, name)
+    place_of_name(&taken.owed, name) < taken.owed.len()
 }
 
-// Whether a name is among these.
-fn is_among(names: &[Chan], name: &Chan) -> bool {
-    for other in names {
-        if same(other.bytes(), name.bytes()) {
-            return true;
+// The place of the first of these names that is this one, behind all where none is.
+fn place_of_name(names: &[Chan], name: &Chan) -> usize {
+    for i in 0..names.len() {
+        if same(names[i].bytes(), name.bytes()) {
+            return i;
         }
     }
-    false
+    names.len()
 }
 
 /// The topic that Copied makes of one (`Copies`): the channel gets the message, which its topic owes it no more. None where it doesn't

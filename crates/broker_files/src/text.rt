@@ -13,61 +13,82 @@ pub fn names_text(alloc: Global, kept: &KeptNames) -> Result<Vec<u8>, Memory> {
 
 // Adds what the file keeps.
 fn put_names(text: &mut Vec<u8>, kept: &KeptNames) -> Result<(), Memory> {
-    put(text, br#"{"id_epoch":"#)?;
-    put_number(text, kept.epoch)?;
-    put(text, br#","topics":["#)?;
+    put_front(text, kept.epoch)?;
     put_topics(text, &kept.topics)?;
     put(text, br#"],"version":"1.0.0"}"#)
+}
+
+// Adds what stands before the topics.
+fn put_front(text: &mut Vec<u8>, epoch: u32) -> Result<(), Memory> {
+    put(text, br#"{"id_epoch":"#)?;
+    put_number(text, epoch)?;
+    put(text, br#","topics":["#)
 }
 
 // Adds topics.
 fn put_topics(text: &mut Vec<u8>, topics: &[KeptTopic]) -> Result<(), Memory> {
     let mut later = false;
     for topic in topics {
-        put(text, comma_if(later))?;
-        put_topic(text, topic)?;
+        put_topic(text, later, topic)?;
         later = true;
     }
     Ok(())
 }
 
-// Adds a topic.
-fn put_topic(text: &mut Vec<u8>, topic: &KeptTopic) -> Result<(), Memory> {
-    put(text, br#"{"channels":["#)?;
+// Adds a topic, the first or a later one.
+fn put_topic(text: &mut Vec<u8>, later: bool, topic: &KeptTopic) -> Result<(), Memory> {
+    put(text, topic_front(later))?;
     put_channels(text, &topic.channels)?;
-    put(text, b"],")?;
-    put_end(text, topic.name.bytes(), topic.paused)
+    put_end(text, br#"],"name":""#, topic.name.bytes(), topic.paused)
+}
+
+// What stands before a topic's channels.
+fn topic_front(later: bool) -> &'static [u8] {
+    if later {
+        br#",{"channels":["#
+    } else {
+        br#"{"channels":["#
+    }
 }
 
 // Adds channels.
 fn put_channels(text: &mut Vec<u8>, channels: &[KeptChannel]) -> Result<(), Memory> {
     let mut later = false;
     for channel in channels {
-        put(text, comma_if(later))?;
-        put(text, b"{")?;
-        put_end(text, channel.name.bytes(), channel.paused)?;
+        put_end(
+            text,
+            channel_front(later),
+            channel.name.bytes(),
+            channel.paused,
+        )?;
         later = true;
     }
     Ok(())
 }
 
-// A comma, where something stands before.
-fn comma_if(later: bool) -> &'static [u8] {
-    if later { b"," } else { b"" }
+// What stands before a channel's name.
+fn channel_front(later: bool) -> &'static [u8] {
+    if later {
+        br#",{"name":""#
+    } else {
+        br#"{"name":""#
+    }
 }
 
-// Adds the end of a topic or a channel: its name, and whether it is paused.
-fn put_end(text: &mut Vec<u8>, name: &[u8], paused: bool) -> Result<(), Memory> {
-    put(text, br#""name":""#)?;
+// Adds the end of a topic or a channel behind its front: its name, and whether it is paused.
+fn put_end(text: &mut Vec<u8>, front: &[u8], name: &[u8], paused: bool) -> Result<(), Memory> {
+    put(text, front)?;
     put(text, name)?;
-    put(text, br#"","paused":"#)?;
-    put(text, flag_text(paused))?;
-    put(text, b"}")
+    put(text, end_text(paused))
 }
 
-// The text of a truth value.
-fn flag_text(flag: bool) -> &'static [u8] {
-    if flag { b"true" } else { b"false" }
+// What stands behind a name.
+fn end_text(paused: bool) -> &'static [u8] {
+    if paused {
+        br#"","paused":true}"#
+    } else {
+        br#"","paused":false}"#
+    }
 }
 
 // Adds a number.

@@ -5,5 +5,5 @@ pub mod Storing
 pub mod Answering
 pub use Rattle.floor_serving.proofs.Leading
 pub use Rattle.floor_serving.proofs.KeptNames
-pub use Rattle.floor_opening.proofs.Parting
-pub use Rattle.floor_opening.proofs.Leaving
+pub use Rattle.floor_files.proofs.Parting
+pub use Rattle.floor_files.proofs.Found

@@ -5,4 +5,4 @@ pub use Rattle.floor_serving.specs.Turns
 pub use Rattle.floor_serving.specs.Scenes
 pub use Rattle.floor_serving.specs.Leads
 pub use Rattle.floor_serving.specs.Flushing
-pub use Rattle.floor_opening.specs.Opened
+pub use Rattle.floor_files.specs.Opened

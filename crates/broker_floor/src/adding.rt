@@ -2,7 +2,7 @@ ghost use Rattle.std.specs.Prelude.{◌≡◌, ◌≤◌, All, IfErr, IsTrue, No
 ghost use Rattle.nsq_base.specs.Name.{is_ephemeral};
 ghost use Rattle.queue_opening.specs.Refusals.{OpenFails};
 ghost use Rattle.floor_rooms.specs.Rooms.{room_in};
-ghost use Rattle.floor_opening.specs.Opened.{AreApart, BadStays, FindsBack, FindsThem, ListsStay, NoneIsBad, OnlyTheirFiles, OnlyTopicFiles, OpensRoom, OpensTo, RefusesTopic};
+ghost use Rattle.floor_files.specs.Opened.{AreApart, BadStays, FindsBack, FindsThem, ListsStay, NoneIsBad, OnlyTheirFiles, OnlyTopicFiles, OpensRoom, OpensTo, RefusesTopic};
 ghost use Rattle.broker_floor.specs.Floors.{faults_of, files_of, flushed_of, hall_of, held_of, kit_of};
 
 use crate::Floor;

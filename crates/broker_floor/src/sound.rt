@@ -13,12 +13,12 @@ ghost use Rattle.floor_rooms.specs.Standing.{HoldsFor};
 ghost use Rattle.floor_serving.specs.Moves.{sight};
 ghost use Rattle.floor_serving.specs.Flushing.{LeavesOthers, LeavesWhere};
 ghost use Rattle.floor_serving.specs.Turning.{TakesTurn};
-ghost use Rattle.floor_opening.specs.Opened.{AreApart, BadStays, FindsBack, FindsThem, ListsStay, NoneIsBad, OnlyTheirFiles, OnlyTopicFiles, OpensRoom, OpensTo, RefusesTopic};
+ghost use Rattle.floor_files.specs.Opened.{AreApart, BadStays, FindsBack, FindsThem, ListsStay, NoneIsBad, OnlyTheirFiles, OnlyTopicFiles, OpensRoom, OpensTo, RefusesTopic};
 
 use backlog::Flushed;
 use broker_history::Entry;
 use desk::{Call, Turned};
-use floor_opening::open_topic;
+use floor_files::open_topic;
 use floor_rooms::Hall;
 use floor_serving::{flush_all, turn_at};
 use nsq_base::{Chan, Steps, Topic};

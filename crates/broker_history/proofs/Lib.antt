@@ -10,3 +10,4 @@ pub mod Timing
 pub mod Starting
 pub mod Counting
 pub mod Scripting
+pub mod Copies

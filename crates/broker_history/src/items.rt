@@ -50,7 +50,7 @@ impl<T: Twin + Drop> Twin for Items<T> {
     fn twin(&self, alloc: Global) -> Result<Items<T>, Memory> {
         let mut items = Vec::with_capacity(alloc, self.items.len())?;
         for item in &self.items {
-            items.push(item.twin(alloc)?)?;
+            items.push_reserved(item.twin(alloc)?);
         }
         Ok(Items { items })
     }

@@ -1,5 +1,5 @@
 -- What a client says of itself, by the value of its JSON.
-use Rattle.std.proofs.Common.{◌≡◌, ℕ, ◌*◌, ◌/◌, ◌==◌, ℤ, pos, negsuc, ◌++◌, decimal, codes, append_assoc, arith, Bool, true, false, if◌then◌else◌, List, Option, Some, None, is_some, option_and_then, refl, sym, ap, ◌∙◌}
+use Rattle.std.proofs.Common.{◌≡◌, ℕ, ◌*◌, ◌/◌, ◌==◌, ℤ, pos, negsuc, ◌++◌, decimal, codes, append_assoc, arith, Bool, true, false, if◌then◌else◌, List, [], Option, Some, None, is_some, option_and_then, refl, sym, ap, ◌∙◌}
 use Rattle.std.specs.Prelude.{IsUtf8}
 use Rattle.std.specs.Fmt.{digits}
 use Rattle.std.specs.Str.{is_utf8}
@@ -28,6 +28,14 @@ identity_is o body d utf8 is = ap (option_and_then (accepted o)) (ap (λ (b : Bo
 
 regroup : (a b c d e f g : List ℕ) → (((((a ++ b) ++ c) ++ d) ++ e) ++ f) ++ g ≡ a ++ (b ++ (c ++ (d ++ (e ++ (f ++ g)))))
 regroup a b c d e f g = rw (append_assoc (((((a ++ b) ++ c) ++ d) ++ e)) f g, append_assoc ((((a ++ b) ++ c) ++ d)) e (f ++ g), append_assoc (((a ++ b) ++ c)) d (e ++ (f ++ g)), append_assoc ((a ++ b)) c (d ++ (e ++ (f ++ g))), append_assoc a b (c ++ (d ++ (e ++ (f ++ g))))) refl
+
+-- the text as it is put together
+pub put_together : (t0 t1 t2 t3 t4 b n1 n2 n3 n4 : List ℕ) (m1 m2 m3 k1 k2 : ℕ) → t0 ≡ [] → m1 ≡ k1 → m2 ≡ k2 → t1 ≡ (t0 ++ n1) ++ decimal m1 → t2 ≡ (t1 ++ n2) ++ decimal m2 → t3 ≡ (t2 ++ n3) ++ decimal m3 → t4 ≡ t3 ++ n4 → b ≡ t4
+    → b ≡ (((((n1 ++ decimal k1) ++ n2) ++ decimal k2) ++ n3) ++ decimal m3) ++ n4
+put_together t0 t1 t2 t3 t4 b n1 n2 n3 n4 m1 m2 m3 k1 k2 e0 f1 f2 e1 e2 e3 e4 is =
+    let one : t1 ≡ n1 ++ decimal k1 = e1 ∙ ap (λ t. (t ++ n1) ++ decimal m1) e0 ∙ ap (λ m. n1 ++ decimal m) f1 in
+    let two : t2 ≡ ((n1 ++ decimal k1) ++ n2) ++ decimal k2 = e2 ∙ ap (λ t. (t ++ n2) ++ decimal m2) one ∙ ap (λ m. ((n1 ++ decimal k1) ++ n2) ++ decimal m) f2 in
+    is ∙ e4 ∙ ap (λ t. t ++ n4) (e3 ∙ ap (λ t. (t ++ n3) ++ decimal m3) two)
 
 -- the text of the answer, written out
 pub features_are : (o : Options) (said : Identity) → features_by o (said.timeout / 1000000) ≡ features_text o said

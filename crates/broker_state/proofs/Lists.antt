@@ -22,3 +22,7 @@ pub find_hit : {X : Type 0} (p : X → Bool) (xs : List X) (i : ℕ) (d x : X) �
 find_hit p xs i d x l e s f =
     ap (find p) (parts_at xs i d l)
     ∙ rw (find-append p (take i xs ++ get_or xs i d ∷ []) (drop (suc i) xs), find-append p (take i xs) (get_or xs i d ∷ []), e, ← s, f) refl
+
+-- a copy of the next element joins the copies of those before it
+pub copied_more : {X : Type 0} (xs : List X) (i : ℕ) (d item copy : X) (old new : List X) → i < length xs → item ≡ get_or xs i d → old ≡ take i xs → copy ≡ item → new ≡ old ++ copy ∷ [] → new ≡ take (i + 1) xs
+copied_more xs i d item copy old new l is e f m = m ∙ ap (λ ys. ys ++ copy ∷ []) e ∙ ap (λ y. take i xs ++ y ∷ []) (f ∙ is) ∙ sym (take_next xs i d l)

@@ -1,9 +1,9 @@
 use crate::credit::{is_beat_due, is_idle, is_lost, is_silent, may_be_sent};
+use crate::may_say;
 use broker_acts::{moved, says_done};
 use broker_changes::topics::{is_topic_at, takes};
 use broker_history::{Act, Ask, Entry, Said};
 use broker_plain::{reply, same_reply};
-use broker_said::may_say;
 use broker_state::{ChannelState, Client, State, TopicState, flying_of, flying_with};
 use nsq_base::{Chan, Memory, MsgId, Names, Topic};
 use nsq_outside::End;

@@ -96,6 +96,10 @@ module _ (now : ℕ) (es : List (Entry Message)) where
 pub waiting_leaves : {e : Entry Message} {old new : List (Entry Message)} → TakesOut e old new → Leaves (waiting_in e) (waiting_of old) (waiting_of new)
 waiting_leaves {old = old} {new = new} t p = omega (arith, count-map p waiting_in old, count-map p waiting_in new, count-out (λ e. p (waiting_in e)) t)
 
+-- the key that a heap tells of its first is live
+pub first_live : {T : Type 0} (es : List (Entry T)) (o : Option (ℕ × Key)) (first : ℕ × Key) → o ≡ option_map told (heap_first es) → o ≡ Some first → entry_of first.1 es ≡ heap_first es → IsSome (entry_of first.1 es)
+first_live es o first is some live = subst IsSome (sym (live ∙ (told_some es o first is some).is)) refl
+
 -- a heap that isn't empty has a first
 pub some_first : (es : List (Entry Message)) (o : Option (ℕ × Key)) → 0 < length (waiting_of es) → o ≡ option_map told (heap_first es) → IsSome o
 some_first [] o n is = absurd (let no : ⊥ = omega (arith, n) in no)

@@ -2,7 +2,7 @@
 use Rattle.std.proofs.Common.{◌≡◌, ◌≢◌, ℕ, ◌+◌, ◌≤◌, ◌<◌, Bool, true, false, cond, nat_eq, if◌then◌else◌, ◌&&◌, ◌⊎◌, List, [], ◌∷◌, ◌++◌, All, Option, Some, None, option_map, option_copied, IsSome, Bor, inl, inr, refl, sym, ap, ◌∙◌, subst, arith}
 use Rattle.std.specs.List.{count_by}
 use Rattle.std.specs.Str.{bytes_eq}
-use Rattle.std.proofs.lemmas.Bool.{true≢false}
+use Rattle.std.proofs.lemmas.Bool.{true≢false, eq-eqb}
 use Rattle.std.proofs.lemmas.Slice.Eq.{bytes_eq-Decides}
 use Rattle.due_heap.specs.declared.key.Key.{Key}
 use Rattle.due_heap.specs.Heap.{Entry, TakesOut, OthersStay, entry_of, has_key}
@@ -164,6 +164,10 @@ counts_more t c d k = omega (arith, c k, d k, count-out (is_with k) t)
 
 pub counts_less : {e : Entry Flight} {old new : List (Entry Flight)} {held : ℕ → ℕ} (held' : ℕ → ℕ) → TakesOut e old new → ((k : ℕ) → held k ≡ count_by (is_with k) old) → ((k : ℕ) → held k ≡ held' k + one (nat_eq e.item.client k)) → (k : ℕ) → held' k ≡ count_by (is_with k) new
 counts_less held' t c d k = omega (arith, c k, d k, count-out (is_with k) t)
+
+-- the client of what goes has one at least
+pub has_one : {e : Entry Flight} {old new : List (Entry Flight)} {held : ℕ → ℕ} → TakesOut e old new → ((k : ℕ) → held k ≡ count_by (is_with k) old) → 1 ≤ held e.item.client
+has_one {e} t c = omega (arith, c e.item.client, count-out (is_with e.item.client) t, ap one (eq-eqb e.item.client e.item.client refl))
 
 pub counts_again : {e e' : Entry Flight} {old mid new : List (Entry Flight)} {held : ℕ → ℕ} → e'.item.client ≡ e.item.client → TakesOut e old mid → TakesOut e' new mid → ((k : ℕ) → held k ≡ count_by (is_with k) old) → (k : ℕ) → held k ≡ count_by (is_with k) new
 counts_again same t t' c k = omega (arith, c k, count-out (is_with k) t, count-out (is_with k) t', ap (λ n. one (nat_eq n k)) same)

@@ -4,3 +4,4 @@ pub mod Flights
 pub mod Index
 pub mod Putting
 pub mod Tally
+pub mod Storing

@@ -1,5 +1,5 @@
 -- What every channel keeps, through a call.
-use Rattle.std.proofs.Common.{◌≡◌, ◌≢◌, ℕ, ◌+◌, ◌*◌, ◌≤◌, Bool, true, false, not, List, length, Option, Some, None, refl, sym, ap, ◌∙◌, subst, arith}
+use Rattle.std.proofs.Common.{◌≡◌, ◌≢◌, ℕ, ◌+◌, ◌*◌, ◌≤◌, Bool, true, false, not, List, length, Option, Some, None, Result, Ok, Err, OnOk, refl, sym, ap, ◌∙◌, subst, arith}
 use Rattle.std.specs.Prelude.{is_some, IsSome, IfSome}
 use Rattle.nsq_outside.specs.Files.{Files}
 use Rattle.v2_frame.specs.declared.message.Message.{Message}
@@ -8,10 +8,11 @@ use Rattle.backlog.specs.Seen.{Seen as Backlog, FitsLimit, SameQueue, undone}
 use Rattle.backlog.specs.declared.backlog.Lent.TheVariants as lending
 use Rattle.backlog.specs.declared.answers.PutOne.{PutOne}
 use Rattle.broker_history.specs.State.{is_ephemeral_channel}
-use Rattle.channel_copies.specs.Flights.{Flying, flights_of_id}
-use Rattle.channel_copies.specs.Deferred.{Deferring}
+use Rattle.channel_copies.specs.declared.flight.Flight.{Flight}
+use Rattle.channel_copies.specs.Flights.{CostsCalls, Flying, flights_of_id}
+use Rattle.channel_copies.specs.Deferred.{Deferring, Waiting}
 use Rattle.channel_copies.specs.Putting.{Around, KeepsDisk, Puts, around}
-use Rattle.channel_storing.proofs.Capacity.{put_capacity}
+use Rattle.channel_copies.proofs.Capacity.{put_capacity}
 use Rattle.channel_core.specs.declared.about.About.{About}
 use Rattle.channel_core.specs.declared.drawn.Sending.{Sending}
 use Rattle.channel_core.specs.declared.drawn.Drawn.{Drawn}
@@ -102,6 +103,10 @@ costs_flying calls before now is c = subst (λ (u : Seen). CostsFlying calls u b
 pub costs_deferred : (calls before now : ℕ) {v0 v : Seen} → v0 ≡ v → CostsDeferred calls v0 before now → CostsDeferred calls v before now
 costs_deferred calls before now is c = subst (λ (u : Seen). CostsDeferred calls u before now) is c
 
+-- no call
+pub costs_none : (calls items before : ℕ) → CostsCalls calls items before before
+costs_none calls items before = λ d few. omega arith
+
 -- of both heaps, one after the other
 one_more : (before mid now x y : ℕ) → mid ≤ before + x → now ≤ mid + y → now ≤ before + (x + y)
 one_more before mid now x y a b = omega (arith, a, b)
@@ -126,3 +131,26 @@ keeps_of {tells} files faults b is k = subst (λ (u : Seen). KeepsDisk tells (ar
 -- what changed, where of the backlog only the queue did
 pub queue_rest : (v0 v w : Seen) → v0 ≡ v → w.backlog ≡ record v0.backlog { queue = w.backlog.queue } → w ≡ record v0 { backlog = w.backlog } → w ≡ record v { backlog = record v.backlog { queue = w.backlog.queue } }
 queue_rest v0 v w is queue rest = rest ∙ (ap (λ (b : Backlog). record v0 { backlog = b }) queue ∙ ap (λ (u : Seen). record u { backlog = record u.backlog { queue = w.backlog.queue } }) is)
+
+-- what a call changes that makes room for deferred copies and finds no memory
+pub had_none : {v0 v : Seen} → v0 ≡ v → (waiting : List Waiting) (spare : ℕ) → waiting ≡ v0.deferred → record v0 { deferred = waiting; deferred_spare = spare } ≡ record v { deferred_spare = spare }
+had_none {v0} {v} is waiting spare same = ap (λ ws. record v0 { deferred = ws; deferred_spare = spare }) same ∙ ap (λ (u : Seen). record u { deferred_spare = spare }) is
+
+-- and one that makes room for a copy in flight too
+pub room_rest : (v r : Seen) → r ≡ record v { spare = r.spare; deferred_spare = r.deferred_spare } → r ≡ record v { backlog = r.backlog; drawn = r.drawn; spare = r.spare; deferred_spare = r.deferred_spare }
+room_rest v r is =
+    is
+    ∙ (ap (λ b. record v { backlog = b; spare = r.spare; deferred_spare = r.deferred_spare }) (sym (ap (λ (u : Seen). u.backlog) is))
+    ∙ ap (λ d. record v { backlog = r.backlog; drawn = d; spare = r.spare; deferred_spare = r.deferred_spare }) (sym (ap (λ (u : Seen). u.drawn) is)))
+
+-- what making room for copies in flight and for deferred ones changes
+pub had_room : {v0 v : Seen} → v0 ≡ v → (flights : List Flight) (waiting : List Waiting) (spare deferred_spare : ℕ) → flights ≡ v0.flights → waiting ≡ v0.deferred
+    → record v0 { flights = flights; deferred = waiting; spare = spare; deferred_spare = deferred_spare } ≡ record v { spare = spare; deferred_spare = deferred_spare }
+had_room {v0} {v} is flights waiting spare deferred_spare fly wait =
+    ap (λ fs. record v0 { flights = fs; deferred = waiting; spare = spare; deferred_spare = deferred_spare }) fly
+    ∙ (ap (λ ws. record v0 { deferred = ws; spare = spare; deferred_spare = deferred_spare }) wait ∙ ap (λ (u : Seen). record u { spare = spare; deferred_spare = deferred_spare }) is)
+
+-- what follows from what a call does where it succeeds
+pub when_ok : {T E P Q : Type 0} (r : Result T E) → (P → Q) → OnOk r P → OnOk r Q
+when_ok (Ok x) f h = f h
+when_ok (Err e) f h = tt

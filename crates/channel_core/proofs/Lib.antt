@@ -5,6 +5,7 @@ pub mod Dues
 pub mod Joining
 pub mod Keeping
 pub mod Looking
+pub mod Making
 pub mod Moving
 pub mod Rows
 pub mod Storing

@@ -1,5 +1,5 @@
 -- What joins a channel, and what a flush leaves, as rows.
-use Rattle.std.proofs.Common.{◌≡◌, ◌≢◌, ◌⊎◌, inl, inr, ℕ, ◌+◌, ◌-◌, Bool, true, false, ◌&&◌, ◌==◌, if◌then◌else◌, IsTrue, List, [], ◌∷◌, ◌++◌, map, filter, length, Option, Some, None, refl, sym, ap, ◌∙◌, subst, arith}
+use Rattle.std.proofs.Common.{◌≡◌, ◌≢◌, ◌⊎◌, inl, inr, ℕ, zero, suc, ◌+◌, ◌-◌, ◌<◌, ◌≤◌, Bool, true, false, ◌&&◌, ◌==◌, if◌then◌else◌, IsTrue, List, [], ◌∷◌, ◌++◌, map, filter, length, Option, Some, None, refl, sym, ap, ◌∙◌, subst, arith}
 use Rattle.std.specs.List.{count_by}
 use Rattle.std.specs.Prelude.{IsSome, IfSome}
 use Rattle.std.proofs.lemmas.Bool.{ne_eqb}
@@ -10,6 +10,7 @@ use Rattle.v2_frame.specs.declared.message.Message.{Message}
 use Rattle.queue_image.specs.Finds.{IsFound, Records}
 use Rattle.backlog.specs.Queues.{Seen as Queue}
 use Rattle.backlog.specs.Seen.{Seen as Backlog, FlushSeen, longest_body}
+use Rattle.backlog.specs.Answers.{FlushFails}
 use Rattle.backlog.specs.Lists.{OnDisk, QueueFinds, FlushFinds, disk_flushed, stored}
 use Rattle.backlog.specs.declared.answers.PutOne.{PutOne}
 use Rattle.backlog.specs.declared.answers.PutOne.TheVariants.{Kept, Dropped as WasDropped, Spilled, Fault}
@@ -28,12 +29,12 @@ use Rattle.channel_core.specs.Kept.{IsBacklogOf}
 use Rattle.channel_core.specs.Drawing.{Leads, IsAsBefore}
 use Rattle.channel_core.specs.declared.answers.Offer.{Offer}
 use Rattle.channel_core.specs.declared.answers.Offer.TheVariants.{Done, Fault as CameBack, Memory as WantsMemory}
-use Rattle.channel_core.specs.Storing.{Defers, Offers, Joined, FlushEmpties, FlushLeaves, FlushStores}
-use Rattle.channel_storing.specs.Storing.{Stores, flying_messages, deferred_messages}
+use Rattle.channel_core.specs.Storing.{Defers, OfferBack, OfferFails, Offers, Joined, FlushEmpties, FlushLeaves, FlushStores}
+use Rattle.channel_copies.specs.Storing.{Stores, flying_messages, deferred_messages}
 use Rattle.channel_core.proofs.Copies.{copies-count}
 use Rattle.channel_core.proofs.Joining.{back_place, kept_place, dropped_place, spilled_place, put_in, put_none}
 use Rattle.channel_core.proofs.Moving.{back_is}
-use Rattle.channel_storing.proofs.Wrote.{count-waits, count-stored}
+use Rattle.channel_copies.proofs.Wrote.{count-waits, count-stored, rose_later}
 
 -- the count after a message was put
 abbrev pub count_after : PutOne → ℕ → ℕ
@@ -270,3 +271,23 @@ was_not_emptied {files'} disk {v0} {v} {w} is on ring rest = subst (λ (v : Seen
   row = ap (λ (u : Seen). record (channel_with u (queued_in w disk)) { copies = copies_of (queued_in w disk) u.flights u.deferred }) rest
       ∙ ap (λ (ring : List Message). channel_with v0 (ring ++ disk)) ring;
 })
+
+-- what a deferring that was refused gives back, and why
+pub deferred_back : (now : ℕ) (m : Message) (v w : Seen) (answer : Offer) → Defers now m v w answer → OfferBack m answer
+deferred_back now m v w Done d = tt
+deferred_back now m v w (CameBack back) d = absurd d
+deferred_back now m v w (WantsMemory back) d = d.0
+
+some_delay : (n : ℕ) → n ≢ 0 → 0 < n
+some_delay zero some = absurd (some refl)
+some_delay (suc n) some = omega arith
+
+pub deferred_fails : (before after now : ℕ) (m : Message) (v w : Seen) (answer : Offer) → m.delay ≢ 0 → Defers now m v w answer → OfferFails m.delay before after answer
+deferred_fails before after now m v w Done some d = tt
+deferred_fails before after now m v w (CameBack back) some d = absurd d
+deferred_fails before after now m v w (WantsMemory back) some d = some_delay m.delay some
+
+-- a fault of a flush with a rise, where the count never fell before
+pub flush_fails : (before mid now : ℕ) (answer : Flushed) → before ≤ mid → FlushFails mid now answer → FlushFails before now answer
+flush_fails before mid now FlushDone low fails = tt
+flush_fails before mid now FlushFault low fails = rose_later before mid now low fails

@@ -3,4 +3,5 @@ pub mod Others
 pub mod Exchanges
 pub mod Handing
 pub mod Halting
+pub mod Staying
 pub mod Rounding

@@ -14,8 +14,8 @@ use Rattle.broker_history.specs.Entries.{History, IsCommon, is_tick, own}
 use Rattle.broker_history.specs.Talk.{Allows, IsTalkIn, bytes_of}
 use Rattle.desk.specs.Calls.{IsHere}
 use Rattle.v2_session.specs.Sessions.{IsWarned}
-use Rattle.http_exchange.specs.declared.ended.EndedHttp.{EndedHttp}
-use Rattle.http_exchange.specs.Exchange.{HasCause, IsExchangeIn, IsWarnedHttp}
+use Rattle.http_api.specs.declared.ended.EndedHttp.{EndedHttp}
+use Rattle.http_api.specs.Exchange.{HasCause, IsExchangeIn, IsWarnedHttp}
 
 -- what is seen of a connection: the pieces read, the bytes still to come, whether it ended, the bytes written, and how often a read and a write failed
 pub record Views (K : Type 0) : Type 0 where

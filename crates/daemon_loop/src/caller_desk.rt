@@ -1,3 +1,4 @@
+ghost use Rattle.std.specs.Prelude.{◌<◌, ◌↔◌, IsTrue};
 ghost use Rattle.nsq_outside.specs.Causes.{CountsFault};
 ghost use Rattle.desk.specs.Answers.{stays_for_memory};
 ghost use Rattle.desk.specs.declared.turned.Turned.TheVariants.{Memory};
@@ -39,12 +40,19 @@ impl<'a, T: Turner> Desk for CallerDesk<'a, T> {
     ) };
 
     fn turn<R: Wait>(&mut self, rt: &R, alloc: Global, conn: u64, call: Call) -> Turned {
-        if self.desk.wanted > 0 {
+        if has_wanted(self.desk.wanted) {
             self.desk.wanted = wanted_again(self.desk.wanted, &call);
             return Turned::Memory;
         }
         self.desk.turn(rt, alloc, conn, call)
     }
+}
+
+// Whether memory was wanting for noting that the caller is gone.
+fn has_wanted(wanted: u64) -> bool
+    ensures { IsTrue result ↔ (0 < wanted) }
+{
+    wanted > 0
 }
 
 // The count of goings for which memory was wanting, where it is wanting for this call too.

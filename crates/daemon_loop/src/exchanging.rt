@@ -3,13 +3,12 @@ ghost use Rattle.nsq_base.specs.Options.{IsInRange};
 ghost use Rattle.nsq_outside.specs.Hosts.{IsFresh};
 ghost use Rattle.broker_history.specs.Entries.{own};
 ghost use Rattle.broker_history.specs.Talk.{bytes_of};
-ghost use Rattle.http_exchange.specs.Exchange.{HasCause, IsExchangeIn, IsWarnedHttp};
+ghost use Rattle.http_api.specs.Exchange.{HasCause, IsExchangeIn, IsWarnedHttp};
 ghost use Rattle.daemon_loop.specs.Served.{views, IsServedHttp};
 
 use crate::caller_desk::CallerDesk;
 use desk::{FloorDesk, Turner};
-use http_api::serve_http;
-use http_exchange::EndedHttp;
+use http_api::{EndedHttp, serve_http};
 use nsq_base::Options;
 use nsq_outside::Conn;
 use std::alloc::Global;

@@ -9,7 +9,7 @@ use path_closing::Floor;
 use std::alloc::Global;
 
 /// How a tick was answered.
-#[derive(Clone, Copy, Debug, PartialEq, Eq)]
+#[derive(Clone, Copy)]
 pub(crate) enum Ticked {
     /// It was made.
     Quiet,

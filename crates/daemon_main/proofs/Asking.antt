@@ -14,7 +14,7 @@ use Rattle.drill.specs.Sights.{Both, Sight, sight_of}
 use Rattle.drill.specs.ServeEnd.{ServeEnd}
 use Rattle.drill.specs.ServeEnd.TheVariants as end
 use Rattle.drill.proofs.Asking.{no_caller_then}
-use Rattle.daemon_main.specs.Doing.{Does, DoesNothing, DrillsSo, Obeys, PrintsSo, PrintsTo, ServesSo, part as to_part, whole as to_whole}
+use Rattle.daemon_main.specs.Doing.{CanDo, Does, DoesNothing, DrillsSo, Obeys, PrintsSo, PrintsTo, ServesSo, part as to_part, whole as to_whole}
 use Rattle.daemon_main.specs.Endings.{IsUnserved, TellsLine, line_of, status_of}
 use Rattle.daemon_main.specs.Programs.{IsAsked, IsPlainRun, IsPrinted, PrintsDrill, StaysHome, part, shown, unshown, version_text, wants, whole}
 use Rattle.daemon_main.specs.declared.ending.Ending.{Ending}
@@ -40,6 +40,14 @@ pub record Excludes (words : Words) : Type 0 where
   pub drill_version : (seed count : ℕ) → AsksDrill words seed count → AsksVersion words → ⊥
   pub help_version : AsksHelp words → AsksVersion words → ⊥
 
+-- what is asked for can be done
+pub can_do : (words : Words) (r : Request) → Asks words r → CanDo r
+can_do words (request.Serve o) asks = asks.1
+can_do words (request.Drill seed count) asks = (asks.seed_at_most, asks.count_at_most)
+can_do words (request.Help text) asks = tt
+can_do words (request.Version text) asks = tt
+can_do words request.Unknown asks = tt
+
 not_one : (e : ServeEnd) → serve_status e ≡ 1 → ⊥
 not_one end.Clean s = absurd (omega (arith, s))
 not_one end.BadData s = absurd (omega (arith, s))
@@ -48,6 +56,16 @@ not_one end.OpeningFault s = absurd (omega (arith, s))
 not_one end.StopFault s = absurd (omega (arith, s))
 not_one end.AcceptFailed s = absurd (omega (arith, s))
 not_one end.Memory s = absurd (omega (arith, s))
+
+-- a run that served has status 4 only where the listeners failed
+pub four_failed : (e : ServeEnd) → serve_status e ≡ 4 → e ≡ end.AcceptFailed
+four_failed end.Clean s = absurd (omega (arith, s))
+four_failed end.BadData s = absurd (omega (arith, s))
+four_failed end.EpochSpent s = absurd (omega (arith, s))
+four_failed end.OpeningFault s = absurd (omega (arith, s))
+four_failed end.StopFault s = absurd (omega (arith, s))
+four_failed end.AcceptFailed s = refl
+four_failed end.Memory s = absurd (omega (arith, s))
 
 -- a run that served has a status of 5 at most
 most_five : (e : ServeEnd) → serve_status e ≤ 5

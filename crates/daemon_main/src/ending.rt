@@ -5,7 +5,7 @@ ghost use Rattle.daemon_main.specs.declared.ending.Ending.TheVariants.{Served};
 use drill::ServeEnd;
 
 /// How the program ended.
-#[derive(Clone, Copy, Debug, PartialEq, Eq)]
+#[derive(Clone, Copy)]
 pub enum Ending {
     /// It served.
     Served(ServeEnd),

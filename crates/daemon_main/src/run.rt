@@ -71,28 +71,35 @@ fn obey<R: Wait, H: Host<Entry>>(rt: &R, alloc: Global, words: &[String], host: 
     ensures listeners { IsTrue H.tells → status_of result ≡ 4 → ListenersFailedLast H.state H.content host.old host.new }
 {
     match read_words(alloc, words) {
-        Ok(request) => carry_out(rt, alloc, request, host),
+        Ok(request) => {
+            let ending = carry_out(rt, alloc, &request, host);
+            let_go(request);
+            ending
+        }
         Err(_) => Ending::Memory,
     }
 }
+
+/// Lets go of what was asked for.
+fn let_go(_request: Request) {}
 
 /// Does what is asked for.
 fn carry_out<R: Wait, H: Host<Entry>>(
     rt: &R,
     alloc: Global,
-    request: Request,
+    request: &Request,
     host: &mut H,
 ) -> Ending
     requires home { IsSome (H.state host.old).kit }
-    requires can { CanDo request }
+    requires can { CanDo request.now }
     ensures home { IsSome (H.state host.new).kit }
     ensures does { Does ⟦<H as Watched>⟧.told H.tells H.Folder.tells_files H.Journal.tells_notes ⟦<H as Watched>⟧.seen (H.state host.old) (H.state host.new) (H.content host.old) (H.content host.new)
-        (⟦<H as Watched>⟧.sight host.old) (⟦<H as Watched>⟧.sight host.new) request result }
+        (⟦<H as Watched>⟧.sight host.old) (⟦<H as Watched>⟧.sight host.new) request.now result }
     ensures listeners { IsTrue H.tells → status_of result ≡ 4 → ListenersFailedLast H.state H.content host.old host.new }
 {
     match request {
-        Request::Serve(options) => Ending::Served(serve(rt, alloc, &options, host)),
-        Request::Drill(seed, count) => print_drill(rt, alloc, seed, count, host),
+        Request::Serve(options) => Ending::Served(serve(rt, alloc, options, host)),
+        Request::Drill(seed, count) => print_drill(rt, alloc, *seed, *count, host),
         Request::Help(text) => print(rt, host, text.as_bytes()),
         Request::Version(text) => print(rt, host, text.as_bytes()),
         Request::Unknown => Ending::BadOptions,
@@ -137,8 +144,13 @@ fn drilled_text<R: Wait>(rt: &R, alloc: Global, seed: u64, count: u64) -> Result
     ensures { IfOk result (λ text. ShowsDrill seed count (string_bytes text)) }
 {
     let drilled = drill(rt, alloc, seed, count)?;
-    text_of(alloc, &drilled)
+    let text = text_of(alloc, &drilled);
+    let_end(drilled);
+    text
 }
+
+/// Lets go of a drill that was told.
+fn let_end(_drilled: Drilled) {}
 
 /// The four numbers of a drill, each on a line.
 fn text_of(alloc: Global, drilled: &Drilled) -> Result<String, Memory>

@@ -23,9 +23,9 @@ use Rattle.http_calls.specs.declared.refusal.Refusal.{Refusal}
 use Rattle.http_calls.specs.declared.refusal.Refusal.TheVariants.{NotFound, MethodNotAllowed}
 use Rattle.http_calls.specs.Calls.{asks, call_for, called, is_served, judged}
 use Rattle.http_calls.specs.Routes.{method_of, path_of, route_at, routes}
-use Rattle.http_exchange.specs.declared.ended.EndedHttp.{EndedHttp}
-use Rattle.http_exchange.specs.declared.ended.EndedHttp.TheVariants.{Answered, EndOfInput, Cut, Closed, ReadFault, WriteFault, Memory}
-use Rattle.http_exchange.specs.Exchange.{Answers, Fits, IsAsking, IsExchange, IsListing, is_listed, refused, alone, told, stopping, stopped}
+use Rattle.http_api.specs.declared.ended.EndedHttp.{EndedHttp}
+use Rattle.http_api.specs.declared.ended.EndedHttp.TheVariants.{Answered, EndOfInput, Cut, Closed, ReadFault, WriteFault, Memory}
+use Rattle.http_api.specs.Exchange.{Answers, Fits, IsAsking, IsExchange, IsListing, is_listed, refused, alone, told, stopping, stopped}
 use Rattle.daemon_loop.proofs.Others.{stops-append}
 
 -- ---- which request asks for a Stop

@@ -15,7 +15,10 @@ use Rattle.queue_image.proofs.Naming.{metadata_apart}
 use Rattle.disk_queue.specs.Seen.{opened_queue}
 use Rattle.disk_queue.specs.Holding.{SaveStands}
 use Rattle.disk_queue.specs.Opened.{IsOpened, IsTidied, IsTidiedAt, RefusedWhere, FilesOfChange}
-use Rattle.queue_opening.specs.Tidied.{IsSetAside, OnlyTidied, IsTidy, IsWritten, OnlyWritten}
+use Rattle.queue_opening.specs.Again.{FindsSameList}
+use Rattle.queue_opening.specs.Tidied.{IsSetAside, OnlyTidied, IsTidy, IsPartlyTidy, WrittenWhere, IsWritten, OnlyWritten}
+use Rattle.nsq_outside.specs.declared.did.Did.TheVariants.{Failed}
+use Rattle.queue_opening.proofs.FoundAgain.{found_tidied, found_written}
 use Rattle.queue_opening.specs.Planned.{IsPlan, IsPlanned, FindsBadMeta}
 use Rattle.queue_image.specs.declared.positions.Positions.{Positions}
 use Rattle.queue_opening.specs.QueueOptions.{QueueOptions}
@@ -111,3 +114,53 @@ refused least limit name f0 f1 Memory same f = same
 -- the name and the files as they are
 pub carried : (P : List ℕ → Files → Type 0) (a b : List ℕ) (f g : Files) → a ≡ b → f ≡ g → P a f → P b g
 carried P a b f g e h x = subst (λ (files : Files). P b files) h (subst (λ (n : List ℕ). P n f) e x)
+
+-- an opening that was carried out, under the names and over the files that its parts were told
+pub record IsDone (options : QueueOptions) (name : List ℕ) (plan : Plan) (f0 f5 : Files) : Type 0 where
+  pub list : IsOpened (opened_queue name options plan.depth plan.positions) f0 f5
+  pub stands : SaveStands (opened_queue name options plan.depth plan.positions) f5
+  pub tidied : IsTidied (opened_queue name options plan.depth plan.positions) f0 f5
+  pub others : FilesOfChange name f0 f5
+
+pub done : (options : QueueOptions) (name a b : List ℕ) (plan : Plan) (f0 f1 f4 f5 : Files) → options.limit < 2 ^ 32 → a ≡ name → b ≡ a → SameFiles f0 f1 → IsPlan plan → IsPlanned options.least options.limit f0 name plan
+    → IsTidy a plan f1 f4 → OnlyTidied a plan f1 f4 → IsWritten b plan f5 → OnlyWritten b plan f4 f5 → IsDone options name plan f0 f5
+done options name a b plan f0 f1 f4 f5 small named named' same i pl t ot w ow =
+    let as_before : f1 ≡ f0 = same_files f0 f1 same in
+    let tidy : IsTidy name plan f0 f4 = carried (λ n f. IsTidy n plan f f4) a name f1 f0 named as_before t in
+    let only : OnlyTidied name plan f0 f4 = carried (λ n f. OnlyTidied n plan f f4) a name f1 f0 named as_before ot in
+    let written : IsWritten name plan f5 = subst (λ (n : List ℕ). IsWritten n plan f5) (named' ∙ named) w in
+    let changes : OnlyWritten name plan f4 f5 = subst (λ (n : List ℕ). OnlyWritten n plan f4 f5) (named' ∙ named) ow in
+    record {
+      list = opened_list options name plan f0 f4 f5 small i pl tidy only written changes;
+      stands = opened_stands options name plan f0 f4 f5 small i pl tidy only written changes;
+      tidied = opened_tidied options name plan f0 f4 f5 small i pl tidy only written changes;
+      others = λ file other. written_own name plan f4 f5 i changes file other ∙ tidied_own name plan f0 f4 i only file other;
+    }
+
+-- and one that failed on its way
+pub record IsUndone (options : QueueOptions) (name : List ℕ) (f0 f5 : Files) : Type 0 where
+  pub refused : FindsSameList options.least options.limit name f0 f5
+  pub others : FilesOfChange name f0 f5
+
+pub untidied : (options : QueueOptions) (name a : List ℕ) (plan : Plan) (f0 f1 f4 : Files) → options.limit < 2 ^ 32 → a ≡ name → SameFiles f0 f1 → IsPlan plan → IsPlanned options.least options.limit f0 name plan
+    → IsPartlyTidy a plan f1 f4 → OnlyTidied a plan f1 f4 → IsUndone options name f0 f4
+untidied options name a plan f0 f1 f4 small named same i pl t ot =
+    let as_before : f1 ≡ f0 = same_files f0 f1 same in
+    let only : OnlyTidied name plan f0 f4 = carried (λ n f. OnlyTidied n plan f f4) a name f1 f0 named as_before ot in
+    record {
+      refused = found_tidied options name plan f0 f4 small i pl (carried (λ n f. IsPartlyTidy n plan f f4) a name f1 f0 named as_before t) only;
+      others = tidied_own name plan f0 f4 i only;
+    }
+
+pub unwritten : (options : QueueOptions) (name a b : List ℕ) (plan : Plan) (f0 f1 f4 f5 : Files) → options.limit < 2 ^ 32 → a ≡ name → b ≡ a → SameFiles f0 f1 → IsPlan plan → IsPlanned options.least options.limit f0 name plan
+    → IsTidy a plan f1 f4 → IsPartlyTidy a plan f1 f4 → OnlyTidied a plan f1 f4 → WrittenWhere b plan f4 f5 Failed → OnlyWritten b plan f4 f5 → IsUndone options name f0 f5
+unwritten options name a b plan f0 f1 f4 f5 small named named' same i pl t p ot w ow =
+    let as_before : f1 ≡ f0 = same_files f0 f1 same in
+    let only : OnlyTidied name plan f0 f4 = carried (λ n f. OnlyTidied n plan f f4) a name f1 f0 named as_before ot in
+    let changes : OnlyWritten name plan f4 f5 = subst (λ (n : List ℕ). OnlyWritten n plan f4 f5) (named' ∙ named) ow in
+    record {
+      refused =
+          found_written options name plan f0 f4 f5 small i pl (carried (λ n f. IsTidy n plan f f4) a name f1 f0 named as_before t) (carried (λ n f. IsPartlyTidy n plan f f4) a name f1 f0 named as_before p) only
+          (subst (λ (n : List ℕ). WrittenWhere n plan f4 f5 Failed) (named' ∙ named) w) changes;
+      others = λ file other. written_own name plan f4 f5 i changes file other ∙ tidied_own name plan f0 f4 i only file other;
+    }

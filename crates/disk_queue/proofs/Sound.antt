@@ -1,10 +1,75 @@
 -- What every queue keeps when reading moves.
-use Rattle.std.proofs.Common.{◌≡◌, ◌∙◌, ℕ, ◌+◌, ◌<◌, List, Option, None, IfSome, sym, ap, subst, inl, inr, arith}
+use Rattle.std.proofs.Common.{◌≡◌, ◌∙◌, ℕ, ◌+◌, ◌^◌, ◌<◌, ◌≤◌, ◌⊎◌, List, Option, Some, None, IfSome, refl, sym, ap, subst, inl, inr, arith}
 use Rattle.std.proofs.lemmas.Bool.{cases_lt}
 use Rattle.queue_image.specs.Places.{IsOrdered}
 use Rattle.queue_image.specs.declared.positions.Positions.{Positions}
-use Rattle.disk_queue.specs.Seen.{Seen, next_file}
+use Rattle.disk_queue.specs.Seen.{Seen, next_file, behind, passed_over}
 use Rattle.disk_queue.specs.Parts.{IsSound, IsAhead}
+use Rattle.disk_queue.specs.Peeking.{PeekMakes, HeadFails}
+use Rattle.disk_queue.specs.declared.queue.reading.Head.{Head}
+use Rattle.disk_queue.specs.declared.queue.reading.Head.TheVariants.{Size, Short, Fault as HeadFault}
+use Rattle.disk_queue.specs.declared.answers.Peek.{Peek}
+use Rattle.disk_queue.specs.declared.answers.Peek.TheVariants.{Damaged}
+
+-- the files came back from a call as they were
+pub named_as : (q r : Seen) (name : List ℕ) → name ≡ q.name → q ≡ r → record q { name = name } ≡ r
+named_as q r name same e = ap (λ (n : List ℕ). record q { name = n }) same ∙ e
+
+pub sound_named : (q : Seen) (name : List ℕ) → IsSound q → IsSound (record q { name = name })
+sound_named q name i = record {
+  ordered = i.ordered;
+  range = i.range;
+  ahead = i.ahead;
+  staged_file = i.staged_file;
+  staged_at = i.staged_at;
+  records = i.records;
+  more = i.more;
+  saved_range = i.saved_range;
+  saved_read = i.saved_read;
+  making = i.making;
+  marked = i.marked;
+  limit = i.limit;
+}
+
+-- a record that was read is marked
+pub sound_marked : (q r : Seen) (name : List ℕ) (size n : ℕ) → q ≡ r → IsOrdered (behind r.positions size) → r.positions.read_at + 4 ≤ 2 ^ 62
+    → (n ≡ 0) ⊎ (q.positions.read_at + 4 + n ≤ 2 ^ 62) → size ≤ n → IsSound q → IsSound (record q { name = name; mark = Some size })
+sound_marked q r name size n e order place within all i =
+    let start : q.positions.read_at + 4 ≤ 2 ^ 62 = subst (λ (x : Seen). x.positions.read_at + 4 ≤ 2 ^ 62) (sym e) place in
+    record {
+      ordered = i.ordered;
+      range = i.range;
+      ahead = i.ahead;
+      staged_file = i.staged_file;
+      staged_at = i.staged_at;
+      records = i.records;
+      more = i.more;
+      saved_range = i.saved_range;
+      saved_read = i.saved_read;
+      making = i.making;
+      marked = record {
+        order = subst (λ (x : Seen). IsOrdered (behind x.positions size)) (sym e) order;
+        range = elim within [ inl none ↦ omega (arith, none, all, start) | inr some ↦ omega (arith, some, all) ];
+      };
+      limit = i.limit;
+    }
+
+-- a file was passed over
+pub passed_makes : (q p r : Seen) (answer : Peek) (size : ℕ) → p ≡ q → r ≡ passed_over p → answer ≡ Damaged p.positions.read_file p.positions.read_at size → PeekMakes q r answer
+passed_makes q p r answer size e d is =
+    subst (λ (x : Seen). PeekMakes x r answer) e (subst (λ (a : Peek). PeekMakes p r a) (sym is) (d, refl, refl))
+
+-- four bytes that were read end in range
+pub ends_within : (q r : Seen) (n : ℕ) → q ≡ r → n ≡ 4 → (n ≡ 0) ⊎ (q.positions.read_at + n ≤ 2 ^ 62) → r.positions.read_at + 4 ≤ 2 ^ 62
+ends_within q r n e four within =
+    subst (λ (x : Seen). x.positions.read_at + 4 ≤ 2 ^ 62) e (elim within [ inl none ↦ absurd (omega (arith, none, four)) | inr fits ↦ omega (arith, fits, four) ])
+
+-- a fault in a later part is one in the call
+pub head_later : (before mid now : ℕ) (head : Option Head) → before ≤ mid → IfSome head (HeadFails mid now) → IfSome head (HeadFails before now)
+head_later before mid now None low fails = tt
+head_later before mid now (Some (Size size)) low fails = tt
+head_later before mid now (Some Short) low fails = tt
+head_later before mid now (Some HeadFault) low fails = omega (arith, low, fails)
 
 -- the next file is not above the write file
 next_in_order : (p : Positions) → p.read_file < p.write_file → IsOrdered (next_file p)

@@ -1,4 +1,4 @@
-ghost use Rattle.std.specs.Prelude.{◌≡◌, ◌*◌, ◌<◌, IfOk, OnOk, ◌++◌, flat_map, length, map};
+ghost use Rattle.std.specs.Prelude.{◌≡◌, ◌*◌, ◌<◌, ℕ, List, [], ◌∷◌, IfOk, OnOk, ◌++◌, flat_map, length, map};
 ghost use Rattle.nsq_fakes.specs.declared.script.Piece.TheVariants.{Bytes};
 ghost use Rattle.drill.specs.Callers.{consumer, digit, fin, fin_piece, greeting, publish_piece, publisher, those_to};
 
@@ -15,11 +15,21 @@ pub fn publisher(alloc: Global, publishes: &[Publish]) -> Result<Vec<Piece>, Mem
     ensures { IfOk result (λ pieces. pieces.items ≡ map Bytes (publisher publishes.now)) }
 {
     let mut pieces = Vec::new(alloc);
-    pieces.push(Piece::Bytes(Body::copy(alloc, b"  V2")?))?;
+    add_piece(&mut pieces, Body::copy(alloc, b"  V2"))?;
     for publish in publishes {
-        pieces.push(Piece::Bytes(publish_piece(alloc, publish)?))?;
+        add_piece(&mut pieces, publish_piece(alloc, publish))?;
     }
     Ok(pieces)
+}
+
+// Appends a piece with these bytes, where they could be made.
+fn add_piece(pieces: &mut Vec<Piece>, bytes: Result<Body, Memory>) -> Result<(), Memory>
+    ensures { (piece : List ℕ) → IfOk bytes (λ b. b ≡ piece) → OnOk result (pieces.new.items ≡ pieces.old.items ++ Bytes piece ∷ []) }
+{
+    let bytes = bytes?;
+    pieces.reserve(1)?;
+    pieces.push_reserved(Piece::Bytes(bytes));
+    Ok(())
 }
 
 // A PUB with a body of as many bytes `a` as the publish has.
@@ -57,11 +67,11 @@ pub fn consumer(alloc: Global, publishes: &[Publish], topic: u8) -> Result<Vec<P
 {
     let those = those_to(alloc, publishes, topic)?;
     let mut pieces = Vec::new(alloc);
-    pieces.push(Piece::Bytes(greeting(alloc, topic)?))?;
+    add_piece(&mut pieces, greeting(alloc, topic))?;
     let count = those.len().div_ceil(FINS);
     let mut k = 0;
     while k < count {
-        pieces.push(Piece::Bytes(fin_piece(alloc, &those, k)?))?;
+        add_piece(&mut pieces, fin_piece(alloc, &those, k))?;
         k += 1;
     }
     Ok(pieces)

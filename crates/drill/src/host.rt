@@ -36,8 +36,8 @@ pub fn host_of(alloc: Global, publishes: &[Publish]) -> Result<MemHost<Entry>, M
 fn new_kit(alloc: Global) -> Result<Kit<MemFolder, MemClock, MemJournal<Entry>>, Memory>
     ensures { IfOk result IsNewKit }
 {
-    let folder = MemFolder::new(alloc, Vec::new(alloc), Vec::new(alloc))?;
     let clock = MemClock::new(alloc, Vec::new(alloc))?;
+    let folder = MemFolder::new(alloc, Vec::new(alloc), Vec::new(alloc))?;
     Ok(Kit {
         folder,
         clock,
@@ -66,8 +66,9 @@ fn add_publisher(
 ) -> Result<(), Memory>
     ensures { OnOk result (AddsSender (publisher publishes.now) callers.old.items callers.new.items) }
 {
+    callers.reserve(1)?;
     let pieces = publisher(alloc, publishes)?;
-    callers.push(caller_of(alloc, pieces)?)?;
+    callers.push_reserved(caller_of(alloc, pieces)?);
     Ok(())
 }
 
@@ -80,8 +81,9 @@ fn add_consumer(
 ) -> Result<(), Memory>
     ensures { OnOk result (AddsSender (consumer publishes.now topic) callers.old.items callers.new.items) }
 {
+    callers.reserve(1)?;
     let pieces = consumer(alloc, publishes, topic)?;
-    callers.push(caller_of(alloc, pieces)?)?;
+    callers.push_reserved(caller_of(alloc, pieces)?);
     Ok(())
 }
 

@@ -4,8 +4,7 @@ ghost use Rattle.queue_image.specs.Between.{content};
 ghost use Rattle.queue_image.specs.Places.{IsInRange, IsOrdered};
 ghost use Rattle.drill.specs.Left.{CountsAll, CountsChannels, CountsQueue, CountsTopic, CountsTopics, FindsNoNames, FindsNoTopic, FindsNoTopics, FindsNoneOf, GivesSo, HasNoList, WalksOver};
 
-use names_file::{KeptChannel, KeptTopic};
-use names_reading::{Unread, read_names};
+use names_file::{KeptChannel, KeptTopic, Unread, read_names};
 use nsq_base::{Memory, Topic};
 use nsq_fakes::MemFolder;
 use queue_image::file_names::{channel_queue, data_file, meta_file};

@@ -3,7 +3,8 @@ ghost use Rattle.std.specs.Prelude.{◌≡◌, ◌≤◌, ◌^◌, ◌↔◌, If
 ghost use Rattle.nsq_fakes.specs.MemHosts.{content_of, state_of};
 ghost use Rattle.daemon_run.specs.declared.ending.ServeEnd.TheVariants.{Clean};
 ghost use Rattle.drill.specs.Drills.{HasCounted, HasDrilled, HasNames, HasRunDrill, NeverFailed};
-ghost use Rattle.nsq_fakes.specs.MemFolders.{faults_of};
+ghost use Rattle.drill.specs.Left.{CountsAll};
+ghost use Rattle.nsq_fakes.specs.MemFolders.{faults_of, files_in};
 
 use crate::counting::{finished_in, published_in, sent_in};
 use crate::draws::{Publish, draw};
@@ -53,12 +54,17 @@ fn run<R: Wait>(rt: &R, alloc: Global, publishes: &[Publish]) -> Result<MemHost<
     let options = drill_options(alloc)?;
     let mut host = host_of(alloc, publishes)?;
     let ended = serve(rt, alloc, &options, &mut host);
+    drop(options);
     if is_clean(ended) && has_no_fault(&host) {
         Ok(host)
     } else {
+        let_go(host);
         Err(Memory)
     }
 }
+
+// Lets go of a host for whose run memory was wanting.
+fn let_go(_host: MemHost<Entry>) {}
 
 // Whether a run ended cleanly.
 fn is_clean(ended: ServeEnd) -> bool
@@ -110,6 +116,37 @@ fn conclude(alloc: Global, host: MemHost<Entry>) -> Result<Drilled, Memory>
     ensures host { IfOk result (λ drilled. drilled.host ≡ host) }
     ensures counts { IfOk result (λ drilled. IfSome (state_of host).kit (λ kit. HasCounted kit drilled)) }
 {
+    match left_of(alloc, &host) {
+        Ok(left) => Ok(counted(host, left)),
+        Err(_) => {
+            let_go(host);
+            Err(Memory)
+        }
+    }
+}
+
+// How many messages an opening of a host's folder finds.
+fn left_of(alloc: Global, host: &MemHost<Entry>) -> Result<u64, Memory>
+    requires home { IsSome (state_of host.now).kit }
+    requires names { IfSome (state_of host.now).kit HasNames }
+    ensures { IfOk result (λ left. IfSome (state_of host.now).kit (λ kit. CountsAll (files_in kit.folder) left)) }
+{
+    let Some(kit) = host.kit() else {
+        unreachable!()
+    };
+    let Some(left) = left_in(alloc, &kit.folder)? else {
+        unreachable!()
+    };
+    Ok(left)
+}
+
+// What a run left, where an opening of its folder finds so many messages.
+fn counted(host: MemHost<Entry>, left: u64) -> Drilled
+    requires home { IsSome (state_of host).kit }
+    requires left { IfSome (state_of host).kit (λ kit. CountsAll (files_in kit.folder) left) }
+    ensures host { result.host ≡ host }
+    ensures counts { IfSome (state_of host).kit (λ kit. HasCounted kit result) }
+{
     let Some(kit) = host.kit() else {
         unreachable!()
     };
@@ -117,14 +154,11 @@ fn conclude(alloc: Global, host: MemHost<Entry>) -> Result<Drilled, Memory>
     let published = published_in(entries);
     let sent = sent_in(entries);
     let finished = finished_in(entries);
-    let Some(left) = left_in(alloc, &kit.folder)? else {
-        unreachable!()
-    };
-    Ok(Drilled {
+    Drilled {
         host,
         published,
         sent,
         finished,
         left,
-    })
+    }
 }

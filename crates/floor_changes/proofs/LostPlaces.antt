@@ -1,6 +1,6 @@
 -- Places of a hall from which a channel is taken out.
 use Rattle.std.proofs.Common.{◌≡◌, inl, ◌≤◌, ◌<◌, ℕ, suc, set, Bool, true, false, not, nat_eq, if◌then◌else◌, List, [], ◌∷◌, ◌++◌, map, length, take, drop, get_or, Option, Some, None, refl, sym, ap, subst, ◌∙◌, append_assoc, arith}
-use Rattle.std.specs.Prelude.{HoldsAt, IfSome, IsSome, IsTrue, is_some, option_and_then}
+use Rattle.std.specs.Prelude.{◌↔◌, HoldsAt, IfSome, IsSome, IsTrue, is_some, option_and_then}
 use Rattle.std.specs.List.{All, find, list_any, slice_get}
 use Rattle.std.specs.Option.{option_or}
 use Rattle.std.specs.Str.{bytes_eq}
@@ -39,6 +39,7 @@ use Rattle.floor_rooms.specs.Changes.{AtRoom, AtStall, KeepsRooms, OnlyQueueFile
 use Rattle.floor_rooms.proofs.Staying.{others_stay}
 use Rattle.floor_rooms.proofs.Sounding.{KeepsRest, at_all, members_before, members_stay, sound_at_stall, stall_before, stall_past, stall_touched}
 use Rattle.floor_rooms.proofs.Marked.{IsElse, MarksStall, else_stays}
+use Rattle.floor_rooms.proofs.Placing.{at_place}
 use Rattle.floor_rooms.proofs.Dating.{AreAmong, keeps_at_stall, keeps_marks_stall, keeps_then, pairs_one, since_equal}
 use Rattle.floor_rooms.proofs.Filing.{only_of_channel}
 use Rattle.floor_rooms.proofs.Orders.{stall_as_before}
@@ -62,6 +63,20 @@ held_stall P i j Does old new a p =
     let room : get_or old i d ≡ a.room = get_or_from_slice_get old i a.room d a.there in
     let stall : get_or a.room.stalls.items j e ≡ a.does.stall = get_or_from_slice_get a.room.stalls.items j a.does.stall e a.does.there in
     subst (λ (r : Room). P (topic_name r) (channel_name (get_or r.stalls.items j e))) (sym room) (subst (λ (s : Stall). P (topic_name a.room) (channel_name s)) (sym stall) p)
+
+-- and so is what is said of those that were read there
+pub told_at : (P : (topic channel : List ℕ) → Type 0) (rooms : List Room) (i j : ℕ) (room : Room) → i < length rooms → room ≡ get_or rooms i room → HoldsAt (λ (s : Stall). P (topic_name room) (channel_name s)) room.stalls.items j
+    → HoldsAt (λ (r : Room). HoldsAt (λ (s : Stall). P (topic_name r) (channel_name s)) r.stalls.items j) rooms i
+told_at P rooms i j room within read told = λ d e. subst (λ (r : Room). P (topic_name r) (channel_name (get_or r.stalls.items j e))) (sym (get_or_from_slice_get rooms i room d (at_place rooms i room within read))) (told e)
+
+pub told_of : (P : (topic : List ℕ) → Type 0) (rooms : List Room) (i : ℕ) (room : Room) → i < length rooms → room ≡ get_or rooms i room → P (topic_name room) → HoldsAt (λ (r : Room). P (topic_name r)) rooms i
+told_of P rooms i room within read told = λ d. subst (λ (r : Room). P (topic_name r)) (sym (get_or_from_slice_get rooms i room d (at_place rooms i room within read))) told
+
+-- two flags of which each holds where the other does
+pub same_truth : (a b : Bool) → IsTrue a ↔ IsTrue b → a ≡ b
+same_truth true b h = sym (h.0 refl)
+same_truth false true h = h.1 refl
+same_truth false false h = refl
 
 -- and what is said at the places is said of what stands there
 pub of_stall : (Q : Room → Stall → Type 0) (rooms : List Room) (i j : ℕ) (room : Room) (stall : Stall) → HoldsAt (λ (r : Room). HoldsAt (λ (s : Stall). Q r s) r.stalls.items j) rooms i → slice_get rooms i ≡ Some room → slice_get room.stalls.items j ≡ Some stall → Q room stall

@@ -188,9 +188,9 @@ impl Client {
     {
         self.heartbeat = heartbeat;
         self.timeout = timeout;
-        self.client_id = client_id;
-        self.hostname = hostname;
-        self.user_agent = user_agent;
+        put_text(&mut self.client_id, client_id);
+        put_text(&mut self.hostname, hostname);
+        put_text(&mut self.user_agent, user_agent);
         self.beat_from = at;
     }
 
@@ -272,6 +272,13 @@ impl Client {
             user_agent: Body::copy(alloc, self.user_agent.bytes())?,
         })
     }
+}
+
+// Puts a text in the place of another one.
+fn put_text(text: &mut Body, by: Body)
+    ensures { text.new ≡ by }
+{
+    *text = by;
 }
 
 // Whether a span passed since a moment.

@@ -1,7 +1,8 @@
-ghost use Rattle.std.specs.Prelude.{◌≡◌, ◌≤◌, if◌then◌else◌, false, length, IfOk};
+ghost use Rattle.std.specs.Prelude.{◌≡◌, ◌≤◌, if◌then◌else◌, false, length, IfOk, Some, None};
+ghost use Rattle.std.specs.Result.{result_map_both};
 ghost use Rattle.broker_history.specs.State.{is_fresh};
 ghost use Rattle.broker_history.specs.Identify.{identity_of};
-ghost use Rattle.broker_history.specs.Reply.{disk_reply, flight_reply, identified, wrong_state};
+ghost use Rattle.broker_history.specs.Reply.{disk_fault, disk_reply, flight_reply, identified, wrong_state};
 ghost use Rattle.broker_history.specs.Step.{is_error};
 ghost use Rattle.floor_rooms.specs.Sound.{IsSound};
 ghost use Rattle.floor_replies.specs.Replies.{IsShort, KnowsOf, RepliesTo, SaysOf, flies_in, reply_in};
@@ -54,17 +55,15 @@ fn answer(hall: &Hall, alloc: Global, client: &Client, command: &Command) -> Res
     let used = hall.ids_used;
     match command {
         Command::Identify(body) => introduce(alloc, &hall.options, client, body.bytes()),
-        Command::Sub(_, _) => Ok(plain(Some(subscribe_reply(alloc, client)?))),
-        Command::Pub(_, _) => Ok(plain(Some(publish_reply(alloc, used, b"E_PUB_FAILED", 1)?))),
-        Command::Mpub(_, bodies) => Ok(plain(Some(batch_reply(alloc, used, bodies)?))),
-        Command::Dpub(_, delay, _) => {
-            Ok(plain(Some(delayed_reply(alloc, &hall.options, used, *delay)?)))
-        }
-        Command::Rdy(count) => Ok(plain(ready_reply(alloc, &hall.options, client, *count)?)),
+        Command::Sub(_, _) => certain(subscribe_reply(alloc, client)),
+        Command::Pub(_, _) => certain(publish_reply(alloc, used, b"E_PUB_FAILED", 1)),
+        Command::Mpub(_, bodies) => certain(batch_reply(alloc, used, bodies)),
+        Command::Dpub(_, delay, _) => certain(delayed_reply(alloc, &hall.options, used, *delay)),
+        Command::Rdy(count) => perhaps(ready_reply(alloc, &hall.options, client, *count)),
         Command::Fin(id) => message_reply(hall, alloc, client, b"E_FIN_FAILED", *id),
         Command::Req(id, _) => message_reply(hall, alloc, client, b"E_REQ_FAILED", *id),
         Command::Touch(id) => message_reply(hall, alloc, client, b"E_TOUCH_FAILED", *id),
-        Command::Cls => Ok(plain(Some(close_reply(alloc, client)?))),
+        Command::Cls => certain(close_reply(alloc, client)),
         Command::Nop => Ok(plain(None)),
     }
 }
@@ -84,7 +83,7 @@ fn message_reply(
     ensures short { IfOk result (λ r. IsShort r.reply) }
 {
     let flies = flies(hall, client, id);
-    Ok(plain(flight_reply(alloc, client, word, flies)?))
+    perhaps(flight_reply(alloc, client, word, flies))
 }
 
 /// The reply to a command that a disk fault kept from being carried out; None for those that never write to disk. Want of memory is the only
@@ -94,10 +93,10 @@ pub fn disk_reply(alloc: Global, command: &Command) -> Result<Option<Frame>, Mem
     ensures short { IfOk result IsShort }
 {
     match command {
-        Command::Pub(_, _) => Ok(Some(error(alloc, b"E_PUB_FAILED", b" disk fault")?)),
-        Command::Mpub(_, _) => Ok(Some(error(alloc, b"E_MPUB_FAILED", b" disk fault")?)),
-        Command::Dpub(_, _, _) => Ok(Some(error(alloc, b"E_DPUB_FAILED", b" disk fault")?)),
-        Command::Req(_, _) => Ok(Some(error(alloc, b"E_REQ_FAILED", b" disk fault")?)),
+        Command::Pub(_, _) => disk_error(alloc, b"E_PUB_FAILED"),
+        Command::Mpub(_, _) => disk_error(alloc, b"E_MPUB_FAILED"),
+        Command::Dpub(_, _, _) => disk_error(alloc, b"E_DPUB_FAILED"),
+        Command::Req(_, _) => disk_error(alloc, b"E_REQ_FAILED"),
         Command::Identify(_) => Ok(None),
         Command::Sub(_, _) => Ok(None),
         Command::Rdy(_) => Ok(None),
@@ -108,7 +107,28 @@ pub fn disk_reply(alloc: Global, command: &Command) -> Result<Option<Frame>, Mem
     }
 }
 
-// A reply to a command that isn't an IDENTIFY.
+// The error of a command that a disk fault kept from being carried out.
+fn disk_error(alloc: Global, word: &[u8]) -> Result<Option<Frame>, Memory>
+    requires { length word.now ≤ 100 }
+    ensures value { IfOk result (λ reply. reply ≡ Some (disk_fault word.now)) }
+    ensures short { IfOk result IsShort }
+{
+    Ok(Some(error(alloc, word, b" disk fault")?))
+}
+
+// A reply to a command that isn't an IDENTIFY: a frame, one that may be none, and as it is.
+fn certain(frame: Result<Frame, Memory>) -> Result<Replied, Memory>
+    ensures { result ≡ result_map_both (λ frame. record { reply = Some frame; said = None }) (λ why. why) frame }
+{
+    Ok(plain(Some(frame?)))
+}
+
+fn perhaps(reply: Result<Option<Frame>, Memory>) -> Result<Replied, Memory>
+    ensures { result ≡ result_map_both (λ reply. record { reply = reply; said = None }) (λ why. why) reply }
+{
+    Ok(plain(reply?))
+}
+
 fn plain(reply: Option<Frame>) -> Replied
     ensures { result ≡ record { reply = reply; said = None } }
 {

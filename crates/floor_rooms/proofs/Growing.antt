@@ -1,5 +1,5 @@
 -- A channel that is made and put into a topic of a hall.
-use Rattle.std.proofs.Common.{◌≡◌, ◌≤◌, ◌<◌, ◌==◌, ℕ, set, Bool, true, false, not, ◌&&◌, ◌||◌, if◌then◌else◌, nat_eq, List, [], ◌∷◌, map, length, get_or, Option, Some, None, refl, sym, ap, subst, ◌∙◌, arith}
+use Rattle.std.proofs.Common.{◌≡◌, ◌≤◌, ◌<◌, ◌==◌, ℕ, set, Bool, true, false, not, ◌&&◌, ◌||◌, if◌then◌else◌, nat_eq, List, [], ◌∷◌, map, length, get_or, Option, Some, None, Result, Ok, Err, OnErr, refl, sym, ap, subst, ◌∙◌, arith}
 use Rattle.std.specs.Prelude.{HoldsAt, IfSome, IsSome, IsTrue, is_some, is_none, option_and_then, unwrap_or}
 use Rattle.std.specs.Global.{Vec}
 use Rattle.std.specs.List.{All, AllPairs, Contains, list_any, slice_get}
@@ -487,3 +487,8 @@ fresh_room_with files topic name o r q s same stalls is of stands idle stall =
       delays = All-nil (λ w. w.message.delay ≤ longest_delay);
       taken = tt;
     }
+
+-- what is said of an error
+pub on_error : {X Y : Type 0} (r : Result X Y) (P : Type 0) → P → OnErr r P
+on_error (Ok x) P p = tt
+on_error (Err e) P p = p

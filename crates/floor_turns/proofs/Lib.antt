@@ -10,4 +10,4 @@ pub use Rattle.floor_words.proofs.Saying
 pub use Rattle.floor_words.proofs.Found
 pub use Rattle.floor_words.proofs.Keeping as KeptNames
 pub use Rattle.floor_payments.proofs.Keeping
-pub use Rattle.floor_saving.proofs.Raising
+pub use Rattle.floor_files.proofs.Raising

@@ -5,7 +5,7 @@ use Rattle.floor_rooms.specs.declared.room.Room.{Room}
 use Rattle.floor_rooms.specs.declared.stall.Stall.{Stall}
 use Rattle.floor_rooms.specs.Rooms.{room_in, stall_at}
 use Rattle.floor_rooms.specs.Changes.{KeepsSince, SinceStays, room_since, stall_since}
-use Rattle.floor_saving.specs.Saving.{MarkGoes, MarksGo}
+use Rattle.floor_files.specs.Saving.{MarkGoes, MarksGo}
 use Rattle.floor_turns.specs.Leads.{IsMarkLater, MarksStand}
 use Rattle.floor_turns.specs.Turning.{IsMarkOf, MarksStay}
 

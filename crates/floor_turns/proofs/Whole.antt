@@ -49,8 +49,8 @@ use Rattle.floor_turns.specs.declared.paying.Paid.{Paid}
 use Rattle.floor_turns.specs.declared.paying.Paid.TheVariants as paid
 use Rattle.floor_turns.specs.Paying.{CountsStuck, IsPayment, Pays}
 use Rattle.floor_turns.specs.Acting.{Acts, ActsBy, ClientsBy, FaultRose, FaultsRose, Steps, there_after}
-use Rattle.floor_saving.specs.Saving.{MarksGo}
-use Rattle.floor_saving.specs.Timely.{IsTimely}
+use Rattle.floor_files.specs.Saving.{MarksGo}
+use Rattle.floor_files.specs.Timely.{IsTimely}
 use Rattle.floor_turns.specs.Timely.{TicksTimely}
 use Rattle.floor_turns.specs.Turning.{IsAnswered, IsStuckStop, PaysFor, Settles, StaysOn, TakesTurn, ends_at_stop, is_enough, is_stopping, is_stuck_stop, most_for, stops_stuck}
 use Rattle.floor_turns.proofs.Clearing.{paid_may_act, paid_may_stop}

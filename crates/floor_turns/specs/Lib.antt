@@ -12,6 +12,6 @@ pub use Rattle.floor_payments.specs.Moves
 pub use Rattle.floor_payments.specs.Due
 pub use Rattle.floor_payments.specs.Holding
 pub use Rattle.floor_payments.specs.Place
-pub use Rattle.floor_saving.specs.Saving
-pub use Rattle.floor_saving.specs.Flushing
-pub use Rattle.floor_saving.specs.Timely as TimelySaving
+pub use Rattle.floor_files.specs.Saving
+pub use Rattle.floor_files.specs.Flushing
+pub use Rattle.floor_files.specs.Timely as TimelySaving

@@ -6,7 +6,7 @@ use Rattle.desk.specs.declared.call.Call.TheVariants as call
 use Rattle.desk.specs.declared.turned.Turned.{Turned}
 use Rattle.desk.specs.declared.turned.Turned.TheVariants as turned
 use Rattle.floor_rooms.specs.declared.hall.Hall.{Hall}
-use Rattle.floor_saving.specs.Timely.{IsTimely}
+use Rattle.floor_files.specs.Timely.{IsTimely}
 
 -- what a tick leaves that is answered Quiet, unless the folder's count of faults rose
 abbrev pub TicksTimely : Call → Turned → Hall → (before now : ℕ) → Type 0

@@ -11,7 +11,7 @@ use Rattle.broker_history.specs.State.{Channel, State, Topic}
 use Rattle.broker_history.specs.Left.{kept_channel, kept_names, kept_topic}
 use Rattle.floor_laws.proofs.Counting.{counts_alike}
 use Rattle.floor_laws.proofs.Pairs.{pairs_filter, pairs_told}
-use Rattle.floor_stats.specs.Seen.{seen_channel}
+use Rattle.floor_words.specs.Seen.{seen_channel}
 use Rattle.floor_rooms.specs.declared.stall.Stall.{Stall}
 use Rattle.floor_rooms.specs.declared.room.Room.{Room}
 use Rattle.floor_rooms.specs.declared.hall.Hall.{Hall}

@@ -3,4 +3,6 @@ pub mod Naming
 pub mod Planning
 pub mod Saying
 pub mod Sending
-pub use Rattle.floor_stats.proofs.Found
+pub mod Members
+pub mod Telling
+pub use Rattle.floor_replies.proofs.Found

@@ -21,7 +21,7 @@ use Rattle.floor_words.specs.declared.plan.Plan.TheVariants as leads
 use Rattle.floor_words.specs.declared.due.NextDue.TheVariants as due
 use Rattle.floor_words.specs.Dues.{IsDueTo}
 use Rattle.floor_words.specs.Plans.{IsAllowedPlan, IsCommandAct, OfNumber, is_strange}
-use Rattle.floor_stats.specs.Replies.{reply_in}
+use Rattle.floor_words.specs.Replies.{reply_in}
 use Rattle.std.specs.Prelude.{MatchBool, Option}
 use Rattle.v2_frame.specs.declared.command.Command.{Command}
 use Rattle.floor_words.proofs.Sending.{nothing_gets}

@@ -1,4 +1,6 @@
 pub mod Asked
 pub mod Dues
 pub mod Plans
-pub use Rattle.floor_stats.specs.Replies
+pub mod Stats
+pub use Rattle.floor_replies.specs.Replies
+pub use Rattle.channel_core.specs.Seen

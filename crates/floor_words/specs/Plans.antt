@@ -17,7 +17,7 @@ use Rattle.negotiation.specs.declared.identity.Identity.{Identity}
 use Rattle.floor_rooms.specs.declared.hall.Hall.{Hall}
 use Rattle.floor_rooms.specs.Rooms.{client_in, hall_names}
 use Rattle.floor_rooms.specs.Standing.{HoldsFor}
-use Rattle.floor_stats.specs.Replies.{IsShort, IsShortFrame, KnowsOf, reply_in}
+use Rattle.floor_words.specs.Replies.{IsShort, IsShortFrame, KnowsOf, reply_in}
 use Rattle.floor_words.specs.Dues.{GetsFrom, IsDueTo}
 use Rattle.floor_words.specs.declared.due.NextDue.TheVariants as due
 use Rattle.broker_history.specs.Credit.{is_quiet}

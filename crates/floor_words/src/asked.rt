@@ -9,9 +9,9 @@ ghost use Rattle.floor_rooms.specs.Sound.{IsSound};
 ghost use Rattle.floor_rooms.specs.Standing.{HoldsFor};
 ghost use Rattle.floor_words.specs.Asked.{found_where, made_where};
 
+use crate::{are_left, find_room, find_stall, stats};
 use broker_history::{Ask, Said};
 use floor_rooms::Hall;
-use floor_stats::{are_left, find_room, find_stall, stats};
 use nsq_base::{Bodies, Chan, Memory, Topic};
 use std::alloc::Global;
 

@@ -8,11 +8,11 @@ ghost use Rattle.floor_words.specs.Plans.{IsAllowedPlan, IsPlanOf, IsShortPlan, 
 use crate::asked::said_to;
 use crate::due::{NextDue, next_due_to};
 use crate::listed::names;
+use crate::{find_client, refusal, reply_to};
 use broker_history::{Act, Ask};
 use desk::Call;
 use floor_clients::Client;
 use floor_rooms::Hall;
-use floor_stats::{find_client, refusal, reply_to};
 use negotiation::Identity;
 use nsq_base::Memory;
 use std::alloc::Global;

@@ -1,5 +1,5 @@
 -- What a read does to the reading of a request.
-use Rattle.std.proofs.Common.{◌≡◌, ◌≢◌, ℕ, ◌<◌, ◌≤◌, Bool, true, false, List, [], ◌∷◌, ◌++◌, length, take, refl, sym, ap, subst, ◌∙◌, append_assoc, Some, Result, Ok, Err, OnOk, is_err}
+use Rattle.std.proofs.Common.{◌≡◌, ◌≢◌, ℕ, ◌<◌, ◌≤◌, Bool, true, false, List, [], ◌∷◌, ◌++◌, length, take, refl, sym, ap, subst, ◌∙◌, append_assoc, Some, Result, Ok, Err, OnOk, is_err, arith}
 use Rattle.std.proofs.lemmas.List.{append-nil}
 use Rattle.std.proofs.Math.Seq.{take-append_seam}
 use Rattle.nsq_base.specs.declared.memory.Memory.{Memory as NoMemory}
@@ -8,12 +8,12 @@ use Rattle.broker_history.specs.Entries.{History, own}
 use Rattle.broker_history.specs.Talk.{bytes_of, longest_piece}
 use Rattle.http_wire.specs.Request.{Unfinished, IsRequest}
 use Rattle.http_wire.specs.Reading.{Fed}
-use Rattle.http_exchange.specs.declared.ended.EndedHttp.{EndedHttp}
-use Rattle.http_exchange.specs.declared.ended.EndedHttp.TheVariants.{Closed, ReadFault}
-use Rattle.http_exchange.specs.Exchange.{AreRead, nothing, piece, IsOpen, IsListing, ListsBehindStop, IsExchange, IsExchangeIn}
+use Rattle.http_api.specs.declared.ended.EndedHttp.{EndedHttp}
+use Rattle.http_api.specs.declared.ended.EndedHttp.TheVariants.{Closed, ReadFault, WriteFault, Answered, EndOfInput, Cut, Memory as OutOfMemory}
+use Rattle.http_api.specs.Exchange.{HasCause, AreRead, nothing, piece, IsOpen, IsListing, ListsBehindStop, IsExchange, IsExchangeIn}
 use Rattle.http_api.specs.declared.reading.Came.{Came}
 use Rattle.http_api.specs.declared.reading.Came.TheVariants.{Whole, Refused, Over, Memory}
-use Rattle.http_api.specs.Comings.{Looks, HasRead, HasBegun, IsReading, ComesTo, EndsOtherwise, ended_at}
+use Rattle.http_api.specs.Comings.{Looks, HasCameCause, HasRead, HasBegun, IsReading, ComesTo, EndsOtherwise, ended_at}
 use Rattle.http_api.proofs.ListLemmas.{lists_none}
 
 -- the bytes of pieces and of one more
@@ -26,6 +26,16 @@ some_last : (pieces : List (List ℕ)) (next : List ℕ) → pieces ++ next ∷ 
 some_last [] next e = cc
 some_last (p ∷ ps) next e = cc
 
+-- a cause since later counts is one since earlier ones
+pub cause_since : (ended : EndedHttp) (at_end : Bool) (r r' r'' w w' w'' : ℕ) → r ≤ r' → w ≤ w' → HasCause ended at_end r' r'' w' w'' → HasCause ended at_end r r'' w w''
+cause_since EndOfInput at_end r r' r'' w w' w'' more_r more_w c = c
+cause_since Cut at_end r r' r'' w w' w'' more_r more_w c = c
+cause_since ReadFault at_end r r' r'' w w' w'' more_r more_w c = omega (arith, more_r, c)
+cause_since WriteFault at_end r r' r'' w w' w'' more_r more_w c = omega (arith, more_w, c)
+cause_since Answered at_end r r' r'' w w' w'' more_r more_w c = tt
+cause_since Closed at_end r r' r'' w w' w'' more_r more_w c = tt
+cause_since OutOfMemory at_end r r' r'' w w' w'' more_r more_w c = tt
+
 -- bytes that were looked at are no end of the exchange
 pub looked_otherwise : (limit : ℕ) (bytes : List ℕ) (came : Came) → Looks limit bytes (Some came) → EndsOtherwise came
 looked_otherwise limit bytes (Whole request) l = tt
@@ -33,10 +43,29 @@ looked_otherwise limit bytes (Refused refusal) l = tt
 looked_otherwise limit bytes (Over ended) l = absurd l
 looked_otherwise limit bytes Memory l = tt
 
+-- and they have no cause that isn't there
+pub looked_cause : (limit : ℕ) (bytes : List ℕ) (came : Came) (at_end : Bool) (r r' w w' : ℕ) → Looks limit bytes (Some came) → HasCameCause came at_end r r' w w'
+looked_cause limit bytes (Whole request) at_end r r' w w' l = tt
+looked_cause limit bytes (Refused refusal) at_end r r' w w' l = tt
+looked_cause limit bytes (Over ended) at_end r r' w w' l = absurd l
+looked_cause limit bytes Memory at_end r r' w w' l = tt
+
+-- the same of what the reading came to
+pub cause_later : (came : Came) (at_end : Bool) (r r' r'' w w' w'' : ℕ) → r ≤ r' → w ≤ w' → HasCameCause came at_end r' r'' w' w'' → HasCameCause came at_end r r'' w w''
+cause_later (Whole request) at_end r r' r'' w w' w'' more_r more_w c = tt
+cause_later (Refused refusal) at_end r r' r'' w w' w'' more_r more_w c = tt
+cause_later (Over ended) at_end r r' r'' w w' w'' more_r more_w c = cause_since ended at_end r r' r'' w w' w'' more_r more_w c
+cause_later Memory at_end r r' r'' w w' w'' more_r more_w c = tt
+
 -- nor is the end of the input one for want of memory
 pub ended_otherwise : (begun : Bool) (ended : EndedHttp) → ended ≡ ended_at begun → EndsOtherwise (Over ended)
 ended_otherwise true ended is = subst (λ (x : EndedHttp). EndsOtherwise (Over x)) (sym is) tt
 ended_otherwise false ended is = subst (λ (x : EndedHttp). EndsOtherwise (Over x)) (sym is) tt
+
+-- and it comes where the input was at its end
+pub ended_cause : (begun : Bool) (ended : EndedHttp) (at_end : Bool) (r r' w w' : ℕ) → ended ≡ ended_at begun → at_end ≡ true → HasCause ended at_end r r' w w'
+ended_cause true ended at_end r r' w w' is ends = subst (λ (x : EndedHttp). HasCause x at_end r r' w w') (sym is) ends
+ended_cause false ended at_end r r' w w' is ends = subst (λ (x : EndedHttp). HasCause x at_end r r' w w') (sym is) ends
 
 -- nothing was read and nothing noted
 pub reads_none : (o : Options) (number : ℕ) (pieces : List (List ℕ)) (seen : History) → pieces ≡ [] → own number seen ≡ [] → HasRead o number pieces seen

@@ -12,9 +12,9 @@ use Rattle.http_calls.specs.declared.answer.HttpAnswer.{HttpAnswer}
 use Rattle.http_calls.specs.declared.refusal.Refusal.{Refusal}
 use Rattle.http_calls.specs.Calls.{call_for}
 use Rattle.http_calls.specs.Refusals.{refused_answer}
-use Rattle.http_exchange.specs.declared.ended.EndedHttp.{EndedHttp}
-use Rattle.http_exchange.specs.declared.ended.EndedHttp.TheVariants.{Answered, EndOfInput, Cut, Closed, ReadFault, WriteFault, Memory}
-use Rattle.http_exchange.specs.Exchange.{AreRead, Answers, refused, Fits, IsGivenUp, IsExchange, IsExchangeIn, IsWarnedHttp, HasCause, ListsBehindStop, written_of}
+use Rattle.http_api.specs.declared.ended.EndedHttp.{EndedHttp}
+use Rattle.http_api.specs.declared.ended.EndedHttp.TheVariants.{Answered, EndOfInput, Cut, Closed, ReadFault, WriteFault, Memory}
+use Rattle.http_api.specs.Exchange.{AreRead, Answers, refused, Fits, IsGivenUp, IsExchange, IsExchangeIn, IsWarnedHttp, HasCause, ListsBehindStop, written_of}
 use Rattle.http_api.specs.Written.{memory_bytes, WritesFirst, Sends, Finishes}
 use Rattle.http_api.specs.Responses.{AnswersCall, RespondsTo}
 use Rattle.http_api.specs.declared.reading.Came.TheVariants.{Over}
@@ -78,16 +78,6 @@ module _ (o : Options) (began number : ℕ) (pieces : List (List ℕ)) (seen : H
 -- nothing was written
 pub over_exchange : (o : Options) (began number : ℕ) (pieces : List (List ℕ)) (seen : History) (out out' : List ℕ) (ended : EndedHttp) → out ≡ [] → out' ≡ out → IsExchangeIn o began number seen pieces [] ended → IsExchangeIn o began number seen pieces out' ended
 over_exchange o began number pieces seen out out' ended empty same e = subst (λ (x : List ℕ). IsExchangeIn o began number seen pieces x ended) (sym (same ∙ empty)) e
-
--- a cause since later counts is one since earlier ones
-pub cause_since : (ended : EndedHttp) (at_end : Bool) (r r' r'' w w' w'' : ℕ) → r ≤ r' → w ≤ w' → HasCause ended at_end r' r'' w' w'' → HasCause ended at_end r r'' w w''
-cause_since EndOfInput at_end r r' r'' w w' w'' more_r more_w c = c
-cause_since Cut at_end r r' r'' w w' w'' more_r more_w c = c
-cause_since ReadFault at_end r r' r'' w w' w'' more_r more_w c = omega (arith, more_r, c)
-cause_since WriteFault at_end r r' r'' w w' w'' more_r more_w c = omega (arith, more_w, c)
-cause_since Answered at_end r r' r'' w w' w'' more_r more_w c = tt
-cause_since Closed at_end r r' r'' w w' w'' more_r more_w c = tt
-cause_since Memory at_end r r' r'' w w' w'' more_r more_w c = tt
 
 -- who was told since later counts was told since earlier ones
 pub warned_since : (ended : EndedHttp) (out out' out'' : List ℕ) (w w' w'' : ℕ) → out' ≡ out → w ≤ w' → IsWarnedHttp ended out' out'' w' w'' → IsWarnedHttp ended out out'' w w''

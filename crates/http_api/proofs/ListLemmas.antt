@@ -8,7 +8,7 @@ use Rattle.broker_history.specs.declared.entry.Act.TheVariants.{Stop}
 use Rattle.broker_history.specs.declared.entry.Entry.{Entry}
 use Rattle.broker_history.specs.Entries.{History, own, is_stop, has_stop}
 use Rattle.broker_history.proofs.Own.{own-append}
-use Rattle.http_exchange.specs.Exchange.{is_listed, before_stop, ListsBehindStop}
+use Rattle.http_api.specs.Exchange.{is_listed, before_stop, ListsBehindStop}
 
 -- whether an entry lists the names
 abbrev pub any_listed : History → Bool

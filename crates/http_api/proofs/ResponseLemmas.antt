@@ -14,7 +14,7 @@ use Rattle.http_calls.specs.declared.call.HttpCall.{HttpCall}
 use Rattle.http_calls.specs.declared.call.HttpCall.TheVariants as call
 use Rattle.http_calls.specs.Answers.{publishes, answer_for, stop_answer}
 use Rattle.http_calls.specs.Calls.{call_for}
-use Rattle.http_exchange.specs.Exchange.{Answers, alone, told, stopping, stopped, answer_alone, ListsBehindStop}
+use Rattle.http_api.specs.Exchange.{Answers, alone, told, stopping, stopped, answer_alone, ListsBehindStop}
 use Rattle.http_api.specs.declared.turns.Asked.{Asked}
 use Rattle.http_api.specs.declared.turns.Asked.TheVariants as asked
 use Rattle.http_api.specs.Noted.{AsksTo, IsStopped}

@@ -11,7 +11,7 @@ use Rattle.desk.specs.declared.call.Call.{Call}
 use Rattle.desk.specs.declared.call.Call.TheVariants as call
 use Rattle.desk.specs.declared.turned.Turned.{Turned}
 use Rattle.desk.specs.declared.turned.Turned.TheVariants as turned
-use Rattle.http_exchange.specs.Exchange.{is_listed, IsListing, IsStopping, IsAsking, ListsBehindStop}
+use Rattle.http_api.specs.Exchange.{is_listed, IsListing, IsStopping, IsAsking, ListsBehindStop}
 use Rattle.http_api.specs.Noted.{lists_names, says_stopping, ListsOne, ListsNames, IsStopped, StopsTo}
 use Rattle.http_api.proofs.ListLemmas.{lists_none, lists_one, stop_unlisted}
 

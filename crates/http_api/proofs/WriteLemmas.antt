@@ -1,6 +1,10 @@
 -- Bytes that are written in several goes.
-use Rattle.std.proofs.Common.{ℕ, Bool, true, false, ◌≡◌, ◌++◌, ◌+◌, ◌-◌, List, sym, ◌∙◌, ap, arith, take, drop, length, take-add, append_assoc, length-drop, take_all, refl, inl, inr}
+use Rattle.std.proofs.Common.{ℕ, Bool, true, false, ◌≡◌, ◌++◌, ◌+◌, ◌-◌, List, sym, ◌∙◌, ap, arith, take, drop, length, take-add, append_assoc, length-drop, take_all, refl, subst, inl, inr, [], Result, Ok, Err, OnOk, is_err}
+use Rattle.nsq_base.specs.declared.memory.Memory.{Memory as NoMemory}
 use Rattle.nsq_outside.specs.Causes.{Rose}
+use Rattle.http_wire.specs.Answer.{answer_bytes}
+use Rattle.http_calls.specs.declared.answer.HttpAnswer.{HttpAnswer}
+use Rattle.http_api.specs.Exchange.{written_of}
 use Rattle.http_api.specs.Written.{WritesFirst, WritesAll, WritesUnlessFault}
 
 -- a front of what was left to write joins what was written
@@ -18,3 +22,17 @@ some_first bytes written written' false w = w
 pub all_unless_fault : (bytes written written' : List ℕ) (all : Bool) (before now : ℕ) → WritesAll bytes written written' all → (all ≡ false → Rose before now) → WritesUnlessFault bytes written written' before now
 all_unless_fault bytes written written' true before now w rose = inl w
 all_unless_fault bytes written written' false before now w rose = inr (rose refl)
+
+-- what was made of an answer is its bytes
+pub made_whole : (r : Result (Unit {0}) NoMemory) (answer : HttpAnswer) (body front items : List ℕ) → body ≡ answer.body → front ≡ [] → OnOk r (items ≡ front ++ answer_bytes answer.status answer.json body) → is_err r ≡ false
+    → items ≡ written_of answer
+made_whole (Ok done) answer body front items same none made ok = made ∙ ap (λ x. x ++ answer_bytes answer.status answer.json body) none ∙ ap (λ x. answer_bytes answer.status answer.json x) same
+made_whole (Err e) answer body front items same none made ok = absurd (let c : true ≡ false = ok in cc)
+
+-- an answer was written whole, or in part
+pub sends_whole : (answer : HttpAnswer) (items written written' : List ℕ) (all : Bool) → items ≡ written_of answer → WritesAll items written written' all → all ≡ true → written' ≡ written ++ written_of answer
+sends_whole answer items written written' true same w is = w ∙ ap (λ x. written ++ x) same
+sends_whole answer items written written' false same w is = absurd (let c : false ≡ true = is in cc)
+
+pub sends_part : (answer : HttpAnswer) (items written written' : List ℕ) (all : Bool) → items ≡ written_of answer → WritesAll items written written' all → WritesFirst (written_of answer) written written'
+sends_part answer items written written' all same w = subst (λ x. WritesFirst x written written') same (some_first items written written' all w)

@@ -7,9 +7,9 @@ use Rattle.http_wire.specs.Request.{Outcome, Unfinished, IsRequest}
 use Rattle.http_wire.specs.Request as request
 use Rattle.http_wire.specs.Reading.{Fed}
 use Rattle.http_calls.specs.declared.refusal.Refusal.{Refusal}
-use Rattle.http_exchange.specs.declared.ended.EndedHttp.{EndedHttp}
-use Rattle.http_exchange.specs.declared.ended.EndedHttp.TheVariants.{EndOfInput, Cut, Memory as OutOfMemory}
-use Rattle.http_exchange.specs.Exchange.{AreRead, refusal_at, IsExchangeIn, HasCause}
+use Rattle.http_api.specs.declared.ended.EndedHttp.{EndedHttp}
+use Rattle.http_api.specs.declared.ended.EndedHttp.TheVariants.{EndOfInput, Cut, Memory as OutOfMemory}
+use Rattle.http_api.specs.Exchange.{AreRead, refusal_at, IsExchangeIn, HasCause}
 use Rattle.http_api.specs.declared.reading.Came.{Came}
 use Rattle.http_api.specs.declared.reading.Came.TheVariants.{Whole, Refused, Over, Memory}
 

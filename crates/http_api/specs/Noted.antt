@@ -7,7 +7,7 @@ use Rattle.broker_history.specs.declared.entry.Entry.{Entry}
 use Rattle.broker_history.specs.Entries.{History, own}
 use Rattle.desk.specs.declared.turned.Turned.{Turned}
 use Rattle.desk.specs.declared.turned.Turned.TheVariants.{Listed, Stopping}
-use Rattle.http_exchange.specs.Exchange.{IsStop, IsListed, IsListing, IsStopping, IsAsking, ListsBehindStop}
+use Rattle.http_api.specs.Exchange.{IsStop, IsListed, IsListing, IsStopping, IsAsking, ListsBehindStop}
 use Rattle.http_api.specs.declared.turns.Ticked.{Ticked}
 use Rattle.http_api.specs.declared.turns.Ticked.TheVariants.{Goes, Closed, Memory}
 use Rattle.http_api.specs.declared.turns.Asked.{Asked}

@@ -14,7 +14,7 @@ use Rattle.http_calls.specs.Refusals.{refused_answer}
 use Rattle.http_calls.specs.Answers.{publishes, answer_for, stop_answer}
 use Rattle.http_api.specs.declared.turns.Asked.{Asked}
 use Rattle.http_api.specs.declared.turns.Asked.TheVariants as asked
-use Rattle.http_exchange.specs.Exchange.{IsListing, IsStopping, IsAsking, ListsBehindStop}
+use Rattle.http_api.specs.Exchange.{IsListing, IsStopping, IsAsking, ListsBehindStop}
 
 -- how it is answered by what came of what was asked
 abbrev pub told_answer : (publish : Bool) → (began : ℕ) → Asked → HttpAnswer

@@ -5,9 +5,9 @@ use Rattle.nsq_outside.specs.Causes.{Rose}
 use Rattle.http_calls.specs.declared.answer.HttpAnswer.{HttpAnswer}
 use Rattle.http_calls.specs.declared.refusal.Refusal.TheVariants.{OutOfMemory}
 use Rattle.http_calls.specs.Refusals.{refused_answer}
-use Rattle.http_exchange.specs.declared.ended.EndedHttp.{EndedHttp}
-use Rattle.http_exchange.specs.declared.ended.EndedHttp.TheVariants.{Answered, WriteFault, Memory}
-use Rattle.http_exchange.specs.Exchange.{written_of}
+use Rattle.http_api.specs.declared.ended.EndedHttp.{EndedHttp}
+use Rattle.http_api.specs.declared.ended.EndedHttp.TheVariants.{Answered, WriteFault, Memory}
+use Rattle.http_api.specs.Exchange.{written_of}
 
 -- the bytes of the answer for want of memory
 abbrev pub memory_bytes : List ℕ

@@ -2,13 +2,13 @@ ghost use Rattle.std.specs.Prelude.{◌≡◌, ◌≤◌, ◌++◌, [], false, I
 ghost use Rattle.nsq_base.specs.declared.options.Options.{Options};
 ghost use Rattle.broker_history.specs.Entries.{own};
 ghost use Rattle.broker_history.specs.Talk.{bytes_of, longest_piece};
-ghost use Rattle.http_exchange.specs.Exchange.{IsOpen};
+ghost use Rattle.http_api.specs.Exchange.{IsOpen};
 ghost use Rattle.http_api.specs.Comings.{Looks, IsReading, ComesTo, Fetches, HasCameCause, HasFetchCause, EndsOtherwise, FetchEndsOtherwise, ended_at};
 
+use crate::EndedHttp;
 use crate::turns::{Ticked, tick};
 use desk::Desk;
 use http_calls::{Refusal, refusal_of};
-use http_exchange::EndedHttp;
 use http_wire::{GotRequest, Request, RequestReader};
 use nsq_base::Memory;
 use nsq_outside::{Conn, Read, get};

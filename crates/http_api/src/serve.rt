@@ -2,13 +2,13 @@ ghost use Rattle.std.specs.Prelude.{◌≡◌, ◌<◌, ◌≤◌, ◌++◌, [],
 ghost use Rattle.nsq_base.specs.Options.{IsInRange};
 ghost use Rattle.broker_history.specs.Entries.{own};
 ghost use Rattle.broker_history.specs.Talk.{bytes_of};
-ghost use Rattle.http_exchange.specs.Exchange.{HasCause, IsExchangeIn, IsWarnedHttp};
+ghost use Rattle.http_api.specs.Exchange.{HasCause, IsExchangeIn, IsWarnedHttp};
 
+use crate::EndedHttp;
 use crate::asking::respond;
 use crate::reading::{Came, read_request};
 use crate::writing::{finish, give_up};
 use desk::Desk;
-use http_exchange::EndedHttp;
 use nsq_base::Options;
 use nsq_outside::Conn;
 use std::alloc::Global;

@@ -2,7 +2,7 @@ ghost use Rattle.std.specs.Prelude.{◌≡◌, [], true, IsTrue};
 ghost use Rattle.broker_history.specs.Entries.{own, has_stop};
 ghost use Rattle.desk.specs.Calls.{CanAsk};
 ghost use Rattle.desk.specs.Answers.{wants_memory};
-ghost use Rattle.http_exchange.specs.Exchange.{ListsBehindStop};
+ghost use Rattle.http_api.specs.Exchange.{ListsBehindStop};
 ghost use Rattle.http_api.specs.Noted.{lists_names, says_stopping, ListsNames, TicksTo, AsksTo, StopsTo};
 
 use broker_history::{Ask, Said};

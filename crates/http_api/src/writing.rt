@@ -1,12 +1,12 @@
 ghost use Rattle.std.specs.Prelude.{◌≡◌, ◌≤◌, false, IfOk, IsTrue};
 ghost use Rattle.nsq_outside.specs.Causes.{Rose};
 ghost use Rattle.http_wire.specs.Answer.{IsStatus};
-ghost use Rattle.http_exchange.specs.declared.ended.EndedHttp.TheVariants.{Memory as OutOfMemory};
-ghost use Rattle.http_exchange.specs.Exchange.{HasCause, IsWarnedHttp};
+ghost use Rattle.http_api.specs.declared.ended.EndedHttp.TheVariants.{Memory as OutOfMemory};
+ghost use Rattle.http_api.specs.Exchange.{HasCause, IsWarnedHttp};
 ghost use Rattle.http_api.specs.Written.{memory_bytes, WritesFirst, WritesAll, WritesUnlessFault, Sends, Finishes};
 
+use crate::EndedHttp;
 use http_calls::HttpAnswer;
-use http_exchange::EndedHttp;
 use http_wire::write_answer;
 use nsq_base::Memory;
 use nsq_outside::{Conn, Write, put};

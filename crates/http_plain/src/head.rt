@@ -52,27 +52,44 @@ pub(crate) fn head_end(bytes: &[u8]) -> Option<usize> {
 
 /// What the lines of a head say, or None where one of them is none of a request's head (RFC 9112).
 pub(crate) fn read_head(text: &[u8]) -> Option<Head<'_>> {
-    let mut said = None;
-    for line in text.split(|byte| *byte == b'\n') {
+    let mut rest = text;
+    for _ in 0..text.len() {
+        let Some((line, behind)) = cut(rest, b'\n') else {
+            return None;
+        };
         let line = without_return(line);
-        match said {
-            None if line.is_empty() => {}
-            None => {
-                let Some(head) = start_line(line) else {
-                    return None;
-                };
-                said = Some(head);
-            }
-            Some(head) if line.is_empty() => return Some(head),
-            Some(head) => {
-                let Some(head) = with_field(head, line) else {
-                    return None;
-                };
-                said = Some(head);
-            }
+        if !line.is_empty() {
+            return with_fields(start_line(line), behind);
         }
+        rest = behind;
     }
     None
+}
+
+/// The head with the fields of these lines, up to an empty one.
+fn with_fields<'a>(head: Option<Head<'a>>, text: &'a [u8]) -> Option<Head<'a>> {
+    let mut head = head;
+    let mut rest = text;
+    for _ in 0..text.len() {
+        let Some((line, behind)) = cut(rest, b'\n') else {
+            return None;
+        };
+        let line = without_return(line);
+        if line.is_empty() {
+            return head;
+        }
+        head = with_line(head, line);
+        rest = behind;
+    }
+    None
+}
+
+/// The head with the field of one more line, None where there is no head.
+fn with_line<'a>(head: Option<Head<'a>>, line: &'a [u8]) -> Option<Head<'a>> {
+    match head {
+        Some(head) => with_field(head, line),
+        None => None,
+    }
 }
 
 /// The line without one carriage return at its end.

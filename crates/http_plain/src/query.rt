@@ -5,12 +5,20 @@ use std::alloc::Global;
 /// The pairs of a query, decoded.
 pub(crate) fn read_query(alloc: Global, query: &[u8]) -> Result<Pairs, Memory> {
     let mut pairs = Pairs::new(alloc);
-    for part in query.split(|byte| *byte == b'&') {
+    let mut rest = query;
+    for _ in 0..query.len() {
+        let (part, behind) = halves(rest, b'&');
         if !part.is_empty() {
-            pairs.push(read_pair(alloc, part)?)?;
+            put_made(&mut pairs, read_pair(alloc, part))?;
         }
+        rest = behind;
     }
     Ok(pairs)
+}
+
+/// Adds a pair that was made, where memory didn't want.
+fn put_made(pairs: &mut Pairs, made: Result<Pair, Memory>) -> Result<(), Memory> {
+    pairs.push(made?)
 }
 
 /// A pair, parted at its first equals sign.
@@ -23,20 +31,33 @@ fn read_pair(alloc: Global, part: &[u8]) -> Result<Pair, Memory> {
 
 /// The text that a name or a value stands for.
 fn decoded(alloc: Global, encoded: &[u8]) -> Result<Body, Memory> {
-    let mut bytes = Vec::new(alloc);
-    let mut passed: usize = 0;
-    for (place, byte) in encoded.iter().enumerate() {
-        if passed > 0 {
-            passed = passed.saturating_sub(1);
-        } else if let Some(byte) = escaped(encoded, place) {
-            bytes.push(byte)?;
-            passed = 2;
-        } else {
-            bytes.push(if *byte == b'+' { b' ' } else { *byte })?;
-        }
-    }
+    let bytes = without_escapes(alloc, encoded)?;
     let text = String::from_utf8_lossy(alloc, &bytes)?;
     Ok(Body::of(text.into_bytes()))
+}
+
+/// The bytes that these stand for.
+fn without_escapes(alloc: Global, encoded: &[u8]) -> Result<Vec<u8>, Memory> {
+    let mut bytes = Vec::new(alloc);
+    let mut passed: usize = 0;
+    for place in 0..encoded.len() {
+        if passed > 0 {
+            passed = passed.saturating_sub(1);
+        } else {
+            let (byte, more) = meant(encoded, place, encoded[place]);
+            bytes.push(byte)?;
+            passed = more;
+        }
+    }
+    Ok(bytes)
+}
+
+/// The byte that the one at this place stands for, with how many behind it.
+fn meant(encoded: &[u8], place: usize, byte: u8) -> (u8, usize) {
+    match escaped(encoded, place) {
+        Some(byte) => (byte, 2),
+        None => (if byte == b'+' { b' ' } else { byte }, 0),
+    }
 }
 
 /// The byte that is written at this place as a percent sign and two hexadecimal digits.

@@ -1,7 +1,9 @@
 -- Lists that are written one behind the other.
-use Rattle.std.proofs.Common.{◌≡◌, ℕ, ◌++◌, List, [], ◌∷◌, fold, append_assoc, append-nil, refl, sym, ap, ◌∙◌}
+use Rattle.std.proofs.Common.{◌≡◌, ℕ, ◌≤◌, ◌++◌, List, [], ◌∷◌, fold, flat_map, take, take_all, length, append_assoc, append-nil, refl, sym, ap, ◌∙◌}
 use Rattle.std.specs.Str.{IsUtf8}
 use Rattle.std.specs.Str.Lossy.{utf8_lossy}
+use Rattle.json.specs.Token.{Token, key, begin_array, end_array}
+use Rattle.http_stats.specs.Tokens.{list_tokens}
 use Rattle.std.proofs.lemmas.Str.{utf8_lossy-IsUtf8}
 
 -- parts that are appended one by one
@@ -24,6 +26,25 @@ together_alone first parts = together first parts [] ∙ append-nil (appended fi
 pub all_appended : {X : Type 0} (old first : List X) (parts : List (List X)) → appended (old ++ first) parts ≡ old ++ appended first parts
 all_appended old first [] = refl
 all_appended old first (part ∷ parts) = ap (λ all. appended all parts) (append_assoc old first part) ∙ all_appended old (first ++ part) parts
+
+-- of a list nothing is written yet
+pub none_yet : {X : Type 0} (tokens : X → List Token) (items : List X) (old : List Token) → old ≡ old ++ flat_map tokens (take 0 items)
+none_yet tokens items old = sym (append-nil old)
+
+-- a list whose items are all written is whole
+pub list_whole : {X : Type 0} (tokens : X → List Token) (name : List ℕ) (items : List X) (i : ℕ) (old named begun all : List Token)
+    → named ≡ old ++ key name ∷ [] → begun ≡ named ++ begin_array ∷ [] → all ≡ begun ++ flat_map tokens (take i items) → length items ≤ i
+    → all ++ end_array ∷ [] ≡ old ++ list_tokens tokens name items
+list_whole tokens name items i old named begun all n b a long =
+    let listed = flat_map tokens items in
+    let taken : flat_map tokens (take i items) ≡ listed = ap (flat_map tokens) (take_all i items long) in
+    let is : all ≡ old ++ key name ∷ begin_array ∷ listed =
+    a
+    ∙ ap (λ x. begun ++ x) taken
+    ∙ ap (λ x. x ++ listed) (b ∙ ap (λ x. x ++ begin_array ∷ []) n)
+    ∙ append_assoc (old ++ key name ∷ []) (begin_array ∷ []) listed
+    ∙ append_assoc old (key name ∷ []) (begin_array ∷ listed) in
+    ap (λ x. x ++ end_array ∷ []) is ∙ append_assoc old (key name ∷ begin_array ∷ listed) (end_array ∷ [])
 
 -- a text that is UTF-8 is written as it is
 pub said_is : (text bytes : List ℕ) → text ≡ bytes → IsUtf8 bytes → text ≡ utf8_lossy bytes

@@ -1,2 +1,4 @@
 pub mod Kept
 pub mod Texts
+pub mod Durable
+pub mod Reading

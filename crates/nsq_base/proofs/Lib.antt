@@ -4,3 +4,5 @@ pub mod Defaults
 pub mod IdDigits
 pub mod PutBy
 pub mod TopicsOf
+pub mod Copies
+pub mod HeldNames

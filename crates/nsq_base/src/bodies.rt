@@ -74,7 +74,7 @@ impl Bodies {
     {
         let mut items = Vec::with_capacity(alloc, self.items.len())?;
         for body in &self.items {
-            put_last(&mut items, Body::copy(alloc, body.bytes())?)?;
+            items.push_reserved(Body::copy(alloc, body.bytes())?);
         }
         Ok(Bodies { items })
     }

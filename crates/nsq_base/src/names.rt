@@ -7,7 +7,6 @@ ghost use Rattle.nsq_base.specs.Names.{topic_of, channels_in, topics_of, channel
 ghost use Rattle.nsq_base.specs.Places.{BelongsAt, IsPlaceOf};
 
 use crate::channels::Channels;
-use crate::memory::put_last;
 use crate::{Chan, Memory, Topic};
 use std::alloc::Global;
 use std::marker::Model;
@@ -98,7 +97,7 @@ impl Names {
     {
         let mut topics = Vec::with_capacity(alloc, self.topics.len())?;
         for (topic, channels) in &self.topics {
-            put_last(&mut topics, (*topic, channels.copy(alloc)?))?;
+            topics.push_reserved((*topic, channels.copy(alloc)?));
         }
         Ok(Names { topics })
     }

@@ -88,12 +88,25 @@ impl Options {
     pub fn copy(&self, alloc: Global) -> Result<Options, Memory>
         ensures { IfOk result (λ options. options ≡ self.now) }
     {
+        let lookupd_tcp_address = self.lookupd_tcp_address.copy(alloc)?;
+        let Texts {
+            tcp_address,
+            http_address,
+            broadcast_address,
+            data_path,
+        } = texts_of(
+            alloc,
+            self.tcp_address.bytes(),
+            self.http_address.bytes(),
+            self.broadcast_address.bytes(),
+            self.data_path.bytes(),
+        )?;
         Ok(Options {
-            tcp_address: Body::copy(alloc, self.tcp_address.bytes())?,
-            http_address: Body::copy(alloc, self.http_address.bytes())?,
-            broadcast_address: Body::copy(alloc, self.broadcast_address.bytes())?,
-            lookupd_tcp_address: self.lookupd_tcp_address.copy(alloc)?,
-            data_path: Body::copy(alloc, self.data_path.bytes())?,
+            tcp_address,
+            http_address,
+            broadcast_address,
+            lookupd_tcp_address,
+            data_path,
             mem_queue_size: self.mem_queue_size,
             max_bytes_per_file: self.max_bytes_per_file,
             sync_every: self.sync_every,
@@ -154,6 +167,33 @@ impl Options {
             && is_within(MILLISECOND, YEAR, self.max_req_timeout)
             && is_within(SECOND, YEAR, self.max_heartbeat_interval)
     }
+}
+
+// The options that are one text each.
+#[derive(Drop)]
+struct Texts {
+    tcp_address: Body,
+    http_address: Body,
+    broadcast_address: Body,
+    data_path: Body,
+}
+
+// Copies of these texts. Want of memory is the only error.
+fn texts_of(
+    alloc: Global,
+    tcp_address: &[u8],
+    http_address: &[u8],
+    broadcast_address: &[u8],
+    data_path: &[u8],
+) -> Result<Texts, Memory>
+    ensures { IfOk result (λ texts. texts ≡ record { tcp_address = tcp_address.now; http_address = http_address.now; broadcast_address = broadcast_address.now; data_path = data_path.now }) }
+{
+    Ok(Texts {
+        tcp_address: Body::copy(alloc, tcp_address)?,
+        http_address: Body::copy(alloc, http_address)?,
+        broadcast_address: Body::copy(alloc, broadcast_address)?,
+        data_path: Body::copy(alloc, data_path)?,
+    })
 }
 
 /// The longest duration of an option: 8760 hours.

@@ -10,7 +10,7 @@ use std::alloc::Global;
 use std::marker::Model;
 
 /// A name with a value, as a field of a request's head or of a query.
-#[derive(Debug, PartialEq, Eq, Drop)]
+#[derive(PartialEq, Eq, Drop)]
 pub struct Pair {
     /// The name's bytes.
     pub name: Body,
@@ -30,7 +30,7 @@ impl Pair {
 }
 
 /// A list of pairs, in the order in which they were added.
-#[derive(Debug, Drop)]
+#[derive(Drop)]
 pub struct Pairs {
     items: Vec<Pair>,
 }
@@ -97,7 +97,7 @@ impl Pairs {
     {
         let mut items = Vec::with_capacity(alloc, self.items.len())?;
         for pair in &self.items {
-            put_last(&mut items, pair.copy(alloc)?)?;
+            items.push_reserved(pair.copy(alloc)?);
         }
         Ok(Pairs { items })
     }

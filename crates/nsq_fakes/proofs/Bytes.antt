@@ -1,6 +1,6 @@
-use Rattle.std.proofs.Common.{◌≡◌, ℕ, ◌+◌, ◌-◌, ◌≤◌, List, ◌++◌, length, take, drop, replicate, arith}
+use Rattle.std.proofs.Common.{◌≡◌, ℕ, ◌+◌, ◌-◌, ◌≤◌, List, ◌++◌, length, take, drop, replicate, append_assoc, ap, sym, ◌∙◌, subst, length-append, length-drop, arith}
 use Rattle.std.proofs.lemmas.Grind.{common_steps}
-use Rattle.std.proofs.lemmas.List.{take-replicate}
+use Rattle.std.proofs.lemmas.List.{take-replicate, take_at, length-take-le, drop-drop}
 use Rattle.std.proofs.Math.Seq.{take-append-add}
 use Rattle.nsq_outside.specs.Files.{cut_to, written_at}
 
@@ -31,3 +31,16 @@ written_at-grown xs from at h = grind (arith, common_steps, cut_to-cut_to xs at 
 -- bytes written over those of a list that is long enough
 pub written_at-inside : (xs from : List ℕ) (at : ℕ) → at + length from ≤ length xs → take at xs ++ from ++ drop (at + length from) xs ≡ written_at xs at from
 written_at-inside xs from at h = grind (arith, common_steps, cut_to-short)
+
+-- bytes that were copied into a list from a place on, as the list then holds them
+pub overwritten : (items copied from : List ℕ) (at len : ℕ) → len ≡ length items → copied ≡ from → at + length from ≤ length items
+    → take len ((take at items ++ (copied ++ drop (length copied) (drop at items))) ++ drop (length (take at items ++ (copied ++ drop (length copied) (drop at items)))) items) ≡ (take at items ++ from) ++ drop (at + length from) items
+overwritten items copied from at len size same within =
+    let front : length (take at items) ≡ at = length-take-le at items (omega (arith, within)) in
+    let left : length (drop at items) ≡ length items - at = length-drop at items in
+    let behind : length (drop (length from) (drop at items)) ≡ length (drop at items) - length from = length-drop (length from) (drop at items) in
+    let joined : length (from ++ drop (length from) (drop at items)) ≡ length from + length (drop (length from) (drop at items)) = length-append from (drop (length from) (drop at items)) in
+    let all : length (take at items ++ (from ++ drop (length from) (drop at items))) ≡ length (take at items) + length (from ++ drop (length from) (drop at items)) = length-append (take at items) (from ++ drop (length from) (drop at items)) in
+    subst (λ (bytes : List ℕ). take len ((take at items ++ (bytes ++ drop (length bytes) (drop at items))) ++ drop (length (take at items ++ (bytes ++ drop (length bytes) (drop at items)))) items) ≡ (take at items ++ from) ++ drop (at + length from) items) (sym same)
+    (take_at (take at items ++ (from ++ drop (length from) (drop at items))) (drop (length (take at items ++ (from ++ drop (length from) (drop at items)))) items) len (omega (arith, within, front, left, behind, joined, all, size))
+    ∙ ap (λ (rest : List ℕ). take at items ++ (from ++ rest)) (drop-drop (length from) at items) ∙ sym (append_assoc (take at items) from (drop (at + length from) items)))

@@ -1,10 +1,16 @@
 -- What a call on a folder leaves, and how it is kept.
-use Rattle.std.proofs.Common.{◌≡◌, ◌≢◌, ◌++◌, ◌∷◌, [], ℕ, List, Result, Ok, Err, OnOk, OnErr, ap, inl, inr, true, false, IsTrue}
+use Rattle.std.proofs.Common.{◌≡◌, ◌≢◌, ◌⊎◌, ◌↔◌, ◌++◌, ◌∷◌, [], ℕ, List, Result, Ok, Err, OnOk, OnErr, Bool, ap, subst, inl, inr, true, false, IsTrue}
 use Rattle.std.proofs.lemmas.Bool.{false≢true}
 use Rattle.nsq_outside.specs.Files.{SameFiles}
 use Rattle.nsq_outside.specs.declared.folder.Listing.TheVariants.{Done, Memory, Failed}
+use Rattle.nsq_outside.specs.declared.folder.Length.TheVariants.{Is, Absent, Failed as NotMeasured}
+use Rattle.nsq_outside.specs.declared.folder.ReadAt.TheVariants.{Got, Failed as NotRead}
+use Rattle.std.specs.List.{Any}
+use Rattle.nsq_fakes.specs.Failings.{Hits}
 use Rattle.nsq_fakes.specs.Made.{Made, Joins}
 use Rattle.nsq_fakes.specs.MemFolders.{files_in, fails_of}
+use Rattle.nsq_fakes.specs.declared.folder_calls.Counts.{Counts}
+use Rattle.nsq_fakes.specs.declared.folder_calls.Failing.{Failing}
 use Rattle.nsq_fakes.specs.declared.folder_calls.FolderCall.{FolderCall}
 use Rattle.nsq_fakes.specs.declared.folder.MemFolder.{MemFolder}
 
@@ -38,3 +44,34 @@ failed_not_done same = cc
 
 pub memory_not_done : Memory ≢ Done
 memory_not_done same = cc
+
+-- and one that is done, or found no memory, didn't fail
+pub done_not_failed : Done ≢ Failed
+done_not_failed same = cc
+
+pub memory_not_failed : Memory ≢ Failed
+memory_not_failed same = cc
+
+-- a length that was found isn't a failure, and neither is that of no file
+pub is_not_failed : {n : ℕ} → Is n ≢ NotMeasured
+is_not_failed same = cc
+
+pub absent_not_failed : Absent ≢ NotMeasured
+absent_not_failed same = cc
+
+-- nor are bytes that were read
+pub got_not_failed : {n : ℕ} → Got n ≢ NotRead
+got_not_failed same = cc
+
+-- an answer that isn't a failure, of a call that isn't among those that fail
+pub not_refused : {A P : Type 0} → (A → ⊥) → IsTrue false ↔ P → A ↔ P
+not_refused never refused = (λ a. absurd (never a), λ p. absurd (false≢true (refused.1 p)))
+
+-- a call that is told from the list that it was lent
+pub refused_by : (counts : Counts) (call : FolderCall) (lent fails : List Failing) (refused : Bool) → lent ≡ fails → IsTrue refused ↔ Any (Hits counts call) lent → IsTrue refused ↔ Any (Hits counts call) fails
+refused_by counts call lent fails refused same told = subst (λ (listed : List Failing). IsTrue refused ↔ Any (Hits counts call) listed) same told
+
+-- two reasons, and one that isn't needed
+pub or_more : {P Q R : Type 0} → P ⊎ Q → P ⊎ Q ⊎ R
+or_more (inl p) = inl p
+or_more (inr q) = inr (inl q)

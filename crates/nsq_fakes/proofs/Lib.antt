@@ -6,3 +6,4 @@ pub mod PassedBytes
 pub mod Shown
 pub mod FolderCalls
 pub mod Results
+pub mod Callers

@@ -2,6 +2,8 @@ use Rattle.std.proofs.Common.{◌≡◌, ℕ, ◌^◌, ◌≤◌, List, [], leng
 use Rattle.std.proofs.lemmas.Grind.{common_steps}
 use Rattle.nsq_outside.specs.Files.{Files, SameFiles, OnlyChanges, IsTorn, IsWithin, WritesAt, Cuts, IsRenamed, Renames, written_at, cut_to}
 use Rattle.nsq_fakes.specs.MemFiles.{Sets}
+use Rattle.nsq_fakes.specs.declared.files.NoRoom.{NoRoom}
+use Rattle.nsq_fakes.specs.declared.files.NoRoom.TheVariants.{TooLong, Memory}
 use Rattle.nsq_outside.specs.declared.did.Did.{Did}
 use Rattle.nsq_outside.specs.declared.did.Did.TheVariants.{Done, Failed}
 
@@ -53,3 +55,19 @@ done_failed did done failed = cc
 pub behind_failed : {E : Type 0} (outcome : Result (Unit {0}) E) (did : Did) (P : Type 0) → OnOk outcome (did ≡ Done) → OnErr outcome P → did ≡ Failed → P
 behind_failed (Ok u) did P done p failed = absurd (done_failed did done failed)
 behind_failed (Err e) did P done p failed = p
+
+-- a change that wants memory, or was made, isn't too long
+pub memory_not_long : (outcome : Result (Unit {0}) NoRoom) → outcome ≡ Err Memory → outcome ≡ Err TooLong → ⊥
+memory_not_long outcome memory long = cc
+
+pub made_not_long : (outcome : Result (Unit {0}) NoRoom) → outcome ≡ Ok tt → outcome ≡ Err TooLong → ⊥
+made_not_long outcome made long = cc
+
+-- what holds anyway holds of each outcome
+pub of_good : {T E : Type 0} (outcome : Result T E) {P : Type 0} → P → OnOk outcome P
+of_good (Ok value) p = p
+of_good (Err error) p = tt
+
+pub of_bad : {T E : Type 0} (outcome : Result T E) {P : Type 0} → P → OnErr outcome P
+of_bad (Ok value) p = tt
+of_bad (Err error) p = p

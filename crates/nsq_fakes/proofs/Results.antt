@@ -12,6 +12,14 @@ pub from_err : {T E : Type 0} (outcome : Result T E) (P : Type 0) → true ≡ i
 from_err (Ok value) P bad p = absurd (false≢true (sym bad))
 from_err (Err error) P bad p = p
 
+pub from_good : {T E : Type 0} (outcome : Result T E) (P : Type 0) → is_ok outcome ≡ true → OnOk outcome P → P
+from_good (Ok value) P good p = p
+from_good (Err error) P good p = absurd (false≢true good)
+
+pub from_bad : {T E : Type 0} (outcome : Result T E) (P : Type 0) → is_ok outcome ≡ false → OnErr outcome P → P
+from_bad (Ok value) P bad p = absurd (false≢true (sym bad))
+from_bad (Err error) P bad p = p
+
 -- a copy of a text joined a list
 pub text_joins : (old mid new : List (String Global)) (text : String Global) (bytes : List ℕ) → new ≡ mid ++ text ∷ [] → mid ≡ old → string_bytes text ≡ bytes → map string_bytes new ≡ map string_bytes old ++ bytes ∷ []
 text_joins old mid new text bytes joins same is =

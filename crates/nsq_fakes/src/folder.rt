@@ -97,8 +97,9 @@ impl MemFolder {
         }
         if !is_kept {
             self.faults.add();
+            return true;
         }
-        !is_kept
+        false
     }
 }
 

@@ -1,5 +1,5 @@
 /// The answer of a call that is carried out or fails.
-#[derive(Clone, Copy, Debug, PartialEq, Eq)]
+#[derive(Clone, Copy, PartialEq, Eq)]
 pub enum Did {
     /// It was carried out.
     Done,

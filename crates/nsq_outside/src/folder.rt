@@ -6,7 +6,7 @@ use crate::Did;
 use std::alloc::Global;
 
 /// The answer of `Folder::list`.
-#[derive(Clone, Copy, Debug, PartialEq, Eq)]
+#[derive(Clone, Copy)]
 pub enum Listing {
     /// The names were appended.
     Done,
@@ -17,7 +17,7 @@ pub enum Listing {
 }
 
 /// The answer of `Folder::len`.
-#[derive(Clone, Copy, Debug, PartialEq, Eq)]
+#[derive(Clone, Copy, PartialEq, Eq)]
 pub enum Length {
     /// The file has so many bytes.
     Is(u64),
@@ -28,7 +28,7 @@ pub enum Length {
 }
 
 /// The answer of `Folder::read_at`.
-#[derive(Clone, Copy, Debug, PartialEq, Eq)]
+#[derive(Clone, Copy)]
 pub enum ReadAt {
     /// So many bytes stand at the start of the buffer.
     Got(usize),

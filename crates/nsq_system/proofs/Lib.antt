@@ -2,3 +2,5 @@ pub mod KnownTexts
 pub mod ClosedFiles
 pub mod Deliveries
 pub mod ErrorFrames
+pub mod Noted
+pub mod Heard

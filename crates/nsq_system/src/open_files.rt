@@ -182,7 +182,7 @@ where
             return self.lengthen(name, at);
         }
         let ready = self.open(name, true);
-        opened_file(&mut self.opened, name, ready)?.write_all_at(from, at)
+        write_if(&mut self.opened, name, ready, from, at)
     }
 }
 
@@ -507,6 +507,17 @@ fn read_opened<F: FileExt>(
     ensures limit { IfOk result (λ n. (n ≡ 0) ⊎ (at + n ≤ 2 ^ 62)) }
 {
     read_whole(opened_file(opened, name, ready)?, at, into)
+}
+
+/// Writes bytes at a place of a file that was opened, all of them.
+fn write_if<F: FileExt>(
+    opened: &mut LruCache<String, F>,
+    name: &str,
+    ready: io::Result<()>,
+    from: &[u8],
+    at: u64,
+) -> io::Result<()> {
+    opened_file(opened, name, ready)?.write_all_at(from, at)
 }
 
 /// Gives a file that was opened a number of bytes.

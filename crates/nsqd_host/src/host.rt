@@ -1,16 +1,17 @@
-ghost use Rattle.std.specs.Prelude.{◌≡◌, IfOk};
+ghost use Rattle.std.specs.Prelude.{◌≡◌, IfOk, IfSome, Some, true};
+ghost use Rattle.nsq_system.specs.Listeners.{has_http};
 
 use broker_history::Entry;
 use nsq_base::Memory;
 use nsq_outside::{Accept, Dialer, Dialled, Did, Faults, Host, Kit};
 use nsq_system::{DirFolder, Forgetful, Listeners, SysClock, TcpConn, TcpDialer};
 use std::alloc::Global;
-use std::fmt;
 use std::io::{Eprint, Print};
 use std::net::{Net, TcpStream};
 use std::os::unix::fs::FileExt;
 use std::rt::{Clock, Files};
 use std::sync::Wait;
+use std::{fmt, mem};
 
 /// The real machine, as the daemon sees it: TCP connections, a folder on disk, the system's clock, a journal that forgets, and
 /// the standard streams. It tells no content, and counts its faults. `N` is the runtime.
@@ -33,7 +34,7 @@ impl<N: Files + Clock + Net<Stream = TcpStream> + AllocGlobal + Clone + Drop> Sy
 where
     N::File: FileExt,
 {
-    ghost use Rattle.std.specs.Prelude.{IsTrue, true};
+    ghost use Rattle.std.specs.Prelude.{IsTrue};
     ghost use Rattle.nsqd_host.specs.SysHosts.{state_of, dial_faults_of, hears_http, IsAtHome};
 
     /// A host that has its kit at home and doesn't listen yet. Its folder is the one that the process runs in, until `start`
@@ -62,19 +63,39 @@ where
         ensures state { state_of self.new ≡ state_of self.old }
         ensures dial_faults { dial_faults_of self.new ≡ dial_faults_of self.old }
     {
-        let rt: Result<_, _> = self.rt.clone();
-        let Ok(rt) = rt else {
-            return false;
-        };
-        let Ok(listeners) = Listeners::open(rt, self.alloc, tcp, Some(http)) else {
+        let Some(listeners) = listen(&self.rt, self.alloc, tcp, http) else {
             return false;
         };
         if !move_folder(&mut self.kit, path) {
+            drop(listeners);
             return false;
         }
-        self.listeners = Some(listeners);
+        put(&mut self.listeners, listeners);
         true
     }
+}
+
+/// Listens at these addresses. None where it can't, or without memory.
+fn listen<N: Net + Clock + AllocGlobal + Clone + Drop>(
+    rt: &N,
+    alloc: Global,
+    tcp: &str,
+    http: &str,
+) -> Option<Listeners<N>>
+    ensures { IfSome result (λ listeners. has_http listeners ≡ true) }
+{
+    let rt: Result<_, _> = rt.clone();
+    let Ok(rt) = rt else {
+        return None;
+    };
+    Listeners::open(rt, alloc, tcp, Some(http)).ok()
+}
+
+/// Puts a value in its place. What stood there goes here, where nothing else is held beside it.
+fn put<T: Drop>(place: &mut Option<T>, value: T)
+    ensures { place.new ≡ Some value }
+{
+    drop(mem::replace(place, Some(value)));
 }
 
 /// A kit whose folder is the one that the process runs in.
@@ -168,7 +189,7 @@ impl<
 where
     N::File: FileExt + Send,
 {
-    ghost use Rattle.std.specs.Prelude.{refl, false, IsTrue, None, Some};
+    ghost use Rattle.std.specs.Prelude.{refl, false, IsTrue, None};
     ghost use Rattle.std.proofs.lemmas.Bool.{false≢true};
     ghost use Rattle.nsq_outside.specs.Hosts.{Accepts, AcceptFails, OnlyAcceptFaults};
     ghost use Rattle.nsq_system.specs.Listeners.{GoesOn, IsFreshTcpCaller, Speaks};
@@ -244,7 +265,7 @@ where
         ensures dials { no_dials self.new ≡ no_dials self.old }
         ensures dial_faults { dial_faults_of self.new ≡ dial_faults_of self.old }
     {
-        self.kit = Some(home);
+        put(&mut self.kit, home);
     }
 
     fn beside(&self) -> bool {
@@ -282,9 +303,9 @@ struct Line<'a>(&'a [u8]);
 impl fmt::Display for Line<'_> {
     fn fmt<W: fmt::Write>(&self, f: &mut fmt::Formatter<W>) -> fmt::Result {
         for chunk in self.0.utf8_chunks() {
-            write!(f, "{}", chunk.valid())?;
+            f.write_str(chunk.valid())?;
             if !chunk.invalid().is_empty() {
-                write!(f, "\u{fffd}")?;
+                f.write_str("\u{fffd}")?;
             }
         }
         Ok(())

@@ -17,8 +17,7 @@ use std::sync::Wait;
 // What a host in memory stands on.
 type MemKit = Kit<MemFolder, MemClock, MemJournal<Entry>>;
 
-/// What a run is given.
-#[derive(Drop)]
+/// What a run is given. It's used up and not dropped.
 pub struct Given {
     pub words: Vec<String>,
     pub callers: Vec<(Kind, MemConn)>,
@@ -47,8 +46,7 @@ pub fn nothing(rt: &impl Abort, alloc: Global) -> Given {
     }
 }
 
-/// What a run came to.
-#[derive(Drop)]
+/// What a run came to. Its files are left, and it isn't dropped.
 pub struct Outcome {
     pub status: u8,
     host: MemHost<Entry>,
@@ -75,6 +73,7 @@ pub fn run_with<R: Abort + Wait>(
     let mut host = host_of(rt, alloc, callers, kit);
     host.fail_at(accepts, prints, tells);
     let status = nsqd_run(rt, alloc, &words, &mut host);
+    drop(words);
     Outcome { status, host }
 }
 

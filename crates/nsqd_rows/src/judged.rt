@@ -69,8 +69,13 @@ fn is_rightly_shut(rt: &impl Abort, alloc: Global, files: &[NamedFile], outcome:
 // Whether an opening of these files may be refused with this line.
 fn may_refuse(rt: &impl Abort, alloc: Global, files: &[NamedFile], line: &[u8]) -> bool {
     let finding = found(alloc, files).expect(rt, "memory");
-    same(line, DISK_FAULT) || same(line, refusal(&finding))
+    let may = same(line, DISK_FAULT) || same(line, refusal(&finding));
+    let_go(finding);
+    may
 }
+
+// Takes what was found apart.
+fn let_go(_finding: Finding) {}
 
 // The line with which what was found is refused: that of a folder that failed, where nothing else is wrong with it.
 fn refusal(finding: &Finding) -> &'static [u8] {
@@ -107,19 +112,39 @@ fn begun(
     files: &[NamedFile],
     began: u64,
 ) -> Option<State> {
-    let Finding::Names(names) = found(alloc, files).expect(rt, "memory") else {
-        return None;
-    };
-    if names.epoch >= LAST_EPOCH {
-        return None;
+    let finding = found(alloc, files).expect(rt, "memory");
+    let state = begun_by(rt, alloc, options, &finding, began);
+    let_go(finding);
+    state
+}
+
+fn begun_by(
+    rt: &impl Abort,
+    alloc: Global,
+    options: &Options,
+    finding: &Finding,
+    began: u64,
+) -> Option<State> {
+    match finding {
+        Finding::Names(names) if names.epoch < LAST_EPOCH => {
+            Some(start(alloc, names, options, began).expect(rt, "memory"))
+        }
+        _ => None,
     }
-    Some(start(alloc, &names, options, began).expect(rt, "memory"))
 }
 
 /// Whether an opening of these files finds all that one of the states leaves, and nothing else. Behind the last epoch it finds that none is left.
 pub fn is_kept(rt: &impl Abort, alloc: Global, states: &[State], files: &[NamedFile]) -> bool {
-    match found(alloc, files).expect(rt, "memory") {
-        Finding::Names(names) => one_leaves(rt, alloc, states, &names),
+    let finding = found(alloc, files).expect(rt, "memory");
+    let kept = keeps(rt, alloc, states, &finding);
+    let_go(finding);
+    kept
+}
+
+// Whether this finds all that one of the states leaves, and nothing else.
+fn keeps(rt: &impl Abort, alloc: Global, states: &[State], finding: &Finding) -> bool {
+    match finding {
+        Finding::Names(names) => one_leaves(rt, alloc, states, names),
         Finding::EpochSpent => are_last(states),
         Finding::BadData => false,
     }

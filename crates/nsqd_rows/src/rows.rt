@@ -22,8 +22,8 @@ use crate::files::{add_file, found_in};
 use crate::hosts::{Given, Outcome, nothing, run_with};
 use crate::judged::{is_served, noted_wrong};
 use crate::setting::{add_words, options_of};
-use crate::tables::{drill_rows, tables};
-use crate::texts::{bytes_of, cut, number, part, put_answer, put_got, same};
+use crate::tables::{client_rows, drill_rows, host_rows, http_rows};
+use crate::texts::{bytes_of, cut, number, part, put_answer, put_got, same, unknown};
 use broker_history::Ended;
 use nsq_base::{Body, Options};
 use nsq_fakes::{Failing, FolderCall, MemConn, Piece};
@@ -87,7 +87,7 @@ fn add_caller(
     let kind = match word {
         "tcp" | "tcp-closed" => Kind::Tcp,
         "http" => Kind::Http,
-        _ => panic!(rt; "{word} {words} says nothing of a run"),
+        _ => unknown(rt, word),
     };
     let mut pieces = Vec::new(alloc);
     if !words.is_empty() {
@@ -126,7 +126,7 @@ fn fail(rt: &impl Abort, given: &mut Given, words: &str) {
         "WriteAt" => FolderCall::WriteAt,
         "Rename" => FolderCall::Rename,
         "Any" => FolderCall::Any,
-        _ => panic!(rt; "{name} is no call that fails"),
+        _ => unknown(rt, name),
     };
     let (from, to) = part(rt, numbers, " to ");
     let calls = Failing {
@@ -149,7 +149,7 @@ fn end<'a>(rt: &impl Abort, ends: &mut Ends<'a>, line: &'a str) {
         ("told", line) => ends.line = line,
         ("printed", printed) => ends.printed = printed,
         ("unused", "") => ends.unused = true,
-        _ => panic!(rt; "no run ends {line}"),
+        _ => unknown(rt, line),
     }
 }
 
@@ -369,21 +369,28 @@ fn check<R: Abort + Wait>(rt: &R, alloc: Global, row: &str) {
     if wrong.is_some() {
         wrong = differs(rt, alloc, runs);
     }
-    assert!(rt; wrong.is_none(), "{}: {}", name, wrong.unwrap_or(""));
+    if let Some(wrong) = wrong {
+        panic!(rt; "{name}: {wrong}");
+    }
 }
 
-#[test]
-fn rows(rt: HostRuntime) {
-    for table in &tables() {
+// The same of each row of these tables.
+fn check_all<R: Abort + Wait>(rt: &R, alloc: Global, tables: &[&'static str]) {
+    for table in tables {
         for row in table.trim().split("\n\n") {
-            check(&rt, rt.alloc(), row);
+            check(rt, alloc, row);
         }
     }
 }
 
 #[test]
+fn rows(rt: HostRuntime) {
+    check_all(&rt, rt.alloc(), &client_rows());
+    check_all(&rt, rt.alloc(), &host_rows());
+    check_all(&rt, rt.alloc(), &http_rows());
+}
+
+#[test]
 fn printed_drills(rt: HostRuntime) {
-    for row in drill_rows().trim().split("\n\n") {
-        check(&rt, rt.alloc(), row);
-    }
+    check_all(&rt, rt.alloc(), &[drill_rows()]);
 }

@@ -2,7 +2,7 @@
 
 ghost use Rattle.nsq_base.specs.Options.{IsInRange};
 
-use crate::texts::{cut, number};
+use crate::texts::{cut, number, unknown};
 use nsq_base::Options;
 use std::alloc::Global;
 use std::process::Abort;
@@ -30,7 +30,7 @@ fn set(rt: &impl Abort, options: &mut Options, words: &str) {
         ("timeout", time) => options.msg_timeout = number(rt, time),
         ("unsaved", time) => options.sync_timeout = number(rt, time),
         ("stops", "") => options.http_stop = true,
-        _ => panic!(rt; "no option says {words}"),
+        _ => unknown(rt, words),
     }
 }
 

@@ -16,17 +16,24 @@ pub fn drill_rows() -> &'static str {
     drills::ROWS
 }
 
-/// All others.
-pub fn tables() -> [&'static str; 12] {
+/// Those of clients of TCP, and of a run and the next one.
+pub fn client_rows() -> [&'static str; 4] {
     [
         publishes::ROWS,
         channels::ROWS,
         moments::ROWS,
         restarts::ROWS,
-        words::ROWS,
-        openings::ROWS,
-        faults::ROWS,
-        hosts::ROWS,
+    ]
+}
+
+/// Those of words, of openings, and of a machine that fails.
+pub fn host_rows() -> [&'static str; 4] {
+    [words::ROWS, openings::ROWS, faults::ROWS, hosts::ROWS]
+}
+
+/// Those of callers of HTTP.
+pub fn http_rows() -> [&'static str; 4] {
+    [
         http::publishes::ROWS,
         http::pauses::ROWS,
         http::stops::ROWS,

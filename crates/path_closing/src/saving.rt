@@ -17,7 +17,7 @@ use nsq_outside::{Clock, Did, Folder, Journal};
 use std::alloc::Global;
 
 /// How saving the names ended.
-#[derive(Clone, Copy, PartialEq, Eq)]
+#[derive(Clone, Copy)]
 pub enum Saved {
     /// They are in the folder, durably.
     Done,

@@ -18,7 +18,7 @@ use nsq_outside::{Clock, Did, Folder, Journal, Kit};
 use std::alloc::Global;
 
 /// How a floor was shut.
-#[derive(Clone, Copy, PartialEq, Eq)]
+#[derive(Clone, Copy)]
 pub enum ShutEnd {
     /// All that was left is in the folder, durably: the messages and the names.
     Clean,

@@ -35,7 +35,7 @@ use Rattle.floor_rooms.specs.Made.{IsEmptyHall, empty_state}
 use Rattle.floor_rooms.specs.Standing.{HoldsFor, StandsFor}
 use Rattle.broker_floor.specs.Held.{Held}
 use Rattle.broker_floor.specs.Opened.{FindsQueue, IsBad, ListsStay}
-use Rattle.broker_floor.proofs.Leaving.{lists_then}
+use Rattle.broker_floor.proofs.Found.{lists_then}
 use Rattle.path_opening.specs.Adding.{AddsTopics, Fills, FindsAll, HasNames, HasBadOf, HasOthersOnly, IsAdded, IsElsewhere, IsFilled, IsGood, IsNotAdded, IsNotFilled, IsNotSaved, IsOldOrKeeps, IsReady, IsUnread, IsWhyNotAdded, IsWhyNotSaved, OnlyFilledFiles, SameList, why_unswept}
 use Rattle.path_opening.specs.Opening.KeepsIn.{absent, written}
 use Rattle.path_opening.specs.Opening.{FindsAgain, HaveBytes, IsNamesFinding, IsOpenedHall, IsRefusal, IsWhy, KeepsIn, OnlyOpeningFiles, Raises}

@@ -33,7 +33,7 @@ use Rattle.floor_rooms.specs.Rooms.{put_room, room_in, topic_name}
 use Rattle.floor_rooms.specs.Standing.{StandsFor}
 use Rattle.floor_rooms.proofs.Staying.{other_topic, topic_is_no_channel}
 use Rattle.broker_floor.specs.Opened.{AreApart, BadStays, FindsBack, FindsQueue, FindsThem, IsBad, ListsStay, NoneIsBad, OnlyTheirFiles, OpensRoom, OpensTo, RefusesTopic, kept_channels, opened_topic}
-use Rattle.broker_floor.proofs.Leaving.{back_then, bad_then, lists_then}
+use Rattle.broker_floor.proofs.Found.{back_then, bad_then, lists_then}
 use Rattle.broker_floor.proofs.Parting.{all_front, all_last, last_of, name_apart, or_parts}
 use Rattle.broker_floor.specs.Held.{Held}
 use Rattle.path_opening.specs.Adding.{AddsOne, AddsTopics, HasOthersOnly, IsAdded, PutsTopic, why_of, FindsAll, HasBadOf, HasOnlyTopics, IsElsewhere, IsGood, IsNotAdded, IsNotOne, IsWhyNotAdded, IsWhyNotOne, OnlyFilesOf, SameList, StandsWith, pauses}

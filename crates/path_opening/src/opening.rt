@@ -16,7 +16,7 @@ use nsq_outside::{Clock, Folder, Journal, Kit};
 use std::alloc::Global;
 
 /// Why a folder wasn't opened.
-#[derive(Clone, Copy, Debug, PartialEq, Eq)]
+#[derive(Clone, Copy)]
 pub enum Why {
     /// The file of names, or the metadata of a queue that it lists, isn't in its grammar.
     BadData,

@@ -1,7 +1,8 @@
 -- What the plain opening of a folder reads, list by list.
-use Rattle.std.proofs.Common.{◌≡◌, ℕ, ◌+◌, ◌<◌, ◌≤◌, List, [], ◌∷◌, ◌++◌, length, map, take, get_or, codes, Option, Some, None, sym, subst, arith}
-use Rattle.std.specs.List.{All, AllByRecursion}
-use Rattle.std.proofs.lemmas.List.Elements.{All-from_recursion, Contains-append_right}
+use Rattle.std.proofs.Common.{◌≡◌, ℕ, ◌+◌, ◌<◌, ◌≤◌, List, [], ◌∷◌, ◌++◌, length, map, take, get_or, codes, Option, Some, None, sym, ap, subst, ◌∙◌, arith}
+use Rattle.std.specs.List.{All, AllByRecursion, Contains}
+use Rattle.std.proofs.lemmas.List.{get_or-map, length-map, take_all}
+use Rattle.std.proofs.lemmas.List.Elements.{All-from_recursion, Contains-append_right, Contains-get_or}
 use Rattle.serde_json.specs.Data as json
 use Rattle.serde_json.specs.Find.{get_member}
 use Rattle.nsq_outside.specs.Files.{Files}
@@ -29,6 +30,27 @@ module _ {X Y : Type 0} (R : X → Y → Type 0) where
   pub pairwise_next : (xs : List X) (i : ℕ) (d x : X) (ys more : List Y) (y : Y) → i < length xs → x ≡ get_or xs i d → Pairwise R (take i xs) ys → R x y → more ≡ ys ++ y ∷ []
       → Pairwise R (take (i + 1) xs) more
   pairwise_next xs i d x ys more y l is h r m = rw (take_next xs i d l, ← is, m) (pairwise_more (take i xs) ys x y h r)
+
+  -- what a loop over the whole list has added
+  pub pairwise_all : (xs : List X) (i : ℕ) (ys : List Y) → length xs ≤ i → Pairwise R (take i xs) ys → Pairwise R xs ys
+  pairwise_all xs i ys l h = subst (λ zs. Pairwise R zs ys) (take_all i xs l) h
+
+-- the element at a place is one of the list's
+contains_at : {X : Type 0} (xs : List X) (i : ℕ) (d x : X) → i < length xs → x ≡ get_or xs i d → Contains xs x
+contains_at xs i d x l is = subst (Contains xs) (sym is) (Contains-get_or xs i d l)
+
+-- what the element at a place is made into is one of those that the list's are made into
+contains_made : {X Y : Type 0} (f : X → Y) (xs : List X) (i : ℕ) (d x : X) → i < length xs → x ≡ get_or xs i d → Contains (map f xs) (f x)
+contains_made f xs i d x l is = contains_at (map f xs) i (f d) (f x) (subst (λ n. i < n) (sym (length-map xs f)) l) (ap f is ∙ sym (get_or-map f xs i d (f d) l))
+
+-- the queue of the channel at a place has bad metadata
+pub bad_channel_at : (files : Files) (topic : List ℕ) (kept : List KeptChannel) (i : ℕ) (d x : KeptChannel) → i < length kept → x ≡ get_or kept i d → IsFoundQueue files (channel_queue topic x.name) BadMeta
+    → HasBadMeta files (map (λ (c : KeptChannel). channel_queue topic c.name) kept)
+bad_channel_at files topic kept i d x l is bad = record { name = channel_queue topic x.name; own = contains_made (λ (c : KeptChannel). channel_queue topic c.name) kept i d x l is; bad = bad }
+
+-- a queue of the topic at a place has bad metadata
+pub bad_topic_at : (files : Files) (kept : List KeptTopic) (i : ℕ) (d x : KeptTopic) → i < length kept → x ≡ get_or kept i d → HasBadMeta files (queues_of x) → HasBadTopic files kept
+bad_topic_at files kept i d x l is bad = record { topic = x; listed = contains_at kept i d x l is; bad = bad }
 
 -- the queue of one of a topic's channels has bad metadata
 pub bad_of_channel : (files : Files) (topic : KeptTopic) (name : List ℕ) (channels : List KeptChannel) → name ≡ topic.name → channels ≡ topic.channels

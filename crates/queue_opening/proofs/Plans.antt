@@ -10,9 +10,9 @@ use Rattle.std.specs.declared.alloc.Global.{Global}
 use Rattle.nsq_outside.specs.Files.{AppendsListing, BeginsWith, Files, ReadsAt}
 use Rattle.nsq_outside.specs.declared.folder.ReadAt.TheVariants.{Got}
 use Rattle.queue_image.specs.FileNames.{data_file, file_beginning, file_digits}
-use Rattle.queue_image.specs.Metas.{Meta, IsMeta}
+use Rattle.queue_image.specs.Metas.{Meta, IsMeta, Says}
 use Rattle.queue_image.specs.Places.{IsOrdered, IsInRange, distance}
-use Rattle.queue_image.specs.Answered.{NumbersFile}
+use Rattle.queue_image.specs.Answered.{NumbersFile, ReadsMeta}
 use Rattle.queue_image.specs.declared.positions.Positions.{Positions}
 use Rattle.queue_image.proofs.Naming.{one_number}
 use Rattle.queue_opening.specs.Walked.{HasNumbers, WalkFits}
@@ -62,16 +62,26 @@ spoilt_long (Some bytes) f1 m n into new is same r past = record {
   none = λ meta i. let long = meta_long bytes meta i in omega (arith, long, past, r.0, ap (λ (o : Option (List ℕ)). length (unwrap_or o [])) same);
 }
 
+-- the whole text of a file was read
+whole_read : (bytes : List ℕ) (f1 : Option (List ℕ)) (n : ℕ) (into new text : List ℕ) → f1 ≡ Some bytes → ReadsAt f1 0 into new (Got n) → length into ≡ 206 → n ≤ 205 → text ≡ take n new → text ≡ bytes
+whole_read bytes f1 n into new text same r room few e =
+    let size : n ≡ length bytes = omega (arith, r.0, room, few, ap (λ (o : Option (List ℕ)). length (unwrap_or o [])) same) in
+    let front : take n (drop 0 (unwrap_or f1 [])) ≡ bytes = ap (λ (o : Option (List ℕ)). take n (unwrap_or o [])) same ∙ take_all n bytes (omega (arith, size)) in
+    e ∙ ap (take n) r.1 ∙ ap (λ (x : List ℕ). take n (x ++ drop n into)) front ∙ take_at bytes (drop n into) n (sym size)
+
 -- a file whose whole text is none
 pub spoilt_read : (f0 f1 : Option (List ℕ)) (m n : ℕ) (into new text : List ℕ) → IsSomeAnd f0 (λ bytes. m ≡ length bytes) → f1 ≡ f0 → ReadsAt f1 0 into new (Got n) → length into ≡ 206 → n ≤ 205
     → text ≡ take n new → ((meta : Meta) → ¬ IsMeta text meta) → IsSpoilt f0
 spoilt_read None f1 m n into new text is same r room few e none = absurd is
 spoilt_read (Some bytes) f1 m n into new text is same r room few e none =
-    let size : n ≡ length bytes = omega (arith, r.0, room, few, ap (λ (o : Option (List ℕ)). length (unwrap_or o [])) same) in
-    let front : take n (drop 0 (unwrap_or f1 [])) ≡ bytes = ap (λ (o : Option (List ℕ)). take n (unwrap_or o [])) same ∙ take_all n bytes (omega (arith, size)) in
-    let whole : text ≡ bytes
-    = e ∙ ap (take n) r.1 ∙ ap (λ (x : List ℕ). take n (x ++ drop n into)) front ∙ take_at bytes (drop n into) n (sym size) in
-    record { text = bytes; there = refl; none = λ meta i. none meta (subst (λ (x : List ℕ). IsMeta x meta) (sym whole) i) }
+    record { text = bytes; there = refl; none = λ meta i. none meta (subst (λ (x : List ℕ). IsMeta x meta) (sym (whole_read bytes f1 n into new text same r room few e)) i) }
+
+-- a file whose whole text is metadata
+pub says_read : (f0 f1 : Option (List ℕ)) (m n : ℕ) (into new text : List ℕ) (p : Positions) → IsSomeAnd f0 (λ bytes. m ≡ length bytes) → f1 ≡ f0 → ReadsAt f1 0 into new (Got n) → length into ≡ 206 → n ≤ 205
+    → text ≡ take n new → ReadsMeta text (Some p) → Says f0 p
+says_read None f1 m n into new text p is same r room few e read = absurd is
+says_read (Some bytes) f1 m n into new text p is same r room few e read =
+    record { text = bytes; depth = read.0; there = refl; is = subst (λ (x : List ℕ). IsMeta x (record { depth = read.0; positions = p })) (whole_read bytes f1 n into new text same r room few e) read.1 }
 
 -- the number of a data file is added
 pub adds_number : (name file' file old new : List ℕ) (number : ℕ) (o : Option ℕ) → o ≡ Some number → NumbersFile name file' o → file' ≡ file → new ≡ old ++ number ∷ [] → AddsNumber name file old new

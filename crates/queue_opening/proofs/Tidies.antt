@@ -1,6 +1,7 @@
 -- What an opening does with a queue's files, all together.
 use Rattle.std.proofs.Common.{◌≡◌, ℕ, ◌^◌, ◌<◌, ◌≤◌, ◌⊎◌, List, [], length, Option, Some, None, IsSome, unwrap_or, refl, sym, ◌∙◌, ap, subst, inl, inr, arith}
 use Rattle.std.specs.List.{Contains}
+use Rattle.nsq_outside.specs.Causes.{DidFails}
 use Rattle.nsq_outside.specs.Files.{Files, OnlyChanges, Cuts, cut_to}
 use Rattle.nsq_outside.specs.declared.did.Did.{Did}
 use Rattle.nsq_outside.specs.declared.did.Did.TheVariants.{Done, Failed}
@@ -172,6 +173,11 @@ module _ (name : List ℕ) (plan : Plan) (i : IsPlan plan) where
       cut = λ not. cut ∙ ap (λ (x : Option (List ℕ)). Some (cut_to (unwrap_or x []) plan.positions.write_at)) (write_same not);
       ends = ap (λ (x : Option (List ℕ)). length (unwrap_or x [])) cut ∙ length-cut_to (unwrap_or (f3 (data_file name write)) []) plan.positions.write_at;
     }
+
+-- a fault in a later part is one in the call
+pub did_later : (before mid now : ℕ) (did : Did) → before ≤ mid → DidFails mid now did → DidFails before now did
+did_later before mid now Done low fails = tt
+did_later before mid now Failed low fails = omega (arith, low, fails)
 
 -- the names and the numbers as they are
 pub as_named : (P : List ℕ → List ℕ → Type 0) (a b xs ys : List ℕ) → a ≡ b → xs ≡ ys → P a xs → P b ys

@@ -9,9 +9,9 @@
 
 use crate::folders::folder_failing;
 use crate::plain::found;
-use crate::same;
 use crate::stand::{ROLLING, Stand, let_go, stand_of};
 use crate::text::{cut, number, part, unknown};
+use crate::{is, same};
 use disk_queue::{Emptied, Put, Sync, Take};
 use nsq_base::Bodies;
 use nsq_fakes::{FolderCall, MemFolder};
@@ -73,18 +73,23 @@ fn is_right(
     letters: &mut Letters,
     word: &str,
 ) -> bool {
-    match word {
-        "put" => put(rt, stand, letters),
-        "take" => take(rt, stand, letters),
-        "sync" => {
-            stand.sync();
-            true
-        }
-        "save" => stand.sync() != Sync::Failed,
-        "empty" => empty(rt, alloc, stand, letters),
-        "count" => stand.queue.depth() == letters.next.saturating_sub(letters.first) as u128,
-        "delete" => delete(rt, alloc, stand, letters),
-        _ => unknown(rt, word),
+    if is(word, "put") {
+        put(rt, stand, letters)
+    } else if is(word, "take") {
+        take(rt, stand, letters)
+    } else if is(word, "sync") {
+        stand.sync();
+        true
+    } else if is(word, "save") {
+        stand.sync() != Sync::Failed
+    } else if is(word, "empty") {
+        empty(rt, alloc, stand, letters)
+    } else if is(word, "count") {
+        stand.queue.depth() == letters.next.saturating_sub(letters.first) as u128
+    } else if is(word, "delete") {
+        delete(rt, alloc, stand, letters)
+    } else {
+        unknown(rt, word)
     }
 }
 

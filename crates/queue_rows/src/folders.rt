@@ -11,14 +11,17 @@ use std::process::Abort;
 
 /// A folder with the files that are told, of which these calls fail.
 pub fn folder_of(rt: &impl Abort, alloc: Global, files: &str, fails: Vec<Failing>) -> MemFolder {
+    let files = files_told(rt, alloc, files);
+    MemFolder::new(alloc, files, fails).expect(rt, "memory")
+}
+
+fn files_told(rt: &impl Abort, alloc: Global, files: &str) -> Vec<(String, Vec<u8>)> {
     let mut all = Vec::new(alloc);
-    for file in files.split(';') {
-        let file = file.trim();
-        if !file.is_empty() {
-            all.push(file_told(rt, alloc, file)).expect(rt, "memory");
-        }
+    for file in files.trim().split_terminator(';') {
+        let file = file_told(rt, alloc, file.trim());
+        all.push(file).expect(rt, "memory");
     }
-    MemFolder::new(alloc, all, fails).expect(rt, "memory")
+    all
 }
 
 /// The same where the calls that fail are told too.
@@ -56,12 +59,9 @@ fn named<'a>(rt: &impl Abort, file: &'a str) -> (&'a str, &'a str) {
 /// The files that are told, as the plain program takes them.
 pub fn named_files(rt: &impl Abort, alloc: Global, files: &str) -> Vec<NamedFile> {
     let mut all = Vec::new(alloc);
-    for file in files.split(';') {
-        let file = file.trim();
-        if !file.is_empty() {
-            let (name, bytes) = named(rt, file);
-            put_file(rt, alloc, &mut all, name, &bytes_of(rt, alloc, bytes));
-        }
+    for file in files.trim().split_terminator(';') {
+        let (name, bytes) = named(rt, file.trim());
+        put_file(rt, alloc, &mut all, name, &bytes_of(rt, alloc, bytes));
     }
     all
 }
@@ -82,11 +82,8 @@ pub fn put_file(
 /// Whether each file is what is told of it.
 pub fn all_told(rt: &impl Abort, alloc: Global, folder: &MemFolder, looks: &str) -> bool {
     let mut all = true;
-    for look in looks.split(';') {
-        let look = look.trim();
-        if !look.is_empty() {
-            all = all && is_told(rt, alloc, folder, look);
-        }
+    for look in looks.trim().split_terminator(';') {
+        all = all && is_told(rt, alloc, folder, look.trim());
     }
     all
 }
@@ -95,13 +92,17 @@ pub fn all_told(rt: &impl Abort, alloc: Global, folder: &MemFolder, looks: &str)
 pub fn is_told(rt: &impl Abort, alloc: Global, folder: &MemFolder, look: &str) -> bool {
     match look.split_once(" absent") {
         Some((name, "")) => folder.file(name).is_none(),
-        _ => {
-            let (name, bytes) = named(rt, look);
-            match folder.file(name) {
-                Some(found) => same(found, &bytes_of(rt, alloc, bytes)),
-                None => false,
-            }
-        }
+        _ => is_there(rt, alloc, folder, look),
+    }
+}
+
+// Whether a file is there, with the bytes that are told.
+fn is_there(rt: &impl Abort, alloc: Global, folder: &MemFolder, file: &str) -> bool {
+    let (name, bytes) = named(rt, file);
+    let bytes = bytes_of(rt, alloc, bytes);
+    match folder.file(name) {
+        Some(found) => same(found, &bytes),
+        None => false,
     }
 }
 
@@ -109,12 +110,9 @@ pub fn is_told(rt: &impl Abort, alloc: Global, folder: &MemFolder, look: &str) -
 pub fn are_behind(rt: &impl Abort, called: &[Called], before: usize, calls: &str) -> bool {
     let mut place = before;
     let mut all = true;
-    for call in calls.split(';') {
-        let call = call.trim();
-        if !call.is_empty() {
-            all = all && is_call(rt, called, place, call);
-            place = place.saturating_add(1);
-        }
+    for call in calls.trim().split_terminator(';') {
+        all = all && is_call(rt, called, place, call.trim());
+        place = place.saturating_add(1);
     }
     all && place == called.len()
 }

@@ -42,6 +42,12 @@ pub(crate) fn same(one: &[u8], other: &[u8]) -> bool {
     one == other
 }
 
+// Whether the words are the same.
+#[cfg(test)]
+pub(crate) fn is(one: &str, other: &str) -> bool {
+    one == other
+}
+
 // Stops the test where the row of that name doesn't hold.
 #[cfg(test)]
 pub(crate) fn check(rt: &impl Abort, holds: bool, name: &str) {

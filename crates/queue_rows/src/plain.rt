@@ -34,13 +34,10 @@ pub fn found(rt: &impl Abort, alloc: Global, folder: &MemFolder, least: u32) -> 
 pub fn are(rt: &impl Abort, alloc: Global, found: &Bodies, bodies: &str) -> bool {
     let mut place = 0usize;
     let mut all = true;
-    for body in bodies.split(';') {
-        let body = body.trim();
-        if !body.is_empty() {
-            let body = bytes_of(rt, alloc, body);
-            all = all && place < found.count() && same(found.get(place).bytes(), &body);
-            place = place.saturating_add(1);
-        }
+    for body in bodies.trim().split_terminator(';') {
+        let body = bytes_of(rt, alloc, body.trim());
+        all = all && place < found.count() && same(found.get(place).bytes(), &body);
+        place = place.saturating_add(1);
     }
     all && place == found.count()
 }

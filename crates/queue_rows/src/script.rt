@@ -14,7 +14,7 @@
 use crate::folders::{all_told, are_behind, folder_told, is_told};
 use crate::stand::{ROLLING, SHORT, Stand, WIDE, let_go, stand_of};
 use crate::text::{bytes_of, cut, cut_at, is_done, number, part, size, sync_of, unknown};
-use crate::{check, opening, order, reading, writing};
+use crate::{check, is, opening, order, reading, writing};
 use disk_queue::{Emptied, Peek, Put, QueueOptions, Take, replace_file};
 use nsq_fakes::MemFolder;
 use nsq_outside::{Did, Folder};
@@ -23,11 +23,14 @@ use std::process::Abort;
 
 // The options of that name.
 fn options_of(rt: &impl Abort, word: &str) -> QueueOptions {
-    match word {
-        "rolling" => ROLLING,
-        "short" => SHORT,
-        "wide" => WIDE,
-        _ => unknown(rt, word),
+    if is(word, "rolling") {
+        ROLLING
+    } else if is(word, "short") {
+        SHORT
+    } else if is(word, "wide") {
+        WIDE
+    } else {
+        unknown(rt, word)
     }
 }
 
@@ -66,9 +69,8 @@ fn plays_all(rt: &impl Abort, alloc: Global, stand: &mut Stand, name: &str, step
 
 // Plays the steps up to one that doesn't hold.
 fn plays(rt: &impl Abort, alloc: Global, stand: &mut Stand, name: &str, steps: &str) -> bool {
-    for step in steps.split(';') {
-        let step = step.trim();
-        if !step.is_empty() && !step_holds(rt, alloc, stand, name, step) {
+    for step in steps.trim().split_terminator(';') {
+        if !step_holds(rt, alloc, stand, name, step.trim()) {
             return false;
         }
     }
@@ -87,38 +89,87 @@ fn makes(rt: &impl Abort, alloc: Global, stand: &mut Stand, name: &str, then: &s
 fn step_holds(rt: &impl Abort, alloc: Global, stand: &mut Stand, name: &str, step: &str) -> bool {
     let (call, answer) = cut_at(step, " => ");
     let (word, rest) = cut(call);
-    match word {
-        "put" | "forget" | "commit" | "peek" | "take" => {
-            record_holds(rt, stand, word, &bytes_of(rt, alloc, rest), answer)
-        }
-        "sync" => stand.sync() == sync_of(rt, answer),
-        "empty" => (stand.empty() == Emptied::Done) == is_done(rt, answer),
-        "open" => {
-            stand.open(alloc, name).is_ok() && stand.queue.depth() == u128::from(number(rt, answer))
-        }
-        "depth" => stand.queue.depth() == u128::from(number(rt, answer)),
-        "delete" => stand.delete(rt, alloc, name) && answer.is_empty(),
-        _ => folder_holds(rt, alloc, &mut stand.folder, word, rest, answer),
+    if is_of(word, "put forget commit peek take") {
+        record_holds(rt, alloc, stand, word, rest, answer)
+    } else if is_of(word, "replace write cut look") {
+        folder_holds(rt, alloc, &mut stand.folder, word, rest, answer)
+    } else {
+        queue_holds(rt, alloc, stand, name, word, answer)
     }
+}
+
+// Whether a word is one of these.
+fn is_of(word: &str, words: &str) -> bool {
+    for one in words.split(' ') {
+        if is(one, word) {
+            return true;
+        }
+    }
+    false
+}
+
+// Whether a step that tells no record and no file answers what it says.
+fn queue_holds(
+    rt: &impl Abort,
+    alloc: Global,
+    stand: &mut Stand,
+    name: &str,
+    word: &str,
+    answer: &str,
+) -> bool {
+    if is(word, "sync") {
+        stand.sync() == sync_of(rt, answer)
+    } else if is(word, "empty") {
+        (stand.empty() == Emptied::Done) == is_done(rt, answer)
+    } else if is(word, "open") {
+        stand.open(alloc, name).is_ok() && has(rt, stand, answer)
+    } else if is(word, "depth") {
+        has(rt, stand, answer)
+    } else if is(word, "delete") {
+        stand.delete(rt, alloc, name) && answer.is_empty()
+    } else {
+        unknown(rt, word)
+    }
+}
+
+// Whether the queue has so many records.
+fn has(rt: &impl Abort, stand: &Stand, answer: &str) -> bool {
+    stand.queue.depth() == u128::from(number(rt, answer))
 }
 
 // Whether a step with a record answers what it says.
 fn record_holds(
     rt: &impl Abort,
+    alloc: Global,
     stand: &mut Stand,
     word: &str,
-    bytes: &[u8],
+    rest: &str,
     answer: &str,
 ) -> bool {
-    let mut into = [0; 60];
-    match word {
-        "put" => stand.put(rt, bytes) == put_of(rt, answer),
-        "forget" => stand.forget(rt, bytes),
-        "commit" => stand.commit(rt, bytes, sync_of(rt, answer)),
-        "peek" => { stand.peek(rt, &mut into) == peek_of(rt, answer) && into.starts_with(bytes) }
-        "take" => { stand.take(rt, &mut into) == take_of(rt, answer) && into.starts_with(bytes) }
-        _ => unknown(rt, word),
+    let bytes = bytes_of(rt, alloc, rest);
+    if is(word, "put") {
+        stand.put(rt, &bytes) == put_of(rt, answer)
+    } else if is(word, "forget") {
+        stand.forget(rt, &bytes)
+    } else if is(word, "commit") {
+        stand.commit(rt, &bytes, sync_of(rt, answer))
+    } else if is(word, "peek") {
+        peeks(rt, stand, &bytes, answer)
+    } else {
+        takes(rt, stand, &bytes, answer)
     }
+}
+
+// Whether the first record is read, and begins so.
+fn peeks(rt: &impl Abort, stand: &mut Stand, bytes: &[u8], answer: &str) -> bool {
+    let mut into = [0; 60];
+    stand.peek(rt, &mut into) == peek_of(rt, answer) && into.starts_with(bytes)
+}
+
+// The same where it is taken.
+fn takes(rt: &impl Abort, stand: &mut Stand, bytes: &[u8], answer: &str) -> bool {
+    let mut into = [0; 60];
+    stand.take(rt, &mut into) == take_of(rt, answer) && into.starts_with(bytes)
 }
 
 // Whether a step that isn't a call of the queue answers what it says.
@@ -130,69 +181,84 @@ fn folder_holds(
     rest: &str,
     answer: &str,
 ) -> bool {
-    let (name, place) = cut(rest);
-    match word {
-        "replace" => {
-            let bytes = bytes_of(rt, alloc, rest);
-            (replace_file(folder, "a", "b", &bytes) == Did::Done) == is_done(rt, answer)
-        }
-        "write" => {
-            let (place, bytes) = cut(place);
-            let bytes = bytes_of(rt, alloc, bytes);
-            folder.write_at(name, number(rt, place), &bytes) == Did::Done
-        }
-        "cut" => folder.cut(name, number(rt, place)) == Did::Done,
-        "look" => is_told(rt, alloc, folder, rest),
-        _ => unknown(rt, word),
+    if is(word, "look") {
+        is_told(rt, alloc, folder, rest)
+    } else if is(word, "replace") {
+        let bytes = bytes_of(rt, alloc, rest);
+        (replace_file(folder, "a", "b", &bytes) == Did::Done) == is_done(rt, answer)
+    } else {
+        is_changed(rt, alloc, folder, word, rest)
     }
+}
+
+// Whether somebody else writes to a file, or cuts it.
+fn is_changed(
+    rt: &impl Abort,
+    alloc: Global,
+    folder: &mut MemFolder,
+    word: &str,
+    rest: &str,
+) -> bool {
+    let (name, rest) = cut(rest);
+    let (place, bytes) = cut(rest);
+    if is(word, "cut") {
+        return folder.cut(name, number(rt, place)) == Did::Done;
+    }
+    let bytes = bytes_of(rt, alloc, bytes);
+    folder.write_at(name, number(rt, place), &bytes) == Did::Done
 }
 
 fn put_of(rt: &impl Abort, answer: &str) -> Put {
     let (word, rest) = cut(answer);
-    match word {
-        "stored," => Put::Stored(sync_of(rt, rest)),
-        "fault" if rest.is_empty() => Put::Fault,
-        "too-long" => Put::TooLong(size(rt, rest)),
-        _ => unknown(rt, answer),
+    if is(word, "stored,") {
+        Put::Stored(sync_of(rt, rest))
+    } else if is(word, "too-long") {
+        Put::TooLong(size(rt, rest))
+    } else if is(answer, "fault") {
+        Put::Fault
+    } else {
+        unknown(rt, answer)
     }
 }
 
 fn peek_of(rt: &impl Abort, answer: &str) -> Peek {
     let (word, count) = cut(answer);
-    match word {
-        "got" => Peek::Got(number(rt, count) as usize),
-        "empty" if count.is_empty() => Peek::Empty,
-        _ => unknown(rt, answer),
+    if is(word, "got") {
+        Peek::Got(number(rt, count) as usize)
+    } else if is(answer, "empty") {
+        Peek::Empty
+    } else {
+        unknown(rt, answer)
     }
 }
 
 fn take_of(rt: &impl Abort, answer: &str) -> Take {
     let (word, rest) = cut(answer);
-    match word {
-        "got" => {
-            let (count, saved) = part(rt, rest, ", ");
-            Take::Got(number(rt, count) as usize, sync_of(rt, saved))
-        }
-        "empty" if rest.is_empty() => Take::Empty,
-        "damaged" => {
-            let (file, rest) = cut(rest);
-            let (place, read) = cut(rest);
-            Take::Damaged(number(rt, file), number(rt, place), size(rt, read))
-        }
-        _ => unknown(rt, answer),
+    if is(word, "got") {
+        let (count, saved) = part(rt, rest, ", ");
+        Take::Got(number(rt, count) as usize, sync_of(rt, saved))
+    } else if is(word, "damaged") {
+        let (file, rest) = cut(rest);
+        let (place, read) = cut(rest);
+        Take::Damaged(number(rt, file), number(rt, place), size(rt, read))
+    } else if is(answer, "empty") {
+        Take::Empty
+    } else {
+        unknown(rt, answer)
+    }
+}
+
+// Stops the test where a row of a table doesn't hold.
+fn check_all(rt: &impl Abort, alloc: Global, table: &str) {
+    for row in table.trim().split("\n\n") {
+        check(rt, holds(rt, alloc, row), row);
     }
 }
 
 #[test]
 fn rows(rt: HostRuntime) {
-    for table in &[
-        writing::rows(),
-        reading::rows(),
-        opening::scripts(),
-        order::rows(),
-    ] {
-        for row in *table {
-            check(&rt, holds(&rt, rt.alloc(), row), row);
-        }
-    }
+    check_all(&rt, rt.alloc(), writing::rows());
+    check_all(&rt, rt.alloc(), reading::rows());
+    check_all(&rt, rt.alloc(), opening::scripts());
+    check_all(&rt, rt.alloc(), order::rows());
 }

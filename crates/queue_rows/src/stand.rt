@@ -2,6 +2,7 @@
 
 ghost use Rattle.std.specs.Prelude.{◌≡◌};
 
+use crate::folders::let_folder_go;
 use crate::text::unknown;
 use disk_queue::{Deleted, Emptied, Open, Peek, Put, Queue, QueueOptions, Stage, Sync, Take};
 use nsq_fakes::MemFolder;
@@ -68,7 +69,15 @@ fn fresh(rt: &impl Abort, alloc: Global, name: &str, options: QueueOptions) -> Q
 pub fn let_queue_go(_queue: Queue) {}
 
 /// The same of a queue with its folder.
-pub fn let_go(_stand: Stand) {}
+pub fn let_go(stand: Stand) {
+    let Stand {
+        queue,
+        folder,
+        options: _,
+    } = stand;
+    let_queue_go(queue);
+    let_folder_go(folder);
+}
 
 impl Stand {
     /// Puts a record, which isn't too short.

@@ -4,7 +4,7 @@
 //! `zeros 3` so many bytes 0, `blanks 3` so many blanks, and `byte 255` that one. Each other piece stands for itself, but for `/`, which is
 //! the end of a line.
 
-use crate::same;
+use crate::{is, same};
 use backlog::{Depths, PutAll};
 use disk_queue::Sync;
 use nsq_fakes::{Failing, FolderCall};
@@ -54,10 +54,12 @@ pub fn letter(rt: &impl Abort, word: &str) -> u8 {
 
 /// Whether an answer says that a call was carried out.
 pub fn is_done(rt: &impl Abort, answer: &str) -> bool {
-    match answer {
-        "done" => true,
-        "failed" | "fault" => false,
-        _ => unknown(rt, answer),
+    if is(answer, "done") {
+        true
+    } else if is(answer, "failed") || is(answer, "fault") {
+        false
+    } else {
+        unknown(rt, answer)
     }
 }
 
@@ -75,11 +77,14 @@ pub fn is_drawn(rt: &impl Abort, drawn: Option<(u64, u64)>, told: &str) -> bool 
 
 /// The answer of a save.
 pub fn sync_of(rt: &impl Abort, answer: &str) -> Sync {
-    match answer {
-        "not due" => Sync::NotDue,
-        "done" => Sync::Done,
-        "failed" => Sync::Failed,
-        _ => unknown(rt, answer),
+    if is(answer, "not due") {
+        Sync::NotDue
+    } else if is(answer, "done") {
+        Sync::Done
+    } else if is(answer, "failed") {
+        Sync::Failed
+    } else {
+        unknown(rt, answer)
     }
 }
 
@@ -95,15 +100,13 @@ pub fn depths_of(rt: &impl Abort, numbers: &str) -> Depths {
 /// What is answered where messages are put together, and how many are left.
 pub fn all_put_of(rt: &impl Abort, answer: &str) -> (PutAll, usize) {
     let (answer, left) = part(rt, answer, ", ");
-    let left = match left.split_once(" left") {
-        Some((left, "")) => number(rt, left) as usize,
-        _ => unknown(rt, left),
+    let (left, _) = part(rt, left, " left");
+    let put = if is_done(rt, answer) {
+        PutAll::Done
+    } else {
+        PutAll::Fault
     };
-    match answer {
-        "done" => (PutAll::Done, left),
-        "fault" => (PutAll::Fault, left),
-        _ => unknown(rt, answer),
-    }
+    (put, number(rt, left) as usize)
 }
 
 /// What stands in a row of steps: what it is about, how many messages find room in memory, the calls of the folder that fail, and the
@@ -128,20 +131,18 @@ pub fn bytes_of(rt: &impl Abort, alloc: Global, text: &str) -> Vec<u8> {
 
 fn add_piece(rt: &impl Abort, bytes: &mut Vec<u8>, piece: &str) {
     let (word, count) = cut(piece);
-    match word {
-        "size" => {
-            let number = size(rt, count).to_be_bytes();
-            bytes.extend_from_slice(&number).expect(rt, "memory");
-        }
-        "zeros" => add_run(rt, bytes, number(rt, count), 0),
-        "blanks" => add_run(rt, bytes, number(rt, count), b' '),
-        "byte" => add_run(
-            rt,
-            bytes,
-            1,
-            count.parse::<u8>().expect(rt, "a byte in a row"),
-        ),
-        _ => add_text(rt, bytes, piece),
+    if is(word, "size") {
+        let number = size(rt, count).to_be_bytes();
+        bytes.extend_from_slice(&number).expect(rt, "memory");
+    } else if is(word, "zeros") {
+        add_run(rt, bytes, number(rt, count), 0);
+    } else if is(word, "blanks") {
+        add_run(rt, bytes, number(rt, count), b' ');
+    } else if is(word, "byte") {
+        let byte = count.parse::<u8>().expect(rt, "a byte in a row");
+        add_run(rt, bytes, 1, byte);
+    } else {
+        add_text(rt, bytes, piece);
     }
 }
 
@@ -165,28 +166,42 @@ fn add_run(rt: &impl Abort, bytes: &mut Vec<u8>, times: u64, byte: u8) {
 
 /// The method of the folder that a word names.
 pub fn call_of(rt: &impl Abort, word: &str) -> FolderCall {
-    match word {
-        "List" => FolderCall::List,
-        "Len" => FolderCall::Len,
-        "ReadAt" => FolderCall::ReadAt,
-        "WriteAt" => FolderCall::WriteAt,
-        "Cut" => FolderCall::Cut,
-        "Sync" => FolderCall::Sync,
-        "SyncNames" => FolderCall::SyncNames,
-        "Rename" => FolderCall::Rename,
-        "Remove" => FolderCall::Remove,
-        _ => unknown(rt, word),
+    if is(word, "List") {
+        FolderCall::List
+    } else if is(word, "Len") {
+        FolderCall::Len
+    } else if is(word, "ReadAt") {
+        FolderCall::ReadAt
+    } else if is(word, "WriteAt") {
+        FolderCall::WriteAt
+    } else {
+        change_of(rt, word)
+    }
+}
+
+// The same of one that changes names, or makes something durable.
+fn change_of(rt: &impl Abort, word: &str) -> FolderCall {
+    if is(word, "Cut") {
+        FolderCall::Cut
+    } else if is(word, "Sync") {
+        FolderCall::Sync
+    } else if is(word, "SyncNames") {
+        FolderCall::SyncNames
+    } else if is(word, "Rename") {
+        FolderCall::Rename
+    } else if is(word, "Remove") {
+        FolderCall::Remove
+    } else {
+        unknown(rt, word)
     }
 }
 
 /// The calls of the folder that fail: a method, and from which number on and below which.
 pub fn fails_of(rt: &impl Abort, alloc: Global, text: &str) -> Vec<Failing> {
     let mut fails = Vec::new(alloc);
-    for call in text.split(';') {
-        let call = call.trim();
-        if !call.is_empty() {
-            fails.push(failing_of(rt, call)).expect(rt, "memory");
-        }
+    for call in text.trim().split_terminator(';') {
+        let failing = failing_of(rt, call.trim());
+        fails.push(failing).expect(rt, "memory");
     }
     fails
 }

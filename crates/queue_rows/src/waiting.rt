@@ -13,15 +13,15 @@ ghost use Rattle.std.specs.Prelude.{◌≡◌, All, length, IsSome, IsTrue};
 ghost use Rattle.backlog.specs.declared.backlog.Lent.TheVariants.{Nothing};
 ghost use Rattle.backlog.specs.Seen.{FitsLimit};
 
-use crate::folders::folder_told;
+use crate::folders::{folder_told, let_folder_go};
 use crate::room::Room;
 use crate::text::{
     all_put_of, cut, cut_at, depths_of, is_done, is_drawn, letter, number, script_of, sync_of,
     unknown,
 };
-use crate::{check, same};
+use crate::{check, is, same};
 use backlog::{Backlog, Drawn, Flushed, Gone, PutAll, PutOne};
-use disk_queue::{Emptied, QueueOptions};
+use disk_queue::{Emptied, QueueOptions, Sync};
 use nsq_base::{Body, MsgId};
 use nsq_fakes::MemFolder;
 use std::alloc::Global;
@@ -35,39 +35,47 @@ const OPTIONS: QueueOptions = QueueOptions {
     limit: 16_777_242,
 };
 
-static ROWS: [&'static str; 9] = [
-    "the ring comes before the disk
-        backlog: q durable memory: 1 fails:
-        steps: put x => kept; put y => spilled; depths 1 1; take => x 5; put z => kept; take => z 5; take => y 0;
-            take => none; depths 0 0",
-    "an undone message is the first again
-        backlog: q durable memory: 1 fails:
-        steps: put x => kept; put y => spilled; undo => x 5; undo => y 0",
-    "without a disk what overflows goes away
-        backlog: q#ephemeral loose memory: 1 fails:
-        steps: put x => kept; put y => dropped; depths 1 0; sync => not due; empty => done; take => none",
-    "a ring of none keeps nothing, and the disk takes all
-        backlog: q durable memory: 0 fails:
-        steps: put x => spilled; depths 0 1; take => x 0",
-    "a ring of none without a disk keeps nothing
-        backlog: q#ephemeral loose memory: 0 fails:
-        steps: put x => dropped",
-    // Of the two records that go to disk the second is refused.
-    "all are put or none
-        backlog: q durable memory: 1 fails: WriteAt 1 2
-        steps: put-all abc => fault, 3 left; depths 0 0; put-all abc => done, 0 left; depths 1 2; take => a 5;
-            take => b 0; take => c 0",
-    "what was flushed is found
-        backlog: q durable memory: 2 fails:
-        steps: put-all abc => done, 0 left; flush => done; depths 0 3; open 2; take => c 0; take => a 0; take => b 0",
-    "a fault hands the message back
-        backlog: q durable memory: 1 fails: WriteAt 1 2
-        steps: put x => kept; put y => spilled; put z => back; depths 1 1; empty => done; take => none; delete;
-            absent q.diskqueue.meta.dat",
-    "a flush that fails keeps the rest
-        backlog: q durable memory: 2 fails: WriteAt 1 2
-        steps: put x => kept; put y => kept; flush => fault; depths 1 1; take => y 5; take => x 0",
-];
+// Behind `all are put or none`: of the two records that go to disk the second is refused.
+static ROWS: &'static str = "
+the ring comes before the disk
+    backlog: q durable memory: 1 fails:
+    steps: put x => kept; put y => spilled; depths 1 1; take => x 5; put z => kept; take => z 5; take => y 0;
+        take => none; depths 0 0
+
+an undone message is the first again
+    backlog: q durable memory: 1 fails:
+    steps: put x => kept; put y => spilled; undo => x 5; undo => y 0
+
+without a disk what overflows goes away
+    backlog: q#ephemeral loose memory: 1 fails:
+    steps: put x => kept; put y => dropped; depths 1 0; sync => not due; empty => done; take => none
+
+a ring of none keeps nothing, and the disk takes all
+    backlog: q durable memory: 0 fails:
+    steps: put x => spilled; depths 0 1; take => x 0
+
+a ring of none without a disk keeps nothing
+    backlog: q#ephemeral loose memory: 0 fails:
+    steps: put x => dropped
+
+all are put or none
+    backlog: q durable memory: 1 fails: WriteAt 1 2
+    steps: put-all abc => fault, 3 left; depths 0 0; put-all abc => done, 0 left; depths 1 2; take => a 5;
+        take => b 0; take => c 0
+
+what was flushed is found
+    backlog: q durable memory: 2 fails:
+    steps: put-all abc => done, 0 left; flush => done; depths 0 3; open 2; take => c 0; take => a 0; take => b 0
+
+a fault hands the message back
+    backlog: q durable memory: 1 fails: WriteAt 1 2
+    steps: put x => kept; put y => spilled; put z => back; depths 1 1; empty => done; take => none; delete;
+        absent q.diskqueue.meta.dat
+
+a flush that fails keeps the rest
+    backlog: q durable memory: 2 fails: WriteAt 1 2
+    steps: put x => kept; put y => kept; flush => fault; depths 1 1; take => y 5; take => x 0
+";
 
 // A backlog in a folder. No message is drawn.
 #[derive(Drop)]
@@ -80,7 +88,16 @@ struct Shelf {
     ghost disk: { IsTrue durable → IsSome backlog.queue },
 }
 
-fn let_go(_shelf: Shelf) {}
+fn let_go(shelf: Shelf) {
+    let Shelf {
+        backlog,
+        folder,
+        ring: _,
+        durable: _,
+    } = shelf;
+    let_backlog_go(backlog);
+    let_folder_go(folder);
+}
 
 // Takes a backlog apart.
 fn let_backlog_go(_backlog: Backlog) {}
@@ -94,10 +111,12 @@ fn fresh(rt: &impl Abort, alloc: Global, name: &str, ring: usize, durable: bool)
 }
 
 fn is_durable(rt: &impl Abort, word: &str) -> bool {
-    match word {
-        "durable" => true,
-        "loose" => false,
-        _ => unknown(rt, word),
+    if is(word, "durable") {
+        true
+    } else if is(word, "loose") {
+        false
+    } else {
+        unknown(rt, word)
     }
 }
 
@@ -145,16 +164,18 @@ fn step_holds(
 ) -> bool {
     let (call, answer) = cut_at(step, " => ");
     let (word, rest) = cut(call);
-    match word {
-        "put" => same(
-            shelf.put(rt, alloc, room, letter(rt, rest)).as_bytes(),
-            answer.as_bytes(),
-        ),
-        "put-all" => shelf.put_all(rt, alloc, room, rest.as_bytes()) == all_put_of(rt, answer),
-        "take" => is_drawn(rt, shelf.take(room), answer),
-        "undo" => is_drawn(rt, shelf.undo_and_take(room), answer),
-        "flush" => shelf.flushes(room, is_done(rt, answer)),
-        _ => changes(rt, alloc, shelf, name, (word, rest), answer),
+    if is(word, "put") {
+        is(shelf.put(rt, alloc, room, letter(rt, rest)), answer)
+    } else if is(word, "put-all") {
+        shelf.put_all(rt, alloc, room, rest.as_bytes()) == all_put_of(rt, answer)
+    } else if is(word, "take") {
+        is_drawn(rt, shelf.take(room), answer)
+    } else if is(word, "undo") {
+        is_drawn(rt, shelf.undo_and_take(room), answer)
+    } else if is(word, "flush") {
+        shelf.flushes(room, is_done(rt, answer))
+    } else {
+        changes(rt, alloc, shelf, name, (word, rest), answer)
     }
 }
 
@@ -168,14 +189,20 @@ fn changes(
     answer: &str,
 ) -> bool {
     let (word, rest) = call;
-    match word {
-        "sync" => shelf.backlog.sync(&mut shelf.folder) == sync_of(rt, answer),
-        "empty" => (shelf.backlog.empty(&mut shelf.folder) == Emptied::Done) == is_done(rt, answer),
-        "open" => shelf.opens(alloc, name, number(rt, rest) as usize),
-        "delete" => shelf.deletes(rt, alloc, name),
-        "depths" => shelf.backlog.depths() == depths_of(rt, rest),
-        "absent" => shelf.folder.file(rest).is_none(),
-        _ => unknown(rt, word),
+    if is(word, "sync") {
+        shelf.sync() == sync_of(rt, answer)
+    } else if is(word, "empty") {
+        (shelf.empty() == Emptied::Done) == is_done(rt, answer)
+    } else if is(word, "open") {
+        shelf.opens(alloc, name, number(rt, rest) as usize)
+    } else if is(word, "delete") {
+        shelf.deletes(rt, alloc, name)
+    } else if is(word, "depths") {
+        shelf.backlog.depths() == depths_of(rt, rest)
+    } else if is(word, "absent") {
+        shelf.folder.file(rest).is_none()
+    } else {
+        unknown(rt, word)
     }
 }
 
@@ -247,6 +274,14 @@ impl Shelf {
         (answer, messages.len())
     }
 
+    fn sync(&mut self) -> Sync {
+        self.backlog.sync(&mut self.folder)
+    }
+
+    fn empty(&mut self) -> Emptied {
+        self.backlog.empty(&mut self.folder)
+    }
+
     fn take(&mut self, room: &mut Room) -> Option<(u64, u64)> {
         match self.backlog.draw(&mut self.folder, &mut room.bytes) {
             Drawn::Got(message) => {
@@ -298,7 +333,7 @@ impl Shelf {
 #[test]
 fn rows(rt: HostRuntime) {
     let mut room = Room::new(rt.alloc()).expect(&rt, "memory");
-    for row in &ROWS {
+    for row in ROWS.trim().split("\n\n") {
         check(&rt, holds(&rt, rt.alloc(), &mut room, row), row);
     }
 }

@@ -1,5 +1,5 @@
 -- Files of unlisted queues are set aside, one after the other.
-use Rattle.std.proofs.Common.{◌≡◌, ◌≢◌, ℕ, ◌+◌, ◌<◌, ◌≤◌, ◌⊎◌, Bool, true, false, List, [], ◌∷◌, ◌++◌, length, take, get_or, map, codes, Option, Some, None, IsSome, refl, sym, ◌∙◌, ap, subst, inl, inr, String, string_bytes, Result, Ok, Err, OnOk}
+use Rattle.std.proofs.Common.{◌≡◌, ◌≢◌, ℕ, ◌+◌, ◌<◌, ◌≤◌, ◌⊎◌, Bool, true, false, List, [], ◌∷◌, ◌++◌, length, take, get_or, map, codes, Option, Some, None, IsSome, refl, sym, ◌∙◌, ap, subst, inl, inr, String, string_bytes, Result, Ok, Err, IfErr, OnOk, arith}
 use Rattle.std.specs.declared.alloc.Global.{Global}
 use Rattle.std.proofs.lemmas.Bool.{false≢true}
 use Rattle.std.proofs.lemmas.List.{take_more, take_all, map-append, append_cancel_right}
@@ -7,6 +7,8 @@ use Rattle.std.proofs.lemmas.List.Elements.{Contains-push_cases}
 use Rattle.std.proofs.lemmas.Slice.Eq.{bytes_eq-Decides}
 use Rattle.std.specs.List.{Contains}
 use Rattle.std.specs.Str.{bytes_eq}
+use Rattle.std.specs.Result.{is_err}
+use Rattle.nsq_outside.specs.Causes.{Rose}
 use Rattle.nsq_outside.specs.Files.{Files, SameFiles, IsRenamed, IsListing, AppendsListing}
 use Rattle.std.proofs.Math.Path.{fun_ext}
 use Rattle.queue_image.specs.FileNames.{set_aside}
@@ -14,6 +16,8 @@ use Rattle.queue_image.proofs.Naming.{aside_apart}
 use Rattle.path_image.specs.Data.{KeptTopic}
 use Rattle.queue_sweep.specs.Swept.{IsUnlisted, IsMovedAside, IsLeftAlone, IsSweptTo, HasOnlyListed}
 use Rattle.queue_sweep.specs.Steps.{SweepsOne, AreGone}
+use Rattle.queue_sweep.specs.declared.unswept.Unswept.{Unswept}
+use Rattle.queue_sweep.specs.declared.unswept.Unswept.TheVariants.{Fault, Memory}
 use Rattle.queue_sweep.proofs.Colons.{own_file}
 
 some_is : (o : Option (List ℕ)) (x : List ℕ) → o ≡ Some x → IsSome o
@@ -133,3 +137,31 @@ module _ (topics : List KeptTopic) where
 pub whatever : {T E : Type 0} (r : Result T E) (P : Type 0) → P → OnOk r P
 whatever (Ok x) P h = h
 whatever (Err e) P h = tt
+
+module _ (topics : List KeptTopic) (file : List ℕ) where
+  -- a listed file stays, and so does one for which memory was wanting
+  pub one_listed : (files : Files) → (IsUnlisted topics file → ⊥) → SweepsOne topics file files files (Ok false)
+  one_listed files listed = record { either = inl (λ f. refl); done = λ u. absurd (listed u) }
+
+  pub one_wanting : (files : Files) → SweepsOne topics file files files (Err Memory)
+  one_wanting files = record { either = inl (λ f. refl); done = tt }
+
+  -- an unlisted one is renamed, or that failed
+  pub one_renamed : (aside : List ℕ) (old new : Files) → IsUnlisted topics file → aside ≡ set_aside file → IsRenamed old new file aside → SweepsOne topics file old new (Ok true)
+  one_renamed aside old new u spelled renamed =
+      let done = subst (IsRenamed old new file) spelled renamed in
+      record { either = inr (u, done); done = λ _. done }
+
+  pub one_failed : (aside : List ℕ) (old new : Files) → IsUnlisted topics file → aside ≡ set_aside file → SameFiles old new ⊎ IsRenamed old new file aside → SweepsOne topics file old new (Err Fault)
+  one_failed aside old new u spelled (inl same) = record { either = inl same; done = tt }
+  one_failed aside old new u spelled (inr renamed) = record { either = inr (u, subst (IsRenamed old new file) spelled renamed); done = tt }
+
+-- what holds where the answer isn't an error
+pub spelled_then : {T E P : Type 0} (r : Result T E) → false ≡ is_err r → OnOk r P → P
+spelled_then (Ok x) is h = h
+spelled_then (Err e) is h = absurd (false≢true is)
+
+-- a count that rose later rose
+pub rose_since : {T : Type 0} (r : Result T Unswept) (before mid now : ℕ) → before ≤ mid → IfErr r (λ e. e ≡ Fault → Rose mid now) → IfErr r (λ e. e ≡ Fault → Rose before now)
+rose_since (Ok x) before mid now low rose = tt
+rose_since (Err e) before mid now low rose = λ fault. let later = rose fault in omega (arith, low, later)

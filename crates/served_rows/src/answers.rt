@@ -1,7 +1,7 @@
 //! The bytes that a client or a caller gets, by words.
 
 use crate::lists::{copied, put};
-use crate::text::{bytes_of, cut, put_text};
+use crate::text::{bytes_of, part, put_text, unknown};
 use itoa::Buffer;
 use std::alloc::Global;
 use std::process::Abort;
@@ -83,22 +83,24 @@ fn answer(
     out
 }
 
+// The words for what a client of V2 gets, and the bytes at its front, behind which stand those that follow the words.
+static FRONTS: &'static str = r#"OK=\0\0\0\x06\0\0\0\0OK
+close wait=\0\0\0\x0e\0\0\0\0CLOSE_WAIT
+not in flight=\0\0\0\x26\0\0\0\x01E_FIN_FAILED message not in flight
+first =\0\0\0\x1f\0\0\0\x02\0\0\0\0\0\0\0\0\0\x01
+second =\0\0\0\x1f\0\0\0\x02\0\0\0\0\0\0\0\0\0\x02
+bytes ="#;
+
 /// Adds what a client of V2 gets: `OK`, `close wait` and `not in flight`, the answers to a command that is carried out, to a first CLS, and to a FIN of a
 /// message that isn't in flight; `first` or `second` before a message's id and its body of one byte, where it was published at moment 0 and is sent for that
 /// time; or `bytes`.
 pub fn put_got(rt: &impl Abort, out: &mut Vec<u8>, gets: &str) {
-    let (front, rest): (&[u8], &str) = match cut(gets) {
-        ("OK", "") => (b"\0\0\0\x06\0\0\0\0OK", ""),
-        ("close", "wait") => (b"\0\0\0\x0e\0\0\0\0CLOSE_WAIT", ""),
-        ("not", "in flight") => (
-            b"\0\0\0\x26\0\0\0\x01E_FIN_FAILED message not in flight",
-            "",
-        ),
-        ("first", message) => (b"\0\0\0\x1f\0\0\0\x02\0\0\0\0\0\0\0\0\0\x01", message),
-        ("second", message) => (b"\0\0\0\x1f\0\0\0\x02\0\0\0\0\0\0\0\0\0\x02", message),
-        ("bytes", text) => (b"", text),
-        _ => panic!(rt; "no client gets {gets}"),
-    };
-    put(rt, out, front);
-    put_text(rt, out, rest);
+    for line in FRONTS.split('\n') {
+        let (words, front) = part(rt, line, "=");
+        if let Some(rest) = gets.strip_prefix(words) {
+            put_text(rt, out, front);
+            return put_text(rt, out, rest);
+        }
+    }
+    unknown(rt, gets)
 }

@@ -8,10 +8,10 @@ use crate::conn::WatchedConn;
 use crate::floor::{MemFloor, floor_of, options_of};
 use crate::text::word_of;
 use desk::{Call, FloorDesk, Turned, Turner};
-use http_api::serve_http;
-use http_exchange::EndedHttp;
+use http_api::{EndedHttp, serve_http};
 use nsq_base::Options;
 use nsq_fakes::MemFolder;
+use nsq_outside::Kit;
 use std::alloc::Global;
 use std::process::Abort;
 use std::sync::Wait;
@@ -84,10 +84,17 @@ impl Bench<'_> {
     pub fn turn(&mut self, number: u64, call: Call) -> bool
         requires { CanCall call }
     {
-        !matches!(
-            self.floor.take_turn(self.alloc, number, call),
-            Turned::Memory | Turned::Strange
-        )
+        !matches!(self.go(number, call), Went::Wrong)
+    }
+
+    // Makes a call of this number.
+    fn go(&mut self, number: u64, call: Call) -> Went
+        requires { CanCall call }
+    {
+        let turned = self.floor.take_turn(self.alloc, number, call);
+        let went = went_of(&turned);
+        let_turned_go(turned);
+        went
     }
 
     /// Whether a client may send this.
@@ -101,10 +108,10 @@ impl Bench<'_> {
     /// Sends a client all that it may get. Whether that has an end.
     pub fn sends(&mut self, number: u64) -> bool {
         for _ in 0..MANY {
-            match self.floor.take_turn(self.alloc, number, Call::Next) {
-                Turned::Send(_) => {}
-                Turned::Memory | Turned::Strange => return false,
-                _ => return true,
+            match self.go(number, Call::Next) {
+                Went::Sent => {}
+                Went::Wrong => return false,
+                Went::Well => return true,
             }
         }
         false
@@ -135,23 +142,8 @@ impl Bench<'_> {
             number,
             wanted: 0,
         };
-        match serve_http(
-            rt,
-            self.alloc,
-            number,
-            conn,
-            &mut desk,
-            &self.options,
-            began,
-        ) {
-            EndedHttp::Answered => "answered",
-            EndedHttp::EndOfInput => "end",
-            EndedHttp::Cut => "cut",
-            EndedHttp::Closed => "closed",
-            EndedHttp::ReadFault => "read fault",
-            EndedHttp::WriteFault => "write fault",
-            EndedHttp::Memory => "memory",
-        }
+        let options = &self.options;
+        called(serve_http(rt, self.alloc, number, conn, &mut desk, options, began))
     }
 
     /// Ends the floor, and gives the folder that it stood on.
@@ -167,7 +159,47 @@ impl Bench<'_> {
             caller: _,
         } = self;
         drop(options);
-        floor.end().folder
+        let Kit {
+            folder,
+            clock: _clock,
+            journal: _journal,
+        } = floor.end();
+        folder
+    }
+}
+
+// What a turn came to.
+#[derive(Clone, Copy)]
+enum Went {
+    // Something is to be sent.
+    Sent,
+    // It was answered in another way.
+    Well,
+    // There was no memory for it, or its number is strange.
+    Wrong,
+}
+
+fn went_of(turned: &Turned) -> Went {
+    match turned {
+        Turned::Send(_) => Went::Sent,
+        Turned::Memory | Turned::Strange => Went::Wrong,
+        _ => Went::Well,
+    }
+}
+
+// Takes a turn's answer apart.
+fn let_turned_go(_turned: Turned) {}
+
+// The word for how a connection of HTTP ended.
+fn called(ended: EndedHttp) -> &'static str {
+    match ended {
+        EndedHttp::Answered => "answered",
+        EndedHttp::EndOfInput => "end",
+        EndedHttp::Cut => "cut",
+        EndedHttp::Closed => "closed",
+        EndedHttp::ReadFault => "read fault",
+        EndedHttp::WriteFault => "write fault",
+        EndedHttp::Memory => "memory",
     }
 }
 

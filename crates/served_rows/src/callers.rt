@@ -31,7 +31,7 @@ pub struct Caller<'a> {
 pub fn is_served<R: Abort + Wait>(
     rt: &R,
     bench: &mut Bench<'_>,
-    caller: &Caller<'_>,
+    caller: Caller<'_>,
     got: &mut Vec<u8>,
 ) -> bool {
     let clock = bench.clock;

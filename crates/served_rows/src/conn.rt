@@ -1,7 +1,7 @@
 //! A connection in memory that takes few bytes at a time, and whose reads and writes are watched.
 
 use crate::lists::push;
-use crate::text::number;
+use crate::text::{number, unknown};
 use nsq_fakes::MemConn;
 use nsq_outside::{Conn, Read, Sink, Source, Write, get, put};
 use session_scripts::{Trace, pieces_of};
@@ -26,7 +26,7 @@ pub fn failing(rt: &impl Abort, words: &str) -> Fails {
         Some(("read", count)) => Fails::Read(number(rt, count)),
         Some(("write", count)) => Fails::Write(number(rt, count)),
         None if words.is_empty() || words == "nothing" => Fails::Nothing,
-        _ => panic!(rt; "nothing fails by {words}"),
+        _ => unknown(rt, words),
     }
 }
 

@@ -4,7 +4,7 @@ ghost use Rattle.std.specs.Prelude.{◌≡◌, false};
 ghost use Rattle.nsq_base.specs.Options.{IsInRange};
 
 use crate::lists::push;
-use crate::text::{cut, moment, number, part};
+use crate::text::{cut, moment, number, part, unknown};
 use broker_floor::Floor;
 use broker_history::Entry;
 use nsq_base::{Memory, Options};
@@ -52,7 +52,7 @@ fn set(
         ("most", size) => options.max_msg_size = size.parse::<u32>().expect(rt, "a number"),
         ("stops", "served") => options.http_stop = true,
         ("fails", calls) => fail(rt, fails, calls),
-        _ => panic!(rt; "no floor is opened with {words}"),
+        _ => unknown(rt, words),
     }
 }
 
@@ -63,7 +63,7 @@ fn fail(rt: &impl Abort, fails: &mut Vec<Failing>, calls: &str) {
     let call = match name {
         "WriteAt" => FolderCall::WriteAt,
         "Rename" => FolderCall::Rename,
-        _ => panic!(rt; "{name} is no call of a folder"),
+        _ => unknown(rt, name),
     };
     let calls = Failing {
         call,

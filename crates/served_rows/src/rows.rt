@@ -22,8 +22,8 @@ use crate::bench::{Bench, Way, bench_of};
 use crate::callers::{Caller, WHOLE, add_pieces, client_of, is_served, sent_by};
 use crate::conn::{Fails, failing};
 use crate::lists::same;
-use crate::tables::{callers, clients};
-use crate::text::{bytes_of, cut, moment, number, part};
+use crate::tables::{client_rows, floor_rows, request_rows};
+use crate::text::{bytes_of, cut, moment, number, part, unknown};
 use desk::Call;
 use nsq_fakes::MemFolder;
 use std::alloc::Global;
@@ -58,7 +58,7 @@ fn is_answered<R: Abort + Wait>(
         written: answer_of(rt, alloc, gets),
         ended: "answered",
     };
-    is_served(rt, bench, &caller, got)
+    is_served(rt, bench, caller, got)
 }
 
 // Whether a request is answered as the words say, or wherever it is cut in two.
@@ -97,7 +97,7 @@ fn calls<R: Abort + Wait>(rt: &R, bench: &mut Bench<'_>, words: &str, got: &mut 
         },
         written: answer_of(rt, alloc, cut(gets)),
     };
-    is_served(rt, bench, &caller, got)
+    is_served(rt, bench, caller, got)
 }
 
 // Whether a client gets what it must, and ends so.
@@ -116,7 +116,7 @@ fn serves<R: Abort + Wait>(
             bench.sent = bench.sent.saturating_add(piece.len());
         }
     }
-    is_served(rt, bench, &client, got)
+    is_served(rt, bench, client, got)
 }
 
 // Whether a client may send all that it says; then it is sent what it may get.
@@ -162,7 +162,7 @@ fn is_called<R: Abort + Wait>(
         "calls" => calls(rt, bench, words, got),
         "client" => serves(rt, bench, words, false, got),
         "client-cut" => serves(rt, bench, words, true, got),
-        _ => panic!(rt; "{word} {words} is no step"),
+        _ => unknown(rt, word),
     }
 }
 
@@ -254,9 +254,19 @@ fn check_cut<R: Abort + Wait>(rt: &R, alloc: Global, row: &str) {
     }
 }
 
+// The same of each row of tables with callers of HTTP, and of the row in single bytes.
+fn check_callers<R: Abort + Wait>(rt: &R, alloc: Global, tables: &[&'static str]) {
+    for table in tables {
+        for row in table.trim().split("\n\n") {
+            check_cut(rt, alloc, row);
+            check(rt, alloc, row, Way { size: 1, place: 0 });
+        }
+    }
+}
+
 #[test]
 fn clients_rows(rt: HostRuntime) {
-    for table in &clients() {
+    for table in &client_rows() {
         for row in table.trim().split("\n\n") {
             check_cut(&rt, rt.alloc(), row);
         }
@@ -265,10 +275,6 @@ fn clients_rows(rt: HostRuntime) {
 
 #[test]
 fn callers_rows(rt: HostRuntime) {
-    for table in &callers() {
-        for row in table.trim().split("\n\n") {
-            check_cut(&rt, rt.alloc(), row);
-            check(&rt, rt.alloc(), row, Way { size: 1, place: 0 });
-        }
-    }
+    check_callers(&rt, rt.alloc(), &request_rows());
+    check_callers(&rt, rt.alloc(), &floor_rows());
 }

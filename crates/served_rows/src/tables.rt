@@ -13,19 +13,16 @@ mod stops;
 mod storage;
 
 /// Those with clients of V2 alone.
-pub fn clients() -> [&'static str; 4] {
+pub fn client_rows() -> [&'static str; 4] {
     [credit::ROWS, moments::ROWS, states::ROWS, storage::ROWS]
 }
 
-/// Those with callers of HTTP.
-pub fn callers() -> [&'static str; 7] {
-    [
-        calls::ROWS,
-        publishes::ROWS,
-        statistics::ROWS,
-        refusals::ROWS,
-        faults::ROWS,
-        stops::ROWS,
-        endings::ROWS,
-    ]
+/// Those of what callers of HTTP ask for, and how they end.
+pub fn request_rows() -> [&'static str; 4] {
+    [calls::ROWS, publishes::ROWS, refusals::ROWS, endings::ROWS]
+}
+
+/// Those of callers of HTTP beside what else a floor does.
+pub fn floor_rows() -> [&'static str; 3] {
+    [statistics::ROWS, faults::ROWS, stops::ROWS]
 }

@@ -28,6 +28,11 @@ pub fn column(line: &str, number: usize) -> &str {
     line.split('|').nth(number).unwrap_or("")
 }
 
+/// Ends the run: no row says this.
+pub fn unknown<T>(rt: &impl Abort, words: &str) -> T {
+    panic!(rt; "{words} is nothing that a row says")
+}
+
 /// The number that a word says.
 pub fn number(rt: &impl Abort, word: &str) -> u64 {
     word.parse::<u64>().expect(rt, "a number")
@@ -40,7 +45,7 @@ pub fn moment(rt: &impl Abort, word: &str) -> u64 {
     match rest {
         "" => moment,
         "-1" => moment.saturating_sub(1),
-        _ => panic!(rt; "{word} is no moment"),
+        _ => unknown(rt, word),
     }
 }
 

@@ -7,5 +7,5 @@ mod serving;
 mod trace;
 
 pub use scripted::ScriptedFloor;
-pub use serving::{Runs, floor_of, pieces_of, serve_by, spread, spread_all};
+pub use serving::{floor_of, pieces_of, serve_by};
 pub use trace::Trace;

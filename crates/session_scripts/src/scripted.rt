@@ -50,17 +50,10 @@ impl Turner for ScriptedFloor<'_> {
 
     fn take_turn(&mut self, alloc: Global, _conn: u64, call: Call) -> Turned {
         let letter = self.next_letter(alloc, &call);
-        match call {
-            Call::Begin => to_begin(letter),
-            Call::Command(_) => to_command(alloc, letter),
-            Call::Bad(_) => to_bad(alloc, letter),
-            Call::Next => {
-                let number = self.next_number(letter);
-                to_next(alloc, letter, number)
-            }
-            Call::Gone => to_gone(letter),
-            _ => Turned::Memory,
-        }
+        let number = self.next_number(&call, letter);
+        let turned = answered(alloc, &call, letter, number);
+        drop(call);
+        turned
     }
 }
 
@@ -70,11 +63,8 @@ impl ScriptedFloor<'_> {
         self.trace.note(letter_of(call));
         let at = self.made;
         self.made = at.saturating_add(1);
-        if self.command.is_none() {
-            match text_of(alloc, call) {
-                Ok(text) => self.command = text,
-                Err(_) => return b'-',
-            }
+        if keep_first(alloc, &mut self.command, call).is_err() {
+            return b'-';
         }
         if at >= self.stops && sees_stop(call) {
             return b's';
@@ -82,14 +72,22 @@ impl ScriptedFloor<'_> {
         self.script.get(at).copied().unwrap_or(b'-')
     }
 
-    /// The number of the next message, which is used up where the answer's letter is a message's.
-    fn next_number(&mut self, letter: u8) -> u8 {
+    /// The number of the next message, which is used up where the call is for one and the answer's letter is a message's.
+    fn next_number(&mut self, call: &Call, letter: u8) -> u8 {
         let number = self.number;
-        if letter == b'm' {
+        if letter == b'm' && is_next(call) {
             self.number = number.wrapping_add(1);
         }
         number
     }
+}
+
+/// Keeps how the first command that came prints.
+fn keep_first(alloc: Global, kept: &mut Option<String>, call: &Call) -> Result<(), Memory> {
+    if kept.is_none() {
+        *kept = text_of(alloc, call)?;
+    }
+    Ok(())
 }
 
 /// How the call's command prints, if it is one.
@@ -105,6 +103,11 @@ fn sees_stop(call: &Call) -> bool {
     matches!(call, Call::Command(_) | Call::Bad(_) | Call::Next)
 }
 
+/// Whether the call is for what is to be sent.
+fn is_next(call: &Call) -> bool {
+    matches!(call, Call::Next)
+}
+
 fn letter_of(call: &Call) -> u8 {
     match call {
         Call::Begin => b'b',
@@ -113,6 +116,21 @@ fn letter_of(call: &Call) -> u8 {
         Call::Next => b'n',
         Call::Gone => b'g',
         _ => b'a',
+    }
+}
+
+/// The answer of a letter to a call; a message is of this number.
+fn answered(alloc: Global, call: &Call, letter: u8, number: u8) -> Turned
+    ensures answer { IsAnswerTo call.now result }
+    ensures short { IsShortAnswer result }
+{
+    match call {
+        Call::Begin => to_begin(letter),
+        Call::Command(_) => to_command(alloc, letter),
+        Call::Bad(_) => to_bad(alloc, letter),
+        Call::Next => to_next(alloc, letter, number),
+        Call::Gone => to_gone(letter),
+        _ => Turned::Memory,
     }
 }
 

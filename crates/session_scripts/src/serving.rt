@@ -1,4 +1,4 @@
-//! Connections that are served at a floor that answers by a script, and the texts that their rows are written in.
+//! Connections that are served at a floor that answers by a script.
 use crate::scripted::ScriptedFloor;
 use crate::trace::Trace;
 use desk::FloorDesk;
@@ -10,43 +10,31 @@ use std::sync::Wait;
 use v2_frame::Limits;
 use v2_session::{Ended, serve_v2};
 
-/// Parts of a text, and how often each comes.
-pub type Runs = &'static [(&'static [u8], usize)];
-
 /// The limits of each connection.
 const LIMITS: Limits = Limits { msg: 5, body: 100 };
-
-/// The bytes of a text.
-pub fn spread(alloc: Global, runs: &[(&'static [u8], usize)]) -> Result<Vec<u8>, Memory> {
-    let mut bytes = Vec::new(alloc);
-    for (part, count) in runs {
-        for _ in 0..*count {
-            bytes.extend_from_slice(part)?;
-        }
-    }
-    Ok(bytes)
-}
-
-/// The bytes of each text.
-pub fn spread_all(alloc: Global, texts: &[Runs]) -> Result<Vec<Vec<u8>>, Memory> {
-    let mut all = Vec::new(alloc);
-    for text in texts {
-        all.push(spread(alloc, text)?)?;
-    }
-    Ok(all)
-}
 
 /// What a connection in memory reads.
 pub fn pieces_of(alloc: Global, pieces: &[Vec<u8>]) -> Result<Vec<Piece>, Memory> {
     let mut all = Vec::new(alloc);
     for piece in pieces {
-        if piece.is_empty() {
-            all.push(Piece::Nothing)?;
-        } else {
-            all.push(Piece::Bytes(Body::copy(alloc, piece)?))?;
-        }
+        put_made(&mut all, piece_of(alloc, piece))?;
     }
     Ok(all)
+}
+
+/// A piece of these bytes.
+fn piece_of(alloc: Global, bytes: &[u8]) -> Result<Piece, Memory> {
+    if bytes.is_empty() {
+        Ok(Piece::Nothing)
+    } else {
+        Ok(Piece::Bytes(Body::copy(alloc, bytes)?))
+    }
+}
+
+/// Adds one that was made behind a list, where memory didn't want.
+fn put_made<T: Drop>(list: &mut Vec<T>, made: Result<T, Memory>) -> Result<(), Memory> {
+    list.push(made?)?;
+    Ok(())
 }
 
 /// Serves a connection of number 7 at a floor that answers by this script, and gives how it ended and how often memory was wanting

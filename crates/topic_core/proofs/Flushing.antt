@@ -1,7 +1,9 @@
 -- The queue of a durable topic, through a flush.
-use Rattle.std.proofs.Common.{ℕ, ◌≡◌, Bool, true, false, not, List, Option, Some, None, refl}
+use Rattle.std.proofs.Common.{ℕ, ◌≡◌, Bool, true, false, not, List, Option, Some, None, refl, sym}
 use Rattle.std.specs.Prelude.{IsSome, is_some}
-use Rattle.nsq_base.specs.Name.{is_ephemeral}
+use Rattle.std.proofs.lemmas.Bool.{false≢true}
+use Rattle.nsq_base.specs.Name.{is_ephemeral, IsEphemeral}
+use Rattle.v2_frame.specs.declared.message.Message.{Message}
 use Rattle.backlog.specs.Queues.{Seen as Queue}
 use Rattle.backlog.specs.Seen.{Seen as Backlog, SameQueue}
 use Rattle.topic_core.specs.Kept.{IsNamed}
@@ -18,3 +20,15 @@ pub still_there : (q r : Option Queue) → SameQueue q r → IsSome q → IsSome
 still_there None r same some = absurd (let no : ⊥ = cc in no)
 still_there (Some q) None same some = absurd same
 still_there (Some q) (Some r) same some = refl
+
+-- what the calls on the name and on the head say
+pub lasting : (name : List ℕ) → (IsEphemeral name → false ≡ true) → is_ephemeral name ≡ false
+lasting name passing = either (is_ephemeral name) passing
+  where
+    either : (e : Bool) → (e ≡ true → false ≡ true) → e ≡ false
+    either true f = sym (f refl)
+    either false f = refl
+
+pub no_message : (head : Option Message) → is_some head ≡ false → head ≡ None
+no_message None e = refl
+no_message (Some m) e = absurd (false≢true (sym e))

@@ -10,7 +10,7 @@ use Rattle.v2_frame.specs.declared.message.Message.{Message}
 use Rattle.backlog.specs.Queues.{Seen as Queue}
 use Rattle.backlog.specs.Emptied.{Emptied}
 use Rattle.backlog.specs.Emptied.TheVariants as emptying
-use Rattle.backlog.specs.Seen.{Seen as Backlog, EmptySeen, with_lent, undone, ring_depth, disk_depth, lent_of_ring}
+use Rattle.backlog.specs.Seen.{Seen as Backlog, SameQueue, FindsNone, no_queue, no_record, EmptySeen, with_lent, undone, ring_depth, disk_depth, lent_of_ring}
 use Rattle.backlog.specs.Lists.{OnDisk, IsFirstMessage, SettlesFirst, list_with, disk_emptied, disk_settled}
 use Rattle.backlog.specs.declared.backlog.Lent.{Lent}
 use Rattle.backlog.specs.declared.backlog.Lent.TheVariants.{Nothing, OfRing, OfDisk}
@@ -265,6 +265,51 @@ is_nothing (x ∷ xs) e = absurd (false≢true e)
 
 pub is_something : {X : Type 0} (xs : List X) → is_empty xs ≡ false → xs ≢ []
 is_something xs e none = false≢true (sym e ∙ ap is_empty none)
+
+-- a queue is the same as itself
+pub same_queue : (q : Option Queue) → SameQueue q q
+same_queue None = tt
+same_queue (Some q) = record { name = refl; options = refl }
+
+-- where none was found the ring is as it was
+pub none_ring : (old new : Backlog) → FindsNone old new → new.ring ≡ old.ring
+none_ring old new (no_queue empty none same) = ap (λ (b : Backlog). b.ring) same
+none_ring old new (no_record peeks) = ap (λ (b : Backlog). b.ring) peeks.is
+
+-- the backlog was looked into, and room was made for the channels: nothing else changed
+pub looked : (name : List ℕ) (paused : Bool) (count : ℕ) (b0 b1 : Backlog) (head : Option Message) (owed room : List (List ℕ)) (old : Seen)
+    → record { name = name; paused = paused; message_count = count; backlog = b0; head = with_owed head owed } ≡ old → room ≡ owed
+    → record { name = name; paused = paused; message_count = count; backlog = b1; head = with_owed head room } ≡ record old { backlog = b1 }
+looked name paused count b0 b1 head owed room old view same =
+    ap (λ (xs : List (List ℕ)). record { name = name; paused = paused; message_count = count; backlog = b1; head = with_owed head xs }) same ∙ ap (λ (q : Seen). record q { backlog = b1 }) view
+
+-- a message was drawn, and is owed to these channels
+pub headed : (name : List ℕ) (paused : Bool) (count : ℕ) (b0 b1 : Backlog) (head : Option Message) (owed : List (List ℕ)) (m : Message) (now channels : List (List ℕ)) (old : Seen)
+    → record { name = name; paused = paused; message_count = count; backlog = b0; head = with_owed head owed } ≡ old → now ≡ channels
+    → record { name = name; paused = paused; message_count = count; backlog = b1; head = Some (record { message = m; owed = now }) } ≡ record old { backlog = b1; head = Some (record { message = m; owed = channels }) }
+headed name paused count b0 b1 head owed m now channels old view same =
+    ap (λ (xs : List (List ℕ)). record { name = name; paused = paused; message_count = count; backlog = b1; head = Some (record { message = m; owed = xs }) }) same
+    ∙ ap (λ (q : Seen). record q { backlog = b1; head = Some (record { message = m; owed = channels }) }) view
+
+-- the drawn message, which is this one, is back
+pub undone_head : (name : List ℕ) (paused : Bool) (count : ℕ) (b0 b1 : Backlog) (head after : Option Message) (owed cleared : List (List ℕ)) (m : Message) (old : Seen)
+    → record { name = name; paused = paused; message_count = count; backlog = b0; head = with_owed head owed } ≡ old → after ≡ None → b1 ≡ undone b0 m → (taken k : Taken) → old.head ≡ Some taken → old.head ≡ Some k → taken.message ≡ m
+    → record { name = name; paused = paused; message_count = count; backlog = b1; head = with_owed after cleared } ≡ record old { backlog = undone old.backlog k.message; head = None }
+undone_head name paused count b0 b1 head after owed cleared m old view gone is taken k there here same =
+    let one : taken ≡ k = let both : Some taken ≡ Some k = sym there ∙ here in cc in
+    ap (λ (h : Option Message). record { name = name; paused = paused; message_count = count; backlog = b1; head = with_owed h cleared }) gone
+    ∙ ap (λ (b : Backlog). record { name = name; paused = paused; message_count = count; backlog = b; head = None }) is
+    ∙ ap (λ (q : Seen). record q { backlog = undone q.backlog m; head = None }) view
+    ∙ ap (λ (n : Message). record old { backlog = undone old.backlog n; head = None }) (sym same ∙ ap (λ (t : Taken). t.message) one)
+
+-- without a head nothing is drawn
+pub settled_old : (name : List ℕ) (paused : Bool) (count : ℕ) (b : Backlog) (head : Option Message) (owed : List (List ℕ)) (old : Seen)
+    → record { name = name; paused = paused; message_count = count; backlog = b; head = with_owed head owed } ≡ old → (b.lent ≢ Nothing → IsSome head) → old.head ≡ None → IsSettled old
+settled_old name paused count b head owed old view drawn none = sym (ap (λ (q : Seen). q.backlog.lent) view) ∙ settled_view b.lent head owed drawn (ap (λ (q : Seen). q.head) view ∙ none)
+
+-- where there was no head, these channels alone are owed
+pub owed_now : (head : Option Message) (was room channels owed : List (List ℕ)) → with_owed head was ≡ None → (head ≡ None → was ≡ []) → room ≡ was → owed ≡ room ++ channels → owed ≡ channels
+owed_now head was room channels owed none nothing same is = is ∙ ap (λ (xs : List (List ℕ)). xs ++ channels) (same ∙ nothing (no_head head was none))
 
 -- nothing was drawn since none waits
 pub drawn_none : (q : Seen) (files : Files) (t : Topic) → q.head ≡ None → ((disk : List Message) → OnDisk q.backlog.queue files disk → q.backlog.ring ++ disk ≡ []) → IsTopicOf q files t → t.waiting ≡ []

@@ -11,7 +11,7 @@ use Rattle.v2_frame.specs.declared.message.Message.{Message}
 use Rattle.v2_frame.specs.Written.{message_bytes}
 use Rattle.path_image.specs.Found.{HasMessages}
 use Rattle.backlog.specs.Queues.{Seen as Queue}
-use Rattle.backlog.specs.Seen.{Seen as Backlog, SameQueue}
+use Rattle.backlog.specs.Seen.{Seen as Backlog, FitsLimit, SameQueue}
 use Rattle.backlog.specs.declared.backlog.Lent.TheVariants.{Nothing}
 use Rattle.backlog.specs.Opened.{FilesOfChange}
 use Rattle.backlog.proofs.Others.{holding_keeps, standing_keeps}
@@ -98,4 +98,13 @@ still_sound {name} {b} b' s same nothing = record {
   named = record { durable = same_some b.queue b'.queue same ∙ s.named.durable; queue = same_name b.queue b'.queue name same s.named.queue };
   owes = s.owes;
   drawn = λ lent. absurd (lent nothing);
+}
+
+-- so it is where a head was drawn, which is owed to these channels
+pub drawn_sound : {name : List ℕ} {b : Backlog} {head : Option Message} {owed : List (List ℕ)} (b' : Backlog) (m : Message) (channels now : List (List ℕ)) → IsSound name b head owed → SameQueue b.queue b'.queue → FitsLimit m
+    → now ≡ channels → channels ≢ [] → IsSound name b' (Some m) now
+drawn_sound {name} {b} b' m channels now s same short is some = record {
+  named = record { durable = same_some b.queue b'.queue same ∙ s.named.durable; queue = same_name b.queue b'.queue name same s.named.queue };
+  owes = record { none = λ no. absurd cc; some = λ there none. some (sym is ∙ none); short = short };
+  drawn = λ lent. refl;
 }

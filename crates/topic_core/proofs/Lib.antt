@@ -4,3 +4,4 @@ pub mod Heads
 pub mod Saving
 pub mod Keeping
 pub mod Flushing
+pub mod Opening

@@ -173,3 +173,7 @@ kept_ephemeral old b ms before after e lent now was is ring =
 
 pub kept_durable : (old : Seen) (ms : List Message) → is_ephemeral old.name ≡ false → length ms ≡ kept_of old ms
 kept_durable old ms e = sym (ap (λ b. if b then length (take (room old.backlog) ms) else length ms) e)
+
+-- so the ring has at least as many after a put
+pub ring_grows : (old new : Backlog) (more : List Message) → old.lent ≡ Nothing → new.lent ≡ Nothing → new.ring ≡ old.ring ++ more → ring_depth old ≤ ring_depth new
+ring_grows old new more lent now ring = omega (arith, ap lent_of_ring lent, ap lent_of_ring now, ap length ring, length-append old.ring more)

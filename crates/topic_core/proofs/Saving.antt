@@ -1,5 +1,5 @@
 -- What openings find, and what a flush leaves.
-use Rattle.std.proofs.Common.{◌≡◌, ◌≢◌, ℕ, ◌+◌, ◌-◌, ◌≤◌, Bool, true, false, List, [], ◌∷◌, ◌++◌, length, take, drop, map, Option, Some, None, refl, sym, ap, subst, ◌∙◌, arith, inl, not, append_assoc}
+use Rattle.std.proofs.Common.{◌≡◌, ◌≢◌, ℕ, ◌+◌, ◌-◌, ◌≤◌, Bool, true, false, List, [], ◌∷◌, ◌++◌, length, take, drop, map, Option, Some, None, refl, sym, ap, subst, ◌∙◌, arith, ◌⊎◌, inl, inr, not, append_assoc}
 use Rattle.std.specs.List.{All, count_by}
 use Rattle.std.specs.Prelude.{IsSome, IfSome, MatchBool, is_some}
 use Rattle.std.proofs.lemmas.Bool.{false≢true}
@@ -16,8 +16,9 @@ use Rattle.backlog.specs.Holding.{OwnChange}
 use Rattle.backlog.proofs.Kept.{own_join}
 use Rattle.backlog.specs.Answers.{FlushFails}
 use Rattle.path_image.specs.Found.{Pairwise, IsRecordOf, HasMessages}
-use Rattle.backlog.specs.Seen.{Seen as Backlog, PutSeen, PutWhere, FlushSeen, QueueIsSaved, SameQueue, IsOpenedAt, longest_body}
+use Rattle.backlog.specs.Seen.{Seen as Backlog, EmptyQueueSeen, PutSeen, PutWhere, FlushSeen, QueueIsSaved, SameQueue, IsOpenedAt, longest_body}
 use Rattle.backlog.specs.Lists.{IsStored, OnDisk, WasFound, QueueFinds, FlushFinds, DiskChanges, PutChanges, stored, disk_after, disk_flushed}
+use Rattle.backlog.specs.Emptied.TheVariants as emptying
 use Rattle.backlog.specs.declared.backlog.Lent.TheVariants.{Nothing}
 use Rattle.backlog.specs.declared.answers.Flushed.{Flushed}
 use Rattle.backlog.specs.declared.answers.Flushed.TheVariants.{Done as FlushDone, Fault as FlushFault}
@@ -185,7 +186,7 @@ head_flushed b0 b1 b2 old new m put FlushDone was is lent none puts seen kept =
     }
 head_flushed b0 b1 b2 old new m put FlushFault was is lent none puts seen kept = is ∙ ap (λ (q : Seen). record old { backlog = q.backlog; head = q.head }) (sym is)
 
-open_ring : (b : Backlog) (name : List ℕ) (capacity : ℕ) (options : QueueOptions) → IsSome b.queue → IfSome b.queue (IsOpenedAt name capacity options b) → (b.ring ≡ []) × (b.lent ≡ Nothing)
+pub open_ring : (b : Backlog) (name : List ℕ) (capacity : ℕ) (options : QueueOptions) → IsSome b.queue → IfSome b.queue (IsOpenedAt name capacity options b) → (b.ring ≡ []) × (b.lent ≡ Nothing)
 open_ring b name capacity options there seen = elim b.queue as (λ q. IsSome q → IfSome q (IsOpenedAt name capacity options b) → (b.ring ≡ []) × (b.lent ≡ Nothing)) [
   | None ↦ λ t s. absurd cc
   | Some q ↦ λ t s. (ap (λ (x : Backlog). x.ring) s.is, ap (λ (x : Backlog). x.lent) s.is)
@@ -229,7 +230,7 @@ disk_joined None (Some r) f0 f1 f2 same a b = absurd same
 disk_joined (Some q) None f0 f1 f2 same a b = absurd same
 disk_joined (Some q) (Some r) f0 f1 f2 same a b = own_join q.name f0 f1 f2 a (subst (λ (name : List ℕ). OwnChange name f1 f2) same.name b)
 
-none_changed : (q : Option Queue) (f0 f1 : Files) → SameFiles f0 f1 → DiskChanges q f0 f1
+pub none_changed : (q : Option Queue) (f0 f1 : Files) → SameFiles f0 f1 → DiskChanges q f0 f1
 none_changed None f0 f1 same = same
 none_changed (Some q) f0 f1 same = λ file other. same file
 
@@ -238,6 +239,15 @@ put_changes q f0 f1 Kept same = none_changed q f0 f1 same
 put_changes q f0 f1 Dropped same = none_changed q f0 f1 same
 put_changes q f0 f1 Spilled changes = changes
 put_changes q f0 f1 (Fault back) changes = changes
+
+-- a message that was kept, written or dropped isn't back
+pub not_refused : (put : PutOne) → (put ≡ Kept) ⊎ ((put ≡ Spilled) ⊎ (put ≡ Dropped)) → (back : Message) → put ≢ Fault back
+not_refused Kept is back e = cc
+not_refused Spilled is back e = cc
+not_refused Dropped is back e = cc
+not_refused (Fault m) (inl kept) back e = cc
+not_refused (Fault m) (inr (inl spilled)) back e = cc
+not_refused (Fault m) (inr (inr dropped)) back e = cc
 
 -- a count that rose later rose
 pub flush_rose : (before mid now : ℕ) (answer : Flushed) → before ≤ mid → FlushFails mid now answer → FlushFails before now answer
@@ -322,3 +332,10 @@ pub ring_written : (b0 b1 : Backlog) (disk : List Message) → FlushSeen b0 b1 F
 ring_written b0 b1 disk seen =
     let ring = ap (λ (b : Backlog). b.ring) seen.0.is in
     (ap (λ xs. disk ++ map stored xs) (all_flushed b0 b1 ring), ring ∙ drop_all (length b0.ring) b0.ring (omega arith))
+
+-- a queue that could not be emptied is the same still
+pub kept_queue : (q r : Option Queue) → EmptyQueueSeen q r emptying.Fault → SameQueue q r
+kept_queue None None same = tt
+kept_queue None (Some r) same = absurd same
+kept_queue (Some q) None same = absurd same
+kept_queue (Some q) (Some r) same = record { name = ap (λ (k : Queue). k.name) same; options = ap (λ (k : Queue). k.options) same }

@@ -15,16 +15,7 @@ use Rattle.v2_frame.specs.Heading.{Heading, Mpub}
 use Rattle.v2_frame.specs.Judging.{HasSize, HasBodies, IsBadMessage, no_size, bad_size, cut_body, HasFront, IsBadContent, no_count, count_zero, bad_message, left_over, Unfinished, Faulty, Whole, Sizing, sizing_of, Behind, whole, open_size, open_body, bad_content}
 use Rattle.v2_frame.specs.Judging.{bad_size as wrong_size}
 use Rattle.v2_frame.specs.Parts.{IsField, IsWholeField}
-use Rattle.v2_frame.specs.declared.size.Field.TheVariants as field
-
--- the first four bytes are a size
-pub size_here : (bytes front rest : List ℕ) (n : ℕ) → ((i : ℕ) → get_or bytes i 0 < 256) → front ≡ take 4 bytes → rest ≡ drop 4 bytes → length rest + 4 ≡ length bytes → n ≡ from_be_bytes w32 front → n < 2 ^ 32 → HasSize bytes n rest
-size_here bytes front rest n small f r l e fits =
-    let long : length (take 4 bytes) ≡ 4 = simp length-take (omega arith) in
-    let each : (i : ℕ) → get_or (take 4 bytes) i 0 < 256 =
-    λ i. ⊎_elim (λ (lt : i < 4). subst (λ (m : ℕ). m < 256) (sym (get_or-take 4 bytes i 0 lt)) (small i)) (λ (ge : 4 ≤ i). omega (arith, get_or_past (take 4 bytes) i 0 (omega arith))) (cases_lt i 4) in
-    let same : size4 n ≡ take 4 bytes = be_bytes_4 (take 4 bytes) n long each (e ∙ ap (from_be_bytes w32) f) in
-    record { whole = sym (take-append-drop 4 bytes) ∙ ap (λ (x : List ℕ). take 4 bytes ++ x) (sym r) ∙ ap (λ (x : List ℕ). x ++ rest) (sym same); fits = fits }
+use Rattle.v2_sizes.specs.declared.size.Field.TheVariants as field
 
 AllByRecursion_push : (P : List ℕ → Type 0) (xs : List (List ℕ)) (x : List ℕ) → AllByRecursion P xs → P x → AllByRecursion P (xs ++ x ∷ [])
 AllByRecursion_push P [] x all p = (p, tt)

@@ -7,15 +7,12 @@ use Rattle.v2_frame.specs.declared.command.Command.{Command}
 use Rattle.v2_frame.specs.declared.command.Command.TheVariants as command
 use Rattle.v2_frame.specs.declared.fault.Limits.{Limits}
 use Rattle.v2_frame.specs.Line.{HasNo, text_of, words_of, IsIdWord}
+pub use Rattle.v2_sizes.specs.Sizes.{size4, IsSize}
 use Rattle.v2_frame.specs.Heading.{Heading, Identify, Sub, Pub, Mpub, Dpub, Rdy, Fin, Req, Touch, Cls, Nop, Says, IsWellNamed}
 
 -- the most bytes that a line has before its line end
 abbrev pub longest_line : ℕ
 longest_line = 16384
-
--- a size or a count in four bytes, most significant first
-abbrev pub size4 : ℕ → List ℕ
-size4 n = to_be_bytes w32 n
 
 -- a text behind its size
 abbrev pub sized : List ℕ → List ℕ
@@ -46,12 +43,6 @@ bytes_behind (command.Pub topic body) = sized body
 bytes_behind (command.Mpub topic bodies) = sized (content_of bodies)
 bytes_behind (command.Dpub topic delay body) = sized body
 bytes_behind _ = []
-
--- a good size: from 1 to the greatest one, and below 2^32, so that four bytes hold it
-pub record IsSize (most size : ℕ) : Type 0 where
-  pub positive : 0 < size
-  pub within : size ≤ most
-  pub fits : size < 2 ^ 32
 
 -- the text has a good size
 abbrev pub IsBody : ℕ → List ℕ → Type 0

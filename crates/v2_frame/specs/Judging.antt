@@ -8,6 +8,7 @@ use Rattle.v2_frame.specs.declared.fault.FaultKind.TheVariants.{LineTooLong, Bad
 use Rattle.v2_frame.specs.declared.fault.Limits.{Limits}
 use Rattle.v2_frame.specs.Line.{HasNo, HasLine, text_of, words_of}
 use Rattle.v2_frame.specs.Heading.{Heading, Identify, Pub, Mpub, Dpub, SaysNothing, IsWellNamed, HasBadTopic, HasBadChannel}
+pub use Rattle.v2_sizes.specs.Sizes.{HasSize, IsBadSize}
 use Rattle.v2_frame.specs.Command.{longest_line, size4, sized, heading_of, bytes_behind, IsSize, IsBody, IsWithin, LineSays, Spells}
 
 -- what is found at a command's start: a whole command and the bytes behind it, a fault of a kind at a place, or neither yet
@@ -22,19 +23,10 @@ shifted n (Whole command rest) = Whole command rest
 shifted n (Faulty kind at) = Faulty kind (n + at)
 shifted n Unfinished = Unfinished
 
--- the bytes begin with a size of four bytes, and go on with the rest
-pub record HasSize (bytes : List ℕ) (size : ℕ) (rest : List ℕ) : Type 0 where
-  pub whole : bytes ≡ size4 size ++ rest
-  pub fits : size < 2 ^ 32
-
 -- the bytes begin with so many bytes, and go on with the rest
 pub record HasFront (bytes : List ℕ) (size : ℕ) (front rest : List ℕ) : Type 0 where
   pub whole : bytes ≡ front ++ rest
   pub long : length front ≡ size
-
--- a bad size: 0, or above the greatest one
-abbrev pub IsBadSize : ℕ → ℕ → Type 0
-IsBadSize most size = (size ≡ 0) ⊎ (most < size)
 
 -- the bytes begin with these bodies of good sizes, each behind its size, and go on with the rest
 pub record HasBodies (most : ℕ) (bytes : List ℕ) (bodies : List (List ℕ)) (rest : List ℕ) : Type 0 where

@@ -8,8 +8,6 @@ use Rattle.v2_frame.specs.declared.fault.FaultKind.TheVariants.{BadTopic, BadCha
 use Rattle.v2_frame.specs.declared.fault.Limits.{Limits}
 use Rattle.v2_frame.specs.declared.judge.Found.{Found}
 use Rattle.v2_frame.specs.declared.judge.Found.TheVariants as found
-use Rattle.v2_frame.specs.declared.size.Field.{Field}
-use Rattle.v2_frame.specs.declared.size.Field.TheVariants as field
 use Rattle.v2_frame.specs.declared.start.Sized.{Sized}
 use Rattle.v2_frame.specs.declared.start.Sized.TheVariants as sized
 use Rattle.v2_frame.specs.declared.start.Start.{Start}
@@ -20,6 +18,7 @@ use Rattle.v2_frame.specs.declared.heading.Verb.{Verb}
 use Rattle.v2_frame.specs.declared.heading.Verb.TheVariants as verb
 use Rattle.v2_frame.specs.declared.line.Words.{Words}
 use Rattle.v2_frame.specs.declared.line.Words.TheVariants.{One, Two, Three, Many}
+pub use Rattle.v2_sizes.specs.Sizes.{IsWholeField, IsField}
 use Rattle.v2_frame.specs.Line.{HasNo}
 use Rattle.v2_frame.specs.Heading.{Heading, Identify, Sub, Pub, Mpub, Dpub, Rdy, Fin, Req, Touch, Cls, Nop, IsWellNamed, HasBadTopic, HasBadChannel}
 use Rattle.v2_frame.specs.Command.{heading_of, bytes_behind, content_of, IsSize, IsBody, IsWithin}
@@ -81,18 +80,6 @@ abbrev pub HasBadName : Heading → FaultKind → Type 0
 HasBadName heading BadTopic = HasBadTopic heading
 HasBadName heading BadChannel = HasBadChannel heading
 HasBadName heading _ = ⊥
-
--- the bytes begin with a good size and so many bytes
-pub record IsWholeField (most : ℕ) (bytes : List ℕ) (size : ℕ) : Type 0 where
-  pub size_is : HasSize bytes size (drop 4 bytes)
-  pub good : IsSize most size
-  pub there : 4 + size ≤ length bytes
-
--- what stands where a size and so many bytes have to stand
-abbrev pub IsField : ℕ → List ℕ → Field → Type 0
-IsField most bytes field.Open = (length bytes < 4) ⊎ ((size : ℕ) × HasSize bytes size (drop 4 bytes) × IsSize most size × (length (drop 4 bytes) < size))
-IsField most bytes field.Bad = (size : ℕ) × HasSize bytes size (drop 4 bytes) × IsBadSize most size
-IsField most bytes (field.Whole size) = IsWholeField most bytes size
 
 -- what the content of an MPUB is
 abbrev pub IsContent : ℕ → List ℕ → Content → Type 0

@@ -3,9 +3,9 @@ ghost use Rattle.v2_frame.specs.declared.batch.Content.TheVariants.{Good, Bad};
 ghost use Rattle.v2_frame.specs.Parts.{IsContent};
 
 use crate::FaultKind;
-use crate::size::{Field, field_of, size_of};
 use nsq_base::{Bodies, Body, Memory};
 use std::alloc::Global;
+use v2_sizes::{Field, field_of, size_of};
 
 /// What the content of an `MPUB` is.
 #[derive(Drop)]

@@ -7,11 +7,11 @@ ghost use Rattle.v2_frame.specs.Written.{type_of};
 
 use crate::bytes::drop_front;
 use crate::judge::told_place;
-use crate::size::size_of;
 use crate::{Frame, FrameKind};
 use nsq_base::{Body, Memory};
 use std::alloc::Global;
 use std::marker::Model;
+use v2_sizes::size_of;
 
 /// What `FrameReader::next` answers.
 #[derive(Drop)]

@@ -9,11 +9,11 @@ ghost use Rattle.v2_frame.specs.Parts.{verdict_of, sized_heading, EndsLine, HasS
 use crate::batch::{Content, content_of};
 use crate::heading::heading_of;
 use crate::line::{place_of, text_of, words_of};
-use crate::size::{Field, field_of};
 use crate::start::{Sized, Start, start_of};
 use crate::{Command, FaultKind, Limits};
 use nsq_base::{Body, Memory};
 use std::alloc::Global;
+use v2_sizes::{Field, field_of};
 
 /// The most bytes of a line before its line end.
 const LONGEST_LINE: usize = 16384;

@@ -24,7 +24,6 @@ mod message;
 mod number;
 mod reader;
 pub mod reader_laws;
-mod size;
 mod start;
 mod write;
 

@@ -7,8 +7,8 @@ use crate::commands::{ask_of, said_of};
 use crate::made::{cut, part, same, used_of, words};
 use crate::state::given::{Given, GivenChannel, GivenTopic, state};
 use broker_history::Ask;
-use broker_said::may_say;
 use broker_state::State;
+use broker_steps::may_say;
 use std::alloc::Global;
 use std::process::Abort;
 

@@ -7,8 +7,8 @@ use crate::state::given::{Given, GivenChannel, GivenClient, GivenTopic, Sent, st
 use crate::stats::stats;
 use broker_history::{Ask, Said};
 use broker_plain::Phase;
-use broker_said::may_say;
 use broker_state::Place;
+use broker_steps::may_say;
 use nsq_base::{Chan, Topic};
 use std::alloc::Global;
 use std::process::Abort;

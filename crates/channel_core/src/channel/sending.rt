@@ -218,8 +218,7 @@ impl Channel {
             return Err(Memory);
         };
         self.flights.reserve()?;
-        self.deferred.reserve(most)?;
-        Ok(())
+        self.deferred.reserve(most)
     }
 }
 

@@ -2,7 +2,7 @@
 ghost use Rattle.nsq_base.specs.Options.{IsInRange};
 ghost use Rattle.nsqd_host.specs.SysHosts.{IsAtHome, state_of};
 
-use crate::texts::same;
+use crate::texts::{check, same};
 use daemon_main::{Ending, close, line, serve};
 use nsq_base::{Body, Options};
 use nsq_outside::{Accept, Clock as _, Did, Folder, Host, Kind, Read, Sink, Source, Write};
@@ -347,9 +347,13 @@ fn refuses_a_port<R: Abort + Wait>(rt: &R, own: &HostRuntime) -> bool {
 
 #[test]
 fn the_real_machine(rt: HostRuntime) {
-    assert!(rt; gives_callers(&rt, &rt), "callers at both addresses");
-    assert!(rt; counts_faults(&rt, &rt), "an address in use");
-    assert!(rt; keeps_its_kit(&rt, &rt), "the kit and the standard streams");
-    assert!(rt; serves(&rt, &rt), "real connections");
-    assert!(rt; refuses_a_port(&rt, &rt), "a port in use");
+    check(&rt, gives_callers(&rt, &rt), "callers at both addresses");
+    check(&rt, counts_faults(&rt, &rt), "an address in use");
+    check(
+        &rt,
+        keeps_its_kit(&rt, &rt),
+        "the kit and the standard streams",
+    );
+    check(&rt, serves(&rt, &rt), "real connections");
+    check(&rt, refuses_a_port(&rt, &rt), "a port in use");
 }

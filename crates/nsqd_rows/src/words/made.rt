@@ -1,7 +1,7 @@
 //! Words that are made: none at all, and long texts.
 
 use crate::setting::words_of;
-use crate::texts::same;
+use crate::texts::{check, same};
 use crate::words::told::told;
 use nsqd_words::{Request, read_words};
 use std::alloc::Global;
@@ -29,10 +29,15 @@ fn is_served(rt: &impl Abort, alloc: Global, length: usize) -> bool {
 #[test]
 fn made(rt: HostRuntime) {
     let alloc = rt.alloc();
-    assert!(rt;
+    check(
+        &rt,
         same(&told(&rt, alloc, &[]), b"serve"),
-        "no words at all, not even the program's name"
+        "no words at all, not even the program's name",
     );
-    assert!(rt; is_served(&rt, alloc, 65_536), "the longest address");
-    assert!(rt; !is_served(&rt, alloc, 65_537), "an address of a byte more");
+    check(&rt, is_served(&rt, alloc, 65_536), "the longest address");
+    check(
+        &rt,
+        !is_served(&rt, alloc, 65_537),
+        "an address of a byte more",
+    );
 }

@@ -13,31 +13,42 @@ use std::process::Abort;
 use v2_frame::Message;
 
 // The record of 28 bytes is the message `hi` at moment 0, sent to nobody, with the first id of the first run.
-static ROWS: [&'static str; 12] = [
-    "no file: => epoch 0",
-    "bad metadata without a file of names: t.diskqueue.meta.dat is 1/0/ => epoch 0",
-    r#"a topic with one message: t.diskqueue.000000.dat is size 28+zeros 10+0000010000000000hi; t.diskqueue.meta.dat is 1/0,0/0,32/;
-            nsqd.dat is {"id_epoch":1,"topics":[{"channels":[],"name":"t","paused":false}],"version":"1.0.0"}
-        => epoch 1; topic t; first"#,
-    r#"a channel with one message: nsqd.dat is {"topics":[{"name":"t","paused":true,"channels":[{"name":"c"}]}]};
-            t:c.diskqueue.000000.dat is size 28+zeros 10+0000010000000000hi; t:c.diskqueue.meta.dat is 1/0,0/0,32/
-        => epoch 0; topic t paused; channel c; first"#,
-    "a file of names that is an array: nsqd.dat is [] => bad data",
-    r#"a bad file of names comes before a spent epoch: nsqd.dat is {"id_epoch":16777215,"topics":[{}]} => bad data"#,
-    r#"the last epoch: nsqd.dat is {"id_epoch":16777215,"topics":[{"name":"t"}]} => epoch spent"#,
-    r#"a spent epoch comes before bad metadata: nsqd.dat is {"id_epoch":16777215,"topics":[{"name":"t"}]}; t.diskqueue.meta.dat is 1/0/
-        => epoch spent"#,
-    r#"the epoch before the last: nsqd.dat is {"id_epoch":16777214} => epoch 16777214"#,
-    r#"bad metadata of a topic: nsqd.dat is {"id_epoch":1,"topics":[{"channels":[],"name":"t","paused":false}],"version":"1.0.0"};
-            t.diskqueue.meta.dat is 1/0/
-        => bad data"#,
-    r#"bad metadata of a channel that isn't listed: nsqd.dat is {"topics":[{"name":"t","channels":[{"name":"c"}]}]};
-            t:d.diskqueue.meta.dat is 1/0/
-        => epoch 0; topic t; channel c"#,
-    r#"bad metadata of a channel: nsqd.dat is {"topics":[{"name":"t","channels":[{"name":"c"}]}]}; t:d.diskqueue.meta.dat is 1/0/;
-            t:c.diskqueue.meta.dat is 1/0/
-        => bad data"#,
-];
+static ROWS: &'static str = r#"
+no file: => epoch 0
+
+bad metadata without a file of names: t.diskqueue.meta.dat is 1/0/ => epoch 0
+
+a topic with one message: t.diskqueue.000000.dat is size 28+zeros 10+0000010000000000hi; t.diskqueue.meta.dat is 1/0,0/0,32/;
+        nsqd.dat is {"id_epoch":1,"topics":[{"channels":[],"name":"t","paused":false}],"version":"1.0.0"}
+    => epoch 1; topic t; first
+
+a channel with one message: nsqd.dat is {"topics":[{"name":"t","paused":true,"channels":[{"name":"c"}]}]};
+        t:c.diskqueue.000000.dat is size 28+zeros 10+0000010000000000hi; t:c.diskqueue.meta.dat is 1/0,0/0,32/
+    => epoch 0; topic t paused; channel c; first
+
+a file of names that is an array: nsqd.dat is [] => bad data
+
+a bad file of names comes before a spent epoch: nsqd.dat is {"id_epoch":16777215,"topics":[{}]} => bad data
+
+the last epoch: nsqd.dat is {"id_epoch":16777215,"topics":[{"name":"t"}]} => epoch spent
+
+a spent epoch comes before bad metadata: nsqd.dat is {"id_epoch":16777215,"topics":[{"name":"t"}]}; t.diskqueue.meta.dat is 1/0/
+    => epoch spent
+
+the epoch before the last: nsqd.dat is {"id_epoch":16777214} => epoch 16777214
+
+bad metadata of a topic: nsqd.dat is {"id_epoch":1,"topics":[{"channels":[],"name":"t","paused":false}],"version":"1.0.0"};
+        t.diskqueue.meta.dat is 1/0/
+    => bad data
+
+bad metadata of a channel that isn't listed: nsqd.dat is {"topics":[{"name":"t","channels":[{"name":"c"}]}]};
+        t:d.diskqueue.meta.dat is 1/0/
+    => epoch 0; topic t; channel c
+
+bad metadata of a channel: nsqd.dat is {"topics":[{"name":"t","channels":[{"name":"c"}]}]}; t:d.diskqueue.meta.dat is 1/0/;
+        t:c.diskqueue.meta.dat is 1/0/
+    => bad data
+"#;
 
 fn is_first(message: &Message) -> bool {
     message.stamp == 0
@@ -93,7 +104,7 @@ fn holds(rt: &impl Abort, alloc: Global, row: &str) -> bool {
 
 #[test]
 fn rows(rt: HostRuntime) {
-    for row in &ROWS {
+    for row in ROWS.trim().split("\n\n") {
         check(&rt, holds(&rt, rt.alloc(), row), row);
     }
 }

@@ -10,7 +10,7 @@
 use crate::check;
 use crate::folders::{all_told, folder_told, let_folder_go};
 use crate::text::{call_of, cut_at, part, unknown};
-use names_reading::read_names;
+use names_file::read_names;
 use nsq_fakes::{Called, FolderCall, MemFolder};
 use queue_sweep::{Unswept, set_aside_unlisted};
 use std::alloc::Global;
@@ -19,58 +19,65 @@ use std::process::Abort;
 const LISTED: &[u8] =
     br#"{"topics":[{"name":"t","channels":[{"name":"a"},{"name":"c"}]},{"name":"v"}]}"#;
 
-static ROWS: [&'static str; 8] = [
-    "an empty folder
-        files: fails: calls: List left:",
-    "a name that is there already is replaced
-        files: a.diskqueue.000000.dat is new; a.diskqueue.000000.dat.bad is old
-        fails:
-        calls: List Rename SyncNames
-        left: a.diskqueue.000000.dat absent; a.diskqueue.000000.dat.bad is new",
-    "an unlisted channel of a listed topic
-        files: nsqd.dat is names; t.diskqueue.000000.dat is topic; t:a.diskqueue.000000.dat is channel; t:b.diskqueue.000000.dat is gone;
-            t:b.diskqueue.000001.dat.bad is bad; t:b.diskqueue.meta.dat.tmp is temp
-        fails:
-        calls: List Rename SyncNames
-        left: nsqd.dat is names; t.diskqueue.000000.dat is topic; t:a.diskqueue.000000.dat is channel; t:b.diskqueue.000000.dat absent;
-            t:b.diskqueue.000000.dat.bad is gone; t:b.diskqueue.000001.dat.bad is bad; t:b.diskqueue.meta.dat.tmp is temp",
-    "the files of two queues, and one sync
-        files: a.diskqueue.000000.dat is 0; a.diskqueue.000001.dat is 1; a:b.diskqueue.meta.dat is meta
-        fails:
-        calls: List Rename Rename Rename SyncNames
-        left: a.diskqueue.000000.dat absent; a.diskqueue.000001.dat absent; a:b.diskqueue.meta.dat absent;
-            a.diskqueue.000000.dat.bad is 0; a.diskqueue.000001.dat.bad is 1; a:b.diskqueue.meta.dat.bad is meta",
-    "the listing
-        files: a.diskqueue.000000.dat is first; a.diskqueue.meta.dat is second; t.diskqueue.meta.dat is listed
-        fails: List 0 1
-        calls: List
-        left: a.diskqueue.000000.dat is first; a.diskqueue.meta.dat is second; a.diskqueue.000000.dat.bad absent
-        again: a.diskqueue.000000.dat absent; a.diskqueue.000000.dat.bad is first; a.diskqueue.meta.dat absent;
-            a.diskqueue.meta.dat.bad is second; t.diskqueue.meta.dat is listed",
-    "the first rename
-        files: a.diskqueue.000000.dat is first; a.diskqueue.meta.dat is second; t.diskqueue.meta.dat is listed
-        fails: Rename 0 1
-        calls: List Rename
-        left: a.diskqueue.000000.dat is first; a.diskqueue.meta.dat is second; a.diskqueue.000000.dat.bad absent
-        again: a.diskqueue.000000.dat absent; a.diskqueue.000000.dat.bad is first; a.diskqueue.meta.dat absent;
-            a.diskqueue.meta.dat.bad is second; t.diskqueue.meta.dat is listed",
-    "the second rename
-        files: a.diskqueue.000000.dat is first; a.diskqueue.meta.dat is second; t.diskqueue.meta.dat is listed
-        fails: Rename 1 2
-        calls: List Rename Rename
-        left: a.diskqueue.000000.dat absent; a.diskqueue.000000.dat.bad is first; a.diskqueue.meta.dat is second;
-            a.diskqueue.meta.dat.bad absent
-        again: a.diskqueue.000000.dat absent; a.diskqueue.000000.dat.bad is first; a.diskqueue.meta.dat absent;
-            a.diskqueue.meta.dat.bad is second; t.diskqueue.meta.dat is listed",
-    "the sync of the names
-        files: a.diskqueue.000000.dat is first; a.diskqueue.meta.dat is second; t.diskqueue.meta.dat is listed
-        fails: SyncNames 0 1
-        calls: List Rename Rename SyncNames
-        left: a.diskqueue.000000.dat absent; a.diskqueue.000000.dat.bad is first; a.diskqueue.meta.dat absent;
-            a.diskqueue.meta.dat.bad is second; t.diskqueue.meta.dat is listed
-        again: a.diskqueue.000000.dat absent; a.diskqueue.000000.dat.bad is first; a.diskqueue.meta.dat absent;
-            a.diskqueue.meta.dat.bad is second; t.diskqueue.meta.dat is listed",
-];
+static ROWS: &'static str = "
+an empty folder
+    files: fails: calls: List left:
+
+a name that is there already is replaced
+    files: a.diskqueue.000000.dat is new; a.diskqueue.000000.dat.bad is old
+    fails:
+    calls: List Rename SyncNames
+    left: a.diskqueue.000000.dat absent; a.diskqueue.000000.dat.bad is new
+
+an unlisted channel of a listed topic
+    files: nsqd.dat is names; t.diskqueue.000000.dat is topic; t:a.diskqueue.000000.dat is channel; t:b.diskqueue.000000.dat is gone;
+        t:b.diskqueue.000001.dat.bad is bad; t:b.diskqueue.meta.dat.tmp is temp
+    fails:
+    calls: List Rename SyncNames
+    left: nsqd.dat is names; t.diskqueue.000000.dat is topic; t:a.diskqueue.000000.dat is channel; t:b.diskqueue.000000.dat absent;
+        t:b.diskqueue.000000.dat.bad is gone; t:b.diskqueue.000001.dat.bad is bad; t:b.diskqueue.meta.dat.tmp is temp
+
+the files of two queues, and one sync
+    files: a.diskqueue.000000.dat is 0; a.diskqueue.000001.dat is 1; a:b.diskqueue.meta.dat is meta
+    fails:
+    calls: List Rename Rename Rename SyncNames
+    left: a.diskqueue.000000.dat absent; a.diskqueue.000001.dat absent; a:b.diskqueue.meta.dat absent;
+        a.diskqueue.000000.dat.bad is 0; a.diskqueue.000001.dat.bad is 1; a:b.diskqueue.meta.dat.bad is meta
+
+the listing
+    files: a.diskqueue.000000.dat is first; a.diskqueue.meta.dat is second; t.diskqueue.meta.dat is listed
+    fails: List 0 1
+    calls: List
+    left: a.diskqueue.000000.dat is first; a.diskqueue.meta.dat is second; a.diskqueue.000000.dat.bad absent
+    again: a.diskqueue.000000.dat absent; a.diskqueue.000000.dat.bad is first; a.diskqueue.meta.dat absent;
+        a.diskqueue.meta.dat.bad is second; t.diskqueue.meta.dat is listed
+
+the first rename
+    files: a.diskqueue.000000.dat is first; a.diskqueue.meta.dat is second; t.diskqueue.meta.dat is listed
+    fails: Rename 0 1
+    calls: List Rename
+    left: a.diskqueue.000000.dat is first; a.diskqueue.meta.dat is second; a.diskqueue.000000.dat.bad absent
+    again: a.diskqueue.000000.dat absent; a.diskqueue.000000.dat.bad is first; a.diskqueue.meta.dat absent;
+        a.diskqueue.meta.dat.bad is second; t.diskqueue.meta.dat is listed
+
+the second rename
+    files: a.diskqueue.000000.dat is first; a.diskqueue.meta.dat is second; t.diskqueue.meta.dat is listed
+    fails: Rename 1 2
+    calls: List Rename Rename
+    left: a.diskqueue.000000.dat absent; a.diskqueue.000000.dat.bad is first; a.diskqueue.meta.dat is second;
+        a.diskqueue.meta.dat.bad absent
+    again: a.diskqueue.000000.dat absent; a.diskqueue.000000.dat.bad is first; a.diskqueue.meta.dat absent;
+        a.diskqueue.meta.dat.bad is second; t.diskqueue.meta.dat is listed
+
+the sync of the names
+    files: a.diskqueue.000000.dat is first; a.diskqueue.meta.dat is second; t.diskqueue.meta.dat is listed
+    fails: SyncNames 0 1
+    calls: List Rename Rename SyncNames
+    left: a.diskqueue.000000.dat absent; a.diskqueue.000000.dat.bad is first; a.diskqueue.meta.dat absent;
+        a.diskqueue.meta.dat.bad is second; t.diskqueue.meta.dat is listed
+    again: a.diskqueue.000000.dat absent; a.diskqueue.000000.dat.bad is first; a.diskqueue.meta.dat absent;
+        a.diskqueue.meta.dat.bad is second; t.diskqueue.meta.dat is listed
+";
 
 // These files are set aside, each in a folder of its own.
 static MOVED: &str = "
@@ -204,7 +211,7 @@ fn stays(rt: &impl Abort, alloc: Global, name: &str) -> bool {
 
 #[test]
 fn rows(rt: HostRuntime) {
-    for row in &ROWS {
+    for row in ROWS.trim().split("\n\n") {
         check(&rt, holds(&rt, rt.alloc(), row), row);
     }
 }

@@ -4,6 +4,7 @@ ghost use Rattle.std.specs.Prelude.{◌≡◌, All, length, IfOk};
 ghost use Rattle.backlog.specs.Seen.{FitsLimit};
 ghost use Rattle.topic_core.specs.Seen.{IsSettled};
 
+use crate::folders::let_folder_go;
 use crate::room::Room;
 use crate::same;
 use crate::text::unknown;
@@ -42,15 +43,35 @@ impl Bench {
         memory: u64,
         fails: &[Failing],
     ) -> Result<Bench, Memory> {
-        let folder = MemFolder::new(alloc, Vec::new(alloc), fails.to_vec(alloc)?)?;
-        let mut options = Options::defaults(alloc)?;
-        options.mem_queue_size = memory;
-        let topic = TopicQueue::fresh(alloc, name, &options)?;
-        Ok(Bench {
-            topic,
-            folder,
-            options,
-        })
+        let fails = fails.to_vec(alloc)?;
+        let folder = MemFolder::new(alloc, Vec::new(alloc), fails)?;
+        match options_of(alloc, memory) {
+            Ok(options) => Bench::over(alloc, name, folder, options),
+            Err(Memory) => {
+                let_folder_go(folder);
+                Err(Memory)
+            }
+        }
+    }
+
+    // A new topic in a folder.
+    fn over(
+        alloc: Global,
+        name: Topic,
+        folder: MemFolder,
+        options: Options,
+    ) -> Result<Bench, Memory> {
+        match TopicQueue::fresh(alloc, name, &options) {
+            Ok(topic) => Ok(Bench {
+                topic,
+                folder,
+                options,
+            }),
+            Err(Memory) => {
+                let_folder_go(folder);
+                Err(Memory)
+            }
+        }
     }
 
     /// Puts the messages of these numbers together. The answer, and how many are left.
@@ -179,6 +200,13 @@ impl Bench {
     }
 }
 
+// The default options but for how many messages are kept in memory.
+fn options_of(alloc: Global, memory: u64) -> Result<Options, Memory> {
+    let mut options = Options::defaults(alloc)?;
+    options.mem_queue_size = memory;
+    Ok(options)
+}
+
 /// A new topic of that name in an empty folder, as a bench.
 pub fn bench_of(
     rt: &impl Abort,
@@ -197,7 +225,18 @@ pub fn bench_of(
 fn let_topic_go(_topic: TopicQueue) {}
 
 /// Takes a bench apart, once for all that held one.
-pub fn let_go(_bench: Bench) {}
+pub fn let_go(bench: Bench) {
+    let Bench {
+        topic,
+        folder,
+        options,
+    } = bench;
+    let_topic_go(topic);
+    let_folder_go(folder);
+    let_options_go(options);
+}
+
+fn let_options_go(_options: Options) {}
 
 /// The delay of the message of this number.
 pub fn delay_of(number: u64) -> u64 {

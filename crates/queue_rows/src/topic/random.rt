@@ -8,7 +8,7 @@ ghost use Rattle.std.specs.Prelude.{◌≤◌};
 use crate::check;
 use crate::room::Room;
 use crate::text::{cut, fails_of, number, part};
-use crate::topic::bench::{Bench, bench_of};
+use crate::topic::bench::{Bench, bench_of, let_go as let_bench_go};
 use crate::topic::plain::Plain;
 use backlog::{Flushed, PutAll};
 use disk_queue::{Emptied, Open};
@@ -216,7 +216,16 @@ fn pair_of(rt: &impl Abort, alloc: Global, run: &str) -> Pair {
     }
 }
 
-fn let_go(_pair: Pair) {}
+fn let_go(pair: Pair) {
+    let Pair {
+        bench,
+        plain: _plain,
+        fails: _,
+        next: _,
+        state: _,
+    } = pair;
+    let_bench_go(bench);
+}
 
 // Whether all random calls of a run answer and show what the list says.
 fn holds(rt: &impl Abort, alloc: Global, room: &mut Room, run: &str) -> bool {

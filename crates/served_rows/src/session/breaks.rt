@@ -4,7 +4,7 @@ use super::letters::{length_of, put_frames};
 use super::served::{Case, case_of, goes, write_all};
 use crate::conn::Fails;
 use crate::lists::{push, put, same};
-use crate::text::{column, cut, number};
+use crate::text::{column, cut, number, unknown};
 use std::alloc::Global;
 use std::process::Abort;
 use std::sync::Wait;
@@ -193,7 +193,7 @@ fn breaks(rt: &impl Abort, case: &mut Case, place: Place, takes: usize, cause: &
             }
             place.letter == b'w'
         }
-        _ => panic!(rt; "nothing breaks off by {cause}"),
+        _ => unknown(rt, cause),
     }
 }
 

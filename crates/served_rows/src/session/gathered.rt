@@ -1,8 +1,8 @@
 //! Connections whose writes are gathered until the next read, as those over TCP are: what leaves together.
 
 use super::lines::{ANSWERS, CALLS, SENT, pieces_in};
+use super::served::{has_letters, let_floor_go};
 use crate::conn::{Fails, conn_of};
-use crate::lists::same;
 use crate::text::{column, spread};
 use nsq_fakes::MemConn;
 use nsq_outside::{Conn, Faults, Read, Sink, Source, Write, get};
@@ -131,8 +131,13 @@ fn holds<R: Abort + Wait>(rt: &R, alloc: Global, row: &str) -> bool {
     let mut conn = gathering(rt, alloc, row, &trace);
     let mut floor = floor_of(script, usize::MAX, &trace);
     let _ = serve_by(rt, alloc, &mut conn, &mut floor);
-    same(&trace.letters(alloc).expect(rt, "memory"), &wanted)
+    let_go(conn);
+    let_floor_go(floor);
+    has_letters(rt, alloc, &trace, &wanted)
 }
+
+// Lets go of a connection.
+fn let_go(_conn: GatheringConn<'_>) {}
 
 #[test]
 fn rows(rt: HostRuntime) {

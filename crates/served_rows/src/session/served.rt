@@ -4,8 +4,8 @@ use super::letters::put_frames;
 use super::lines::{ANSWERS, CALLS, ENDED, FAILS, SENT, WANTED, WRITTEN, pieces_in};
 use crate::conn::{Fails, Watch, WatchedConn, conn_of, failing, let_go};
 use crate::lists::{copied, same};
-use crate::text::{column, spread, word_of};
-use session_scripts::{Trace, floor_of, serve_by};
+use crate::text::{column, spread, unknown, word_of};
+use session_scripts::{ScriptedFloor, Trace, floor_of, serve_by};
 use std::alloc::Global;
 use std::process::Abort;
 use std::sync::Wait;
@@ -56,7 +56,7 @@ fn wanted_by(rt: &impl Abort, word: &str) -> u64 {
     match word {
         "" => 0,
         "once" => 1,
-        _ => panic!(rt; "memory isn't wanting {word}"),
+        _ => unknown(rt, word),
     }
 }
 
@@ -75,13 +75,22 @@ pub fn goes<R: Abort + Wait>(rt: &R, alloc: Global, case: &Case) -> bool {
     };
     let mut floor = floor_of(copied(rt, alloc, &case.script), case.stops, &trace);
     let (ended, wanted) = serve_by(rt, alloc, &mut conn, &mut floor);
-    let is_seen = wanted == case.wanted
+    let has_ended = wanted == case.wanted
         && same(word_of(ended).as_bytes(), case.ended.as_bytes())
-        && same(conn.written(), &case.written)
-        && same(&trace.letters(alloc).expect(rt, "memory"), &case.trace)
-        && is_command(&floor.command, case.command);
+        && same(conn.written(), &case.written);
     let_go(conn);
-    is_seen
+    let is_noted = is_command(&floor.command, case.command);
+    let_floor_go(floor);
+    has_ended && is_noted && has_letters(rt, alloc, &trace, &case.trace)
+}
+
+/// Takes a floor apart that answers by a script.
+pub fn let_floor_go(_floor: ScriptedFloor<'_>) {}
+
+/// Whether a trace has these letters, in this order.
+pub fn has_letters(rt: &impl Abort, alloc: Global, trace: &Trace, letters: &[u8]) -> bool {
+    let noted = trace.letters(alloc).expect(rt, "memory");
+    same(&noted, letters)
 }
 
 // Whether the first command that came to a floor prints so, where that is looked at.

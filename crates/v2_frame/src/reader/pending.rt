@@ -4,8 +4,8 @@ ghost use Rattle.v2_frame.specs.Line.{HasNo};
 ghost use Rattle.v2_frame.specs.Parts.{EndsLine};
 ghost use Rattle.v2_frame.specs.declared.fault.Limits.{Limits};
 
-use crate::size::size_of;
 use memchr::memchr;
+use v2_sizes::size_of;
 
 /// The place of the first line feed, or None where there is none. So many bytes at the front are none.
 pub(crate) fn first_line(bytes: &[u8], scanned: usize) -> Option<usize>

@@ -1,4 +1,4 @@
-use Rattle.std.proofs.Common.{arith, refl, sym, subst, ap, ◌∙◌, inl}
+use Rattle.std.proofs.Common.{arith, refl, sym, subst, ap, ◌∙◌, inl, inr}
 use Rattle.nsq_outside.specs.Hosts.{HostContent, OnlyAcceptFaults}
 use Rattle.daemon_loop.proofs.Handing.{accepted_then}
 use Rattle.daemon_loop.proofs.Rounding.{rounds_failed, rounds_first, rounds_halted, rounds_new, rounds_served, rounds_tick, rounds_waited, rose_wider}
@@ -31,37 +31,71 @@ callers-preserved g c = record {
   state = accepted_then _ _ _ c.callers.invariant.state c.accept.ensures.state;
 }
 
-pub returns-in-Stopping-clause-over : goal.returns-in-Stopping-clause-over
-returns-in-Stopping-clause-over g c =
-    let rounds = rounds_tick _ _ _ _ _ _ _ _ (λ told. told.host) (λ told. told.notes) c.callers.number _ _ _ _ _ _ c.callers.invariant.rounds c.in-Stopping.ensures.ticks in
-    record { number = c.callers.number; rounds = rounds; why = λ told. c.in-Stopping.ensures.ticks.noted told.notes }
-
-pub returns-in-Memory-clause-over : goal.returns-in-Memory-clause-over
-returns-in-Memory-clause-over g c =
-    let rounds = rounds_tick _ _ _ _ _ _ _ _ (λ told. told.host) (λ told. told.notes) c.callers.number _ _ _ _ _ _ c.callers.invariant.rounds c.in-Memory.ensures.ticks in
-    record { number = c.callers.number; rounds = rounds; why = λ told. tt }
-
-pub returns-in-Halt-clause-over : goal.returns-in-Halt-clause-over
-returns-in-Halt-clause-over g c = record {
-  number = c.callers.number;
-  rounds = rounds_halted _ _ _ _ _ _ _ _ (λ told. told.host) (λ told. told.notes) c.callers.number _ _ _ _ _ _ c.callers.invariant.rounds c.in-Quiet.ensures.ticks (λ told. (c.in-Halt.ensures.content told).1);
-  why = λ told. inl (ap (λ (x : HostContent _). x.halted) (c.in-Halt.ensures.content told.host).1);
+pub returns-then-number : goal.returns-then-number
+returns-then-number g c = record {
+  unflushed = c.callers.invariant.unflushed;
+  over = record { number = c.callers.number; rounds = c.callers.invariant.rounds; why = λ told. inr c.if-number.true };
+  state = c.callers.invariant.state;
+  cause = λ is. cc;
+  listeners = λ told is. cc;
 }
 
-pub returns-in-Failed-clause-over : goal.returns-in-Failed-clause-over
-returns-in-Failed-clause-over g c = record {
-  number = c.callers.number;
-  rounds = rounds_failed _ _ _ _ _ _ _ _ (λ told. told.host) (λ told. told.notes) c.callers.number _ _ _ _ _ _ c.callers.invariant.rounds c.in-Quiet.ensures.ticks c.in-Failed.ensures.content;
-  why = λ told. rose_wider _ _ _ _ c.callers.invariant.state.0 (omega arith) c.in-Failed.ensures.cause;
+pub returns-in-Stopping : goal.returns-in-Stopping
+returns-in-Stopping g c = record {
+  unflushed = c.tick.ensures.unflushed;
+  over = record {
+    number = c.callers.number;
+    rounds = rounds_tick _ _ _ _ _ _ _ _ (λ told. told.host) (λ told. told.notes) c.callers.number _ _ _ _ _ _ c.callers.invariant.rounds c.in-Stopping.ensures.ticks;
+    why = λ told. c.in-Stopping.ensures.ticks.noted told.notes;
+  };
+  state = c.callers.invariant.state;
+  cause = λ is. cc;
+  listeners = λ told is. cc;
 }
 
-pub returns-in-Failed-clause-listeners : goal.returns-in-Failed-clause-listeners
-returns-in-Failed-clause-listeners g c = λ told is.
-    let same = c.in-Failed.ensures.content told in
-    record {
-      at = c.callers.host;
-      from_entry = c.callers.invariant.state.0;
-      rose = c.in-Failed.ensures.cause;
-      given = ap (λ (x : HostContent _). x.given) same;
-      back = ap (λ (x : HostContent _). x.back) same;
-    }
+pub returns-in-Memory : goal.returns-in-Memory
+returns-in-Memory g c = record {
+  unflushed = c.tick.ensures.unflushed;
+  over = record {
+    number = c.callers.number;
+    rounds = rounds_tick _ _ _ _ _ _ _ _ (λ told. told.host) (λ told. told.notes) c.callers.number _ _ _ _ _ _ c.callers.invariant.rounds c.in-Memory.ensures.ticks;
+    why = λ told. tt;
+  };
+  state = c.callers.invariant.state;
+  cause = λ is. cc;
+  listeners = λ told is. cc;
+}
+
+pub returns-in-Halt : goal.returns-in-Halt
+returns-in-Halt g c = record {
+  unflushed = c.tick.ensures.unflushed;
+  over = record {
+    number = c.callers.number;
+    rounds = rounds_halted _ _ _ _ _ _ _ _ (λ told. told.host) (λ told. told.notes) c.callers.number _ _ _ _ _ _ c.callers.invariant.rounds c.in-Quiet.ensures.ticks (λ told. (c.in-Halt.ensures.content told).1);
+    why = λ told. inl (ap (λ (x : HostContent _). x.halted) (c.in-Halt.ensures.content told.host).1);
+  };
+  state = accepted_then _ _ _ c.callers.invariant.state c.accept.ensures.state;
+  cause = λ is. cc;
+  listeners = λ told is. cc;
+}
+
+pub returns-in-Failed : goal.returns-in-Failed
+returns-in-Failed g c = record {
+  unflushed = c.tick.ensures.unflushed;
+  over = record {
+    number = c.callers.number;
+    rounds = rounds_failed _ _ _ _ _ _ _ _ (λ told. told.host) (λ told. told.notes) c.callers.number _ _ _ _ _ _ c.callers.invariant.rounds c.in-Quiet.ensures.ticks c.in-Failed.ensures.content;
+    why = λ told. rose_wider _ _ _ _ c.callers.invariant.state.0 (omega arith) c.in-Failed.ensures.cause;
+  };
+  state = accepted_then _ _ _ c.callers.invariant.state c.accept.ensures.state;
+  cause = λ is. rose_wider _ _ _ _ c.callers.invariant.state.0 (omega arith) c.in-Failed.ensures.cause;
+  listeners = λ told is.
+      let same = c.in-Failed.ensures.content told in
+      record {
+        at = c.callers.host;
+        from_entry = c.callers.invariant.state.0;
+        rose = c.in-Failed.ensures.cause;
+        given = ap (λ (x : HostContent _). x.given) same;
+        back = ap (λ (x : HostContent _). x.back) same;
+      };
+}

@@ -1,4 +1,5 @@
-use Rattle.std.proofs.Common.{List, ℕ, true, get_or, refl, ap, subst, ◌∙◌}
+use Rattle.std.proofs.Common.{List, ℕ, true, get_or, length, refl, ap, subst, ◌∙◌, arith}
+use Rattle.std.proofs.lemmas.List.{length-set}
 use Rattle.std.specs.List.{insert}
 use Rattle.broker_history.specs.Changes.{without_topic}
 use Rattle.floor_rooms.specs.declared.hall.Hall.{Hall}
@@ -150,3 +151,10 @@ returns-in-Fault-clause-names g c =
 
 pub returns-in-Fault-clause-since : goal.returns-in-Fault-clause-since
 returns-in-Fault-clause-since g c = since_kept c.args.hall.now.moment c.args.hall.now.rooms.items c.put_back.new.items.items (returns-in-Fault-clause-rooms g c c.remove-queue.result)
+
+pub remove-queue-requires : goal.remove-queue-requires
+remove-queue-requires g c =
+    let h0 = c.args.hall.now in
+    let h1 = c.mark_room.new.self in
+    let mark = c.mark_room.ensures.room in
+    omega (arith, c.requires.room, ap length mark.is, length-set h0.rooms.items c.args.i mark.after, h1.rooms.ok.0)

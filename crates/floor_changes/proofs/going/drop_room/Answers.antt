@@ -1,65 +1,56 @@
-use Rattle.std.proofs.Common.{ap, refl}
+use Rattle.std.proofs.Common.{◌≡◌, ◌<◌, ◌∙◌, true, MatchBool, sym, ap, refl, subst, arith}
+use Rattle.std.proofs.lemmas.Bool.{false≢true}
+use Rattle.nsq_base.specs.Name.{is_ephemeral}
 use Rattle.floor_rooms.specs.declared.hall.Hall.{Hall}
+use Rattle.floor_changes.specs.Going.{UnsavedBy}
+use Rattle.floor_changes.specs.declared.lost.Lost.TheVariants.{Done}
+use Rattle.floor_changes.proofs.LostPlaces.{same_truth, told_of}
 use Rattle.floor_changes.proofs.going.drop_room.Goals as goal
 
-pub returns-then-ephemeral-clause-rest : goal.returns-then-ephemeral-clause-rest
-returns-then-ephemeral-clause-rest g c =
-    let new = c.forget_room.new.hall in
-    ap (λ (x : Hall). record x { unsaved_names = new.unsaved_names; unsaved_from = new.unsaved_from }) c.forget_room.ensures.rest
+pub returns-then-ephemeral : goal.returns-then-ephemeral
+returns-then-ephemeral g c = record {
+  rest =
+      let new = c.forget_room.new.hall in
+      ap (λ (x : Hall). record x { unsaved_names = new.unsaved_names; unsaved_from = new.unsaved_from }) c.forget_room.ensures.rest;
+  sound = c.forget_room.ensures.sound;
+  stands = λ told d. c.forget_room.ensures.stands d (g.F.Folder.files c.args.folder.now);
+  others = λ told d name apart file own. refl;
+  faults = omega arith;
+  cause = tt;
+  rooms = c.forget_room.ensures.rooms;
+  files = λ told file no. refl;
+  names = c.forget_room.ensures.names;
+  since = c.forget_room.ensures.since;
+  ephemeral = λ d ephemeral. refl;
+  unsaved =
+      let old = c.args.hall.now.unsaved_names in
+      let new = c.forget_room.new.hall.unsaved_names in
+      told_of (λ topic. MatchBool (is_ephemeral topic) (new ≡ old) (UnsavedBy Done old new)) c.args.hall.now.rooms.items c.args.i c.index.result.now c.requires.room c.index.ensures
+      (subst (λ b. MatchBool b (new ≡ old) (UnsavedBy Done old new)) (sym (ap is_ephemeral (sym c.name.ensures) ∙ sym (same_truth c.ephemeral.result _ c.ephemeral.ensures) ∙ c.if-ephemeral.true)) (ap (λ (x : Hall). x.unsaved_names) c.forget_room.ensures.rest));
+}
 
-pub returns-then-ephemeral-clause-sound : goal.returns-then-ephemeral-clause-sound
-returns-then-ephemeral-clause-sound g c = c.forget_room.ensures.sound
+pub returns : goal.returns
+returns g c = record {
+  rest = c.delete_room.ensures.rest;
+  sound = c.delete_room.ensures.sound;
+  stands = λ told. c.delete_room.ensures.stands told;
+  others = λ told. c.delete_room.ensures.others told;
+  faults = c.delete_room.ensures.faults;
+  cause = c.delete_room.ensures.cause;
+  rooms = c.delete_room.ensures.rooms;
+  files = λ told. c.delete_room.ensures.files told;
+  names = c.delete_room.ensures.names;
+  since = c.delete_room.ensures.since;
+  ephemeral = told_of (λ topic. is_ephemeral topic ≡ true → c.delete_room.result ≡ Done) c.args.hall.now.rooms.items c.args.i c.index.result.now c.requires.room c.index.ensures (λ ephemeral. absurd (false≢true (sym (ap is_ephemeral (sym c.name.ensures) ∙ sym (same_truth c.ephemeral.result _ c.ephemeral.ensures) ∙ c.if-ephemeral.false) ∙ ephemeral)));
+  unsaved =
+      let old = c.args.hall.now.unsaved_names in
+      let new = c.delete_room.new.hall.unsaved_names in
+      told_of (λ topic. MatchBool (is_ephemeral topic) (new ≡ old) (UnsavedBy c.delete_room.result old new)) c.args.hall.now.rooms.items c.args.i c.index.result.now c.requires.room c.index.ensures
+      (subst (λ b. MatchBool b (new ≡ old) (UnsavedBy c.delete_room.result old new)) (sym (ap is_ephemeral (sym c.name.ensures) ∙ sym (same_truth c.ephemeral.result _ c.ephemeral.ensures) ∙ c.if-ephemeral.false)) c.delete_room.ensures.unsaved);
+}
 
-pub returns-then-ephemeral-clause-stands : goal.returns-then-ephemeral-clause-stands
-returns-then-ephemeral-clause-stands g c = λ told d. c.forget_room.ensures.stands d (g.F.Folder.files c.args.folder.now)
+pub index-requires : goal.index-requires
+index-requires g c = subst (λ n. c.args.i < n) (sym c.args.hall.now.rooms.ok.0) c.requires.room
 
-pub returns-then-ephemeral-clause-others : goal.returns-then-ephemeral-clause-others
-returns-then-ephemeral-clause-others g c = λ told d name apart file own. refl
-
-pub returns-then-ephemeral-clause-cause : goal.returns-then-ephemeral-clause-cause
-returns-then-ephemeral-clause-cause g c = tt
-
-pub returns-then-ephemeral-clause-rooms : goal.returns-then-ephemeral-clause-rooms
-returns-then-ephemeral-clause-rooms g c = c.forget_room.ensures.rooms
-
-pub returns-then-ephemeral-clause-files : goal.returns-then-ephemeral-clause-files
-returns-then-ephemeral-clause-files g c = λ told file no. refl
-
-pub returns-then-ephemeral-clause-names : goal.returns-then-ephemeral-clause-names
-returns-then-ephemeral-clause-names g c = c.forget_room.ensures.names
-
-pub returns-then-ephemeral-clause-since : goal.returns-then-ephemeral-clause-since
-returns-then-ephemeral-clause-since g c = c.forget_room.ensures.since
-
-pub returns-then-ephemeral-clause-ephemeral : goal.returns-then-ephemeral-clause-ephemeral
-returns-then-ephemeral-clause-ephemeral g c = λ d ephemeral. refl
-
-pub returns-clause-rest : goal.returns-clause-rest
-returns-clause-rest g c = c.delete_room.ensures.rest
-
-pub returns-clause-sound : goal.returns-clause-sound
-returns-clause-sound g c = c.delete_room.ensures.sound
-
-pub returns-clause-stands : goal.returns-clause-stands
-returns-clause-stands g c = λ told. c.delete_room.ensures.stands told
-
-pub returns-clause-others : goal.returns-clause-others
-returns-clause-others g c = λ told. c.delete_room.ensures.others told
-
-pub returns-clause-faults : goal.returns-clause-faults
-returns-clause-faults g c = c.delete_room.ensures.faults
-
-pub returns-clause-cause : goal.returns-clause-cause
-returns-clause-cause g c = c.delete_room.ensures.cause
-
-pub returns-clause-rooms : goal.returns-clause-rooms
-returns-clause-rooms g c = c.delete_room.ensures.rooms
-
-pub returns-clause-files : goal.returns-clause-files
-returns-clause-files g c = λ told. c.delete_room.ensures.files told
-
-pub returns-clause-names : goal.returns-clause-names
-returns-clause-names g c = c.delete_room.ensures.names
-
-pub returns-clause-since : goal.returns-clause-since
-returns-clause-since g c = c.delete_room.ensures.since
+pub forget_room-requires-clause-ephemeral : goal.forget_room-requires-clause-ephemeral
+forget_room-requires-clause-ephemeral g c = told_of (λ topic. is_ephemeral topic ≡ true) c.args.hall.now.rooms.items c.args.i c.index.result.now c.requires.room c.index.ensures (ap is_ephemeral (sym c.name.ensures) ∙ sym (same_truth c.ephemeral.result _ c.ephemeral.ensures) ∙ c.if-ephemeral.true)

@@ -1,71 +1,64 @@
-use Rattle.std.proofs.Common.{ap, refl}
+use Rattle.std.proofs.Common.{◌≡◌, ◌<◌, ◌∙◌, true, MatchBool, sym, ap, refl, subst, arith}
+use Rattle.std.proofs.lemmas.Bool.{false≢true}
+use Rattle.broker_history.specs.State.{is_ephemeral_channel}
 use Rattle.floor_rooms.specs.declared.hall.Hall.{Hall}
+use Rattle.floor_rooms.proofs.Marked.{range_of}
+use Rattle.floor_changes.specs.Going.{UnsavedBy}
+use Rattle.floor_changes.specs.declared.lost.Lost.TheVariants.{Done}
+use Rattle.floor_changes.proofs.LostPlaces.{told_at}
 use Rattle.floor_changes.proofs.losing.lose_stall.Goals as goal
 
-pub returns-then-is_ephemeral_at-clause-rest : goal.returns-then-is_ephemeral_at-clause-rest
-returns-then-is_ephemeral_at-clause-rest g c =
-    let new = c.forget_stall.new.hall in
-    ap (λ (x : Hall). record x { unsaved_names = new.unsaved_names; unsaved_from = new.unsaved_from }) c.forget_stall.ensures.rest
+pub returns-then-is_ephemeral_at : goal.returns-then-is_ephemeral_at
+returns-then-is_ephemeral_at g c = record {
+  rest =
+      let new = c.forget_stall.new.hall in
+      ap (λ (x : Hall). record x { unsaved_names = new.unsaved_names; unsaved_from = new.unsaved_from }) c.forget_stall.ensures.rest;
+  rooms = c.forget_stall.ensures.rooms;
+  clients = c.forget_stall.ensures.clients;
+  sound = c.forget_stall.ensures.sound;
+  stands = λ told. c.forget_stall.ensures.stands (g.F.Folder.files c.args.folder.now);
+  others = λ told d e name apart file own. refl;
+  files = λ told file no. refl;
+  names = c.forget_stall.ensures.names;
+  since = c.forget_stall.ensures.since;
+  faults = omega arith;
+  cause = tt;
+  ephemeral = λ d e ephemeral. refl;
+  unsaved =
+      let old = c.args.hall.now.unsaved_names in
+      let new = c.forget_stall.new.hall.unsaved_names in
+      told_at (λ topic channel. MatchBool (is_ephemeral_channel topic channel) (new ≡ old) (UnsavedBy Done old new)) c.args.hall.now.rooms.items c.args.i c.args.j c.index.result.now c.requires.room c.index.ensures
+      (λ e. subst (λ b. MatchBool b (new ≡ old) (UnsavedBy Done old new)) (sym (sym (c.is_ephemeral_at.ensures e) ∙ c.if-is_ephemeral_at.true)) (ap (λ (x : Hall). x.unsaved_names) c.forget_stall.ensures.rest));
+}
 
-pub returns-then-is_ephemeral_at-clause-rooms : goal.returns-then-is_ephemeral_at-clause-rooms
-returns-then-is_ephemeral_at-clause-rooms g c = c.forget_stall.ensures.rooms
+pub returns : goal.returns
+returns g c = record {
+  rest = c.delete_stall.ensures.rest;
+  rooms = c.delete_stall.ensures.rooms;
+  clients = c.delete_stall.ensures.clients;
+  sound = c.delete_stall.ensures.sound;
+  stands = λ told. c.delete_stall.ensures.stands told;
+  others = λ told. c.delete_stall.ensures.others told;
+  files = λ told. c.delete_stall.ensures.files told;
+  names = c.delete_stall.ensures.names;
+  since = c.delete_stall.ensures.since;
+  faults = c.delete_stall.ensures.faults;
+  cause = c.delete_stall.ensures.cause;
+  ephemeral =
+      told_at (λ topic channel. is_ephemeral_channel topic channel ≡ true → c.delete_stall.result ≡ Done) c.args.hall.now.rooms.items c.args.i c.args.j c.index.result.now c.requires.room c.index.ensures
+      (λ e ephemeral. absurd (false≢true (sym (sym (c.is_ephemeral_at.ensures e) ∙ c.if-is_ephemeral_at.false) ∙ ephemeral)));
+  unsaved =
+      let old = c.args.hall.now.unsaved_names in
+      let new = c.delete_stall.new.hall.unsaved_names in
+      told_at (λ topic channel. MatchBool (is_ephemeral_channel topic channel) (new ≡ old) (UnsavedBy c.delete_stall.result old new)) c.args.hall.now.rooms.items c.args.i c.args.j c.index.result.now c.requires.room c.index.ensures
+      (λ e. subst (λ b. MatchBool b (new ≡ old) (UnsavedBy c.delete_stall.result old new)) (sym (sym (c.is_ephemeral_at.ensures e) ∙ c.if-is_ephemeral_at.false)) c.delete_stall.ensures.unsaved);
+}
 
-pub returns-then-is_ephemeral_at-clause-clients : goal.returns-then-is_ephemeral_at-clause-clients
-returns-then-is_ephemeral_at-clause-clients g c = c.forget_stall.ensures.clients
+pub index-requires : goal.index-requires
+index-requires g c = subst (λ n. c.args.i < n) (sym c.args.hall.now.rooms.ok.0) c.requires.room
 
-pub returns-then-is_ephemeral_at-clause-sound : goal.returns-then-is_ephemeral_at-clause-sound
-returns-then-is_ephemeral_at-clause-sound g c = c.forget_stall.ensures.sound
+pub is_ephemeral_at-requires : goal.is_ephemeral_at-requires
+is_ephemeral_at-requires g c = range_of c.args.j c.args.hall.now.rooms.items c.args.i c.index.result.now c.index.ensures c.requires.stall
 
-pub returns-then-is_ephemeral_at-clause-stands : goal.returns-then-is_ephemeral_at-clause-stands
-returns-then-is_ephemeral_at-clause-stands g c = λ told. c.forget_stall.ensures.stands (g.F.Folder.files c.args.folder.now)
-
-pub returns-then-is_ephemeral_at-clause-others : goal.returns-then-is_ephemeral_at-clause-others
-returns-then-is_ephemeral_at-clause-others g c = λ told d e name apart file own. refl
-
-pub returns-then-is_ephemeral_at-clause-files : goal.returns-then-is_ephemeral_at-clause-files
-returns-then-is_ephemeral_at-clause-files g c = λ told file no. refl
-
-pub returns-then-is_ephemeral_at-clause-names : goal.returns-then-is_ephemeral_at-clause-names
-returns-then-is_ephemeral_at-clause-names g c = c.forget_stall.ensures.names
-
-pub returns-then-is_ephemeral_at-clause-since : goal.returns-then-is_ephemeral_at-clause-since
-returns-then-is_ephemeral_at-clause-since g c = c.forget_stall.ensures.since
-
-pub returns-then-is_ephemeral_at-clause-cause : goal.returns-then-is_ephemeral_at-clause-cause
-returns-then-is_ephemeral_at-clause-cause g c = tt
-
-pub returns-then-is_ephemeral_at-clause-ephemeral : goal.returns-then-is_ephemeral_at-clause-ephemeral
-returns-then-is_ephemeral_at-clause-ephemeral g c = λ d e ephemeral. refl
-
-pub returns-clause-rest : goal.returns-clause-rest
-returns-clause-rest g c = c.delete_stall.ensures.rest
-
-pub returns-clause-rooms : goal.returns-clause-rooms
-returns-clause-rooms g c = c.delete_stall.ensures.rooms
-
-pub returns-clause-clients : goal.returns-clause-clients
-returns-clause-clients g c = c.delete_stall.ensures.clients
-
-pub returns-clause-sound : goal.returns-clause-sound
-returns-clause-sound g c = c.delete_stall.ensures.sound
-
-pub returns-clause-stands : goal.returns-clause-stands
-returns-clause-stands g c = λ told. c.delete_stall.ensures.stands told
-
-pub returns-clause-others : goal.returns-clause-others
-returns-clause-others g c = λ told. c.delete_stall.ensures.others told
-
-pub returns-clause-files : goal.returns-clause-files
-returns-clause-files g c = λ told. c.delete_stall.ensures.files told
-
-pub returns-clause-names : goal.returns-clause-names
-returns-clause-names g c = c.delete_stall.ensures.names
-
-pub returns-clause-since : goal.returns-clause-since
-returns-clause-since g c = c.delete_stall.ensures.since
-
-pub returns-clause-faults : goal.returns-clause-faults
-returns-clause-faults g c = c.delete_stall.ensures.faults
-
-pub returns-clause-cause : goal.returns-clause-cause
-returns-clause-cause g c = c.delete_stall.ensures.cause
+pub forget_stall-requires-clause-ephemeral : goal.forget_stall-requires-clause-ephemeral
+forget_stall-requires-clause-ephemeral g c = told_at (λ topic channel. is_ephemeral_channel topic channel ≡ true) c.args.hall.now.rooms.items c.args.i c.args.j c.index.result.now c.requires.room c.index.ensures (λ e. sym (c.is_ephemeral_at.ensures e) ∙ c.if-is_ephemeral_at.true)

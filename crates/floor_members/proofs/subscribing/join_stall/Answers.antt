@@ -1,4 +1,4 @@
-use Rattle.std.proofs.Common.{◌≡◌, ◌∙◌, ℕ, set, nat_eq, Some, refl, sym, ap, subst}
+use Rattle.std.proofs.Common.{◌≡◌, ◌<◌, ◌∙◌, ℕ, set, nat_eq, Some, refl, sym, ap, subst}
 use Rattle.std.specs.List.{list_any, slice_get}
 use Rattle.std.specs.Vec.{with_item}
 use Rattle.nsq_base.specs.Places.{StandsAt}
@@ -8,7 +8,9 @@ use Rattle.channel_copies.specs.Clients.{client_of}
 use Rattle.floor_rooms.specs.Rooms.{channel_name, topic_name}
 use Rattle.floor_rooms.specs.Changes.{AtStall}
 use Rattle.floor_rooms.proofs.Forming.{some_at}
+use Rattle.floor_rooms.specs.Sound.{IsRoomSound, IsStallSound}
 use Rattle.floor_rooms.proofs.Placing.{at_place}
+use Rattle.floor_rooms.proofs.Sounding.{at_all}
 use Rattle.floor_topics.specs.Seating.{IsFree, SameSeats, Seats}
 use Rattle.floor_topics.proofs.LostPlaces.{read_same}
 use Rattle.floor_topics.proofs.SeatPlaces.{Sits, on_err, seat_absent, seat_new}
@@ -99,3 +101,29 @@ returns-clause-joins c =
     } in
     holds_read (Joins c.args.topic c.args.channel k h c.list_room.new.self) h.clients.items k client c.requires.client c.index.ensures
     (joins_stall h h3 c.list_room.new.self i j k c.args.topic c.args.channel room (record room { stalls = with_item room.stalls j after }) stall after client sits c.requires.there within c.list_room.ensures.rest c.list_room.ensures.room c.list_room.ensures.sound c.list_room.ensures.stands)
+
+pub index-requires : goal.index-requires
+index-requires c = subst (λ n. c.args.k < n) (sym c.args.hall.now.clients.ok.0) c.requires.client
+
+pub index-requires-2 : goal.index-requires-2
+index-requires-2 c = subst (λ n. c.args.k < n) (sym c.args.hall.now.clients.ok.0) c.requires.client
+
+pub index_mut-requires : goal.index_mut-requires
+index_mut-requires c = subst (λ n. c.args.i < n) (sym c.args.hall.now.rooms.ok.0) c.requires.there.in_range
+
+pub index_mut-requires-2 : goal.index_mut-requires-2
+index_mut-requires-2 c =
+    let room = c.index_mut.result.now in
+    subst (λ n. c.args.j < n) (sym room.stalls.ok.0) (stall_within c.args.hall.now.rooms.items c.args.i c.args.j room c.args.channel c.index_mut.ensures.value c.requires.stall).in_range
+
+pub index_mut-requires-3 : goal.index_mut-requires-3
+index_mut-requires-3 c = subst (λ n. c.args.k < n) (sym c.args.hall.now.clients.ok.0) c.requires.client
+
+pub seat_in-requires-clause-order : goal.seat_in-requires-clause-order
+seat_in-requires-clause-order c =
+    let room = c.index_mut.result.now in
+    let stall = c.index_mut-2.result.now in
+    let within : StandsAt channel_name room.stalls.items c.args.channel c.args.j = stall_within c.args.hall.now.rooms.items c.args.i c.args.j room c.args.channel c.index_mut.ensures.value c.requires.stall in
+    let h = c.args.hall.now in
+    let at = at_all (IsRoomSound h) h.rooms.items c.args.i room c.requires.sound.rooms (at_place h.rooms.items c.args.i room c.requires.there.in_range c.index_mut.ensures.value) in
+    (at_all (IsStallSound h.options (topic_name room) h.quiet_until h.unsaved_from) room.stalls.items c.args.j stall at.stalls (at_place room.stalls.items c.args.j stall within.in_range c.index_mut-2.ensures.value)).members

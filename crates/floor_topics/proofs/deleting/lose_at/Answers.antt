@@ -15,47 +15,34 @@ forget_empty-requires-clause-room g c =
     let x = (some_at (get_or c.args.hall.now.rooms.items c.args.i d).stalls.items c.args.j (c.requires.stall d)).0 in
     lost_within c.args.hall.now c.lose_stall.new.hall c.lose_stall.new.hall (g.F.Folder.files c.args.folder.now) (g.F.Folder.files c.lose_stall.new.folder) c.args.i c.args.j (channel_name (get_or (get_or c.args.hall.now.rooms.items c.args.i d).stalls.items c.args.j x)) c.requires.sound c.lose_stall.ensures.sound (c.in-Done.ensures.rooms d x)
 
-pub returns-in-Done-clause-told : goal.returns-in-Done-clause-told
-returns-in-Done-clause-told g c = λ told d x s holds.
-    let r = c.in-Done.ensures.stands told d x s holds in
-    let at = c.in-Done.ensures.rooms d x in
-    let f = c.forget_empty.ensures.stands at.after (g.F.Folder.files c.lose_stall.new.folder) r.0 r.2 in
-    (f.0, lost_told c.args.hall.now c.lose_stall.new.hall c.forget_empty.new.hall (g.F.Folder.files c.args.folder.now) (g.F.Folder.files c.lose_stall.new.folder) c.args.i c.args.j (channel_name (get_or (get_or c.args.hall.now.rooms.items c.args.i d).stalls.items c.args.j x)) c.requires.sound c.lose_stall.ensures.sound (c.in-Done.ensures.rooms d x) (topic_name (get_or c.args.hall.now.rooms.items c.args.i d)) (lost_room c.args.hall.now c.lose_stall.new.hall c.forget_empty.new.hall (g.F.Folder.files c.args.folder.now) (g.F.Folder.files c.lose_stall.new.folder) c.args.i c.args.j (channel_name (get_or (get_or c.args.hall.now.rooms.items c.args.i d).stalls.items c.args.j x)) c.requires.sound c.lose_stall.ensures.sound (c.in-Done.ensures.rooms d x) d) s r.0 f.0 holds r.1 r.2 f.1, f.2)
-
-pub returns-in-Done-clause-names : goal.returns-in-Done-clause-names
-returns-in-Done-clause-names g c = names_then c.args.hall.now c.lose_stall.new.hall c.forget_empty.new.hall c.lose_stall.ensures.names c.forget_empty.ensures.names
-
-pub returns-in-Done-clause-since : goal.returns-in-Done-clause-since
-returns-in-Done-clause-since g c =
-    let d = (some_at c.args.hall.now.rooms.items c.args.i c.requires.room).0 in
-    lost_since c.args.hall.now.moment c.lose_stall.new.hall.moment (get_or c.lose_stall.new.hall.rooms.items c.args.i d) c.args.hall.now.rooms.items c.lose_stall.new.hall.rooms.items c.forget_empty.new.hall.rooms.items (ap (λ (h : Hall). h.moment) c.lose_stall.ensures.rest) (c.forget_empty.ensures.rooms d) c.lose_stall.ensures.since c.forget_empty.ensures.since
-
-pub returns-in-Done-clause-numbers : goal.returns-in-Done-clause-numbers
-returns-in-Done-clause-numbers g c =
-    let d = (some_at c.args.hall.now.rooms.items c.args.i c.requires.room).0 in
-    let x = (some_at (get_or c.args.hall.now.rooms.items c.args.i d).stalls.items c.args.j (c.requires.stall d)).0 in
-    λ m. ap (λ (h : Hall). is_some (client_in h.clients.items m)) c.forget_empty.ensures.rest ∙ numbers_lost Done (topic_name (get_or c.args.hall.now.rooms.items c.args.i d)) (channel_name (get_or (get_or c.args.hall.now.rooms.items c.args.i d).stalls.items c.args.j x)) c.args.hall.now.clients.items c.lose_stall.new.hall.clients.items (c.in-Done.ensures.clients d x) m
+pub returns-in-Done : goal.returns-in-Done
+returns-in-Done g c = record {
+  told =
+      λ told d x s holds.
+      let r = c.in-Done.ensures.stands told d x s holds in
+      let at = c.in-Done.ensures.rooms d x in
+      let f = c.forget_empty.ensures.stands at.after (g.F.Folder.files c.lose_stall.new.folder) r.0 r.2 in
+      (f.0, lost_told c.args.hall.now c.lose_stall.new.hall c.forget_empty.new.hall (g.F.Folder.files c.args.folder.now) (g.F.Folder.files c.lose_stall.new.folder) c.args.i c.args.j (channel_name (get_or (get_or c.args.hall.now.rooms.items c.args.i d).stalls.items c.args.j x)) c.requires.sound c.lose_stall.ensures.sound (c.in-Done.ensures.rooms d x) (topic_name (get_or c.args.hall.now.rooms.items c.args.i d)) (lost_room c.args.hall.now c.lose_stall.new.hall c.forget_empty.new.hall (g.F.Folder.files c.args.folder.now) (g.F.Folder.files c.lose_stall.new.folder) c.args.i c.args.j (channel_name (get_or (get_or c.args.hall.now.rooms.items c.args.i d).stalls.items c.args.j x)) c.requires.sound c.lose_stall.ensures.sound (c.in-Done.ensures.rooms d x) d) s r.0 f.0 holds r.1 r.2 f.1, f.2);
+  rest = frame_lost c.args.hall.now c.lose_stall.new.hall c.forget_empty.new.hall c.lose_stall.ensures.rest c.forget_empty.ensures.rest;
+  sound = c.forget_empty.ensures.sound;
+  names = names_then c.args.hall.now c.lose_stall.new.hall c.forget_empty.new.hall c.lose_stall.ensures.names c.forget_empty.ensures.names;
+  since =
+      let d = (some_at c.args.hall.now.rooms.items c.args.i c.requires.room).0 in
+      lost_since c.args.hall.now.moment c.lose_stall.new.hall.moment (get_or c.lose_stall.new.hall.rooms.items c.args.i d) c.args.hall.now.rooms.items c.lose_stall.new.hall.rooms.items c.forget_empty.new.hall.rooms.items (ap (λ (h : Hall). h.moment) c.lose_stall.ensures.rest) (c.forget_empty.ensures.rooms d) c.lose_stall.ensures.since c.forget_empty.ensures.since;
+  files = c.lose_stall.ensures.files;
+  faults = c.lose_stall.ensures.faults;
+  cause = tt;
+  numbers =
+      let d = (some_at c.args.hall.now.rooms.items c.args.i c.requires.room).0 in
+      let x = (some_at (get_or c.args.hall.now.rooms.items c.args.i d).stalls.items c.args.j (c.requires.stall d)).0 in
+      λ m. ap (λ (h : Hall). is_some (client_in h.clients.items m)) c.forget_empty.ensures.rest ∙ numbers_lost Done (topic_name (get_or c.args.hall.now.rooms.items c.args.i d)) (channel_name (get_or (get_or c.args.hall.now.rooms.items c.args.i d).stalls.items c.args.j x)) c.args.hall.now.clients.items c.lose_stall.new.hall.clients.items (c.in-Done.ensures.clients d x) m;
+}
 
 pub returns-in-Fault-clause-numbers : goal.returns-in-Fault-clause-numbers
 returns-in-Fault-clause-numbers g c =
     let d = (some_at c.args.hall.now.rooms.items c.args.i c.requires.room).0 in
     let x = (some_at (get_or c.args.hall.now.rooms.items c.args.i d).stalls.items c.args.j (c.requires.stall d)).0 in
     numbers_lost Fault (topic_name (get_or c.args.hall.now.rooms.items c.args.i d)) (channel_name (get_or (get_or c.args.hall.now.rooms.items c.args.i d).stalls.items c.args.j x)) c.args.hall.now.clients.items c.lose_stall.new.hall.clients.items (c.in-Fault.ensures.clients d x)
-
-pub returns-in-Done-clause-rest : goal.returns-in-Done-clause-rest
-returns-in-Done-clause-rest g c = frame_lost c.args.hall.now c.lose_stall.new.hall c.forget_empty.new.hall c.lose_stall.ensures.rest c.forget_empty.ensures.rest
-
-pub returns-in-Done-clause-sound : goal.returns-in-Done-clause-sound
-returns-in-Done-clause-sound g c = c.forget_empty.ensures.sound
-
-pub returns-in-Done-clause-files : goal.returns-in-Done-clause-files
-returns-in-Done-clause-files g c = c.lose_stall.ensures.files
-
-pub returns-in-Done-clause-faults : goal.returns-in-Done-clause-faults
-returns-in-Done-clause-faults g c = c.lose_stall.ensures.faults
-
-pub returns-in-Done-clause-cause : goal.returns-in-Done-clause-cause
-returns-in-Done-clause-cause g c = tt
 
 pub returns-in-Fault-clause-rest : goal.returns-in-Fault-clause-rest
 returns-in-Fault-clause-rest g c = c.lose_stall.ensures.rest

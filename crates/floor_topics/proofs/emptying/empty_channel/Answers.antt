@@ -4,31 +4,20 @@ use Rattle.floor_topics.proofs.Frames.{frame_settled}
 use Rattle.floor_topics.proofs.Marks.{range_behind, stall_range_behind}
 use Rattle.floor_topics.proofs.emptying.empty_channel.Goals as goal
 
-pub returns-clause-told : goal.returns-clause-told
-returns-clause-told g c = λ told d x s holds.
-    let r = channel_emptied g.F.Folder.tells_files c.args.hall.now c.mark_stall.new.self c.empty_stall-emptied.new.hall c.settle_stall.new.self (g.F.Folder.files c.args.folder.now) (g.F.Folder.files c.empty_stall-emptied.new.folder) (g.F.Folder.folder_faults c.args.folder.now) (g.F.Folder.folder_faults c.empty_stall-emptied.new.folder) c.empty_stall-emptied.result c.args.i c.args.j (min c.args.hall.now.unsaved_from c.args.hall.now.moment) c.mark_stall.ensures.rest c.mark_stall.ensures.stall c.mark_stall.ensures.sound c.empty_stall-emptied.ensures.rest c.empty_stall-emptied.ensures.stall c.settle_stall.ensures.rest told d x s (c.mark_stall.ensures.stands (g.F.Folder.files c.args.folder.now) s holds) in
-    (r.0, r.1, c.settle_stall.ensures.stands (g.F.Folder.files c.empty_stall-emptied.new.folder) r.0 r.2)
-
-pub returns-clause-sound : goal.returns-clause-sound
-returns-clause-sound g c = c.settle_stall.ensures.sound c.mark_stall.new.self (channel_touches g.F.Folder.tells_files c.args.hall.now c.mark_stall.new.self c.empty_stall-emptied.new.hall c.settle_stall.new.self (g.F.Folder.files c.args.folder.now) (g.F.Folder.files c.empty_stall-emptied.new.folder) (g.F.Folder.folder_faults c.args.folder.now) (g.F.Folder.folder_faults c.empty_stall-emptied.new.folder) c.empty_stall-emptied.result c.args.i c.args.j (min c.args.hall.now.unsaved_from c.args.hall.now.moment) c.mark_stall.ensures.rest c.mark_stall.ensures.stall c.mark_stall.ensures.sound c.empty_stall-emptied.ensures.rest c.empty_stall-emptied.ensures.stall c.settle_stall.ensures.rest)
-
-pub returns-clause-names : goal.returns-clause-names
-returns-clause-names g c = channel_names g.F.Folder.tells_files c.args.hall.now c.mark_stall.new.self c.empty_stall-emptied.new.hall c.settle_stall.new.self (g.F.Folder.files c.args.folder.now) (g.F.Folder.files c.empty_stall-emptied.new.folder) (g.F.Folder.folder_faults c.args.folder.now) (g.F.Folder.folder_faults c.empty_stall-emptied.new.folder) c.empty_stall-emptied.result c.args.i c.args.j (min c.args.hall.now.unsaved_from c.args.hall.now.moment) c.mark_stall.ensures.rest c.mark_stall.ensures.stall c.mark_stall.ensures.sound c.empty_stall-emptied.ensures.rest c.empty_stall-emptied.ensures.stall c.settle_stall.ensures.rest
-
-pub returns-clause-since : goal.returns-clause-since
-returns-clause-since g c = channel_since g.F.Folder.tells_files c.args.hall.now c.mark_stall.new.self c.empty_stall-emptied.new.hall c.settle_stall.new.self (g.F.Folder.files c.args.folder.now) (g.F.Folder.files c.empty_stall-emptied.new.folder) (g.F.Folder.folder_faults c.args.folder.now) (g.F.Folder.folder_faults c.empty_stall-emptied.new.folder) c.empty_stall-emptied.result c.args.i c.args.j (min c.args.hall.now.unsaved_from c.args.hall.now.moment) c.mark_stall.ensures.rest c.mark_stall.ensures.stall c.mark_stall.ensures.sound c.empty_stall-emptied.ensures.rest c.empty_stall-emptied.ensures.stall c.settle_stall.ensures.rest
-
-pub returns-clause-files : goal.returns-clause-files
-returns-clause-files g c = λ told. copies_files g.F.Folder.tells_files c.mark_stall.new.self c.empty_stall-emptied.new.hall (g.F.Folder.files c.args.folder.now) (g.F.Folder.files c.empty_stall-emptied.new.folder) (g.F.Folder.folder_faults c.args.folder.now) (g.F.Folder.folder_faults c.empty_stall-emptied.new.folder) c.empty_stall-emptied.result c.args.i c.args.j c.mark_stall.ensures.sound c.empty_stall-emptied.ensures.rest c.empty_stall-emptied.ensures.stall told
-
-pub returns-clause-faults : goal.returns-clause-faults
-returns-clause-faults g c = c.empty_stall-emptied.ensures.stall.does.does.disk.faults
-
-pub returns-clause-rest : goal.returns-clause-rest
-returns-clause-rest g c = frame_settled c.args.hall.now c.mark_stall.new.self c.empty_stall-emptied.new.hall c.settle_stall.new.self (min c.args.hall.now.unsaved_from c.args.hall.now.moment) c.mark_stall.ensures.rest c.empty_stall-emptied.ensures.rest c.settle_stall.ensures.rest
-
-pub returns-clause-cause : goal.returns-clause-cause
-returns-clause-cause g c = c.empty_stall-emptied.ensures.cause
+pub returns : goal.returns
+returns g c = record {
+  told =
+      λ told d x s holds.
+      let r = channel_emptied g.F.Folder.tells_files c.args.hall.now c.mark_stall.new.self c.empty_stall-emptied.new.hall c.settle_stall.new.self (g.F.Folder.files c.args.folder.now) (g.F.Folder.files c.empty_stall-emptied.new.folder) (g.F.Folder.folder_faults c.args.folder.now) (g.F.Folder.folder_faults c.empty_stall-emptied.new.folder) c.empty_stall-emptied.result c.args.i c.args.j (min c.args.hall.now.unsaved_from c.args.hall.now.moment) c.mark_stall.ensures.rest c.mark_stall.ensures.stall c.mark_stall.ensures.sound c.empty_stall-emptied.ensures.rest c.empty_stall-emptied.ensures.stall c.settle_stall.ensures.rest told d x s (c.mark_stall.ensures.stands (g.F.Folder.files c.args.folder.now) s holds) in
+      (r.0, r.1, c.settle_stall.ensures.stands (g.F.Folder.files c.empty_stall-emptied.new.folder) r.0 r.2);
+  rest = frame_settled c.args.hall.now c.mark_stall.new.self c.empty_stall-emptied.new.hall c.settle_stall.new.self (min c.args.hall.now.unsaved_from c.args.hall.now.moment) c.mark_stall.ensures.rest c.empty_stall-emptied.ensures.rest c.settle_stall.ensures.rest;
+  sound = c.settle_stall.ensures.sound c.mark_stall.new.self (channel_touches g.F.Folder.tells_files c.args.hall.now c.mark_stall.new.self c.empty_stall-emptied.new.hall c.settle_stall.new.self (g.F.Folder.files c.args.folder.now) (g.F.Folder.files c.empty_stall-emptied.new.folder) (g.F.Folder.folder_faults c.args.folder.now) (g.F.Folder.folder_faults c.empty_stall-emptied.new.folder) c.empty_stall-emptied.result c.args.i c.args.j (min c.args.hall.now.unsaved_from c.args.hall.now.moment) c.mark_stall.ensures.rest c.mark_stall.ensures.stall c.mark_stall.ensures.sound c.empty_stall-emptied.ensures.rest c.empty_stall-emptied.ensures.stall c.settle_stall.ensures.rest);
+  names = channel_names g.F.Folder.tells_files c.args.hall.now c.mark_stall.new.self c.empty_stall-emptied.new.hall c.settle_stall.new.self (g.F.Folder.files c.args.folder.now) (g.F.Folder.files c.empty_stall-emptied.new.folder) (g.F.Folder.folder_faults c.args.folder.now) (g.F.Folder.folder_faults c.empty_stall-emptied.new.folder) c.empty_stall-emptied.result c.args.i c.args.j (min c.args.hall.now.unsaved_from c.args.hall.now.moment) c.mark_stall.ensures.rest c.mark_stall.ensures.stall c.mark_stall.ensures.sound c.empty_stall-emptied.ensures.rest c.empty_stall-emptied.ensures.stall c.settle_stall.ensures.rest;
+  since = channel_since g.F.Folder.tells_files c.args.hall.now c.mark_stall.new.self c.empty_stall-emptied.new.hall c.settle_stall.new.self (g.F.Folder.files c.args.folder.now) (g.F.Folder.files c.empty_stall-emptied.new.folder) (g.F.Folder.folder_faults c.args.folder.now) (g.F.Folder.folder_faults c.empty_stall-emptied.new.folder) c.empty_stall-emptied.result c.args.i c.args.j (min c.args.hall.now.unsaved_from c.args.hall.now.moment) c.mark_stall.ensures.rest c.mark_stall.ensures.stall c.mark_stall.ensures.sound c.empty_stall-emptied.ensures.rest c.empty_stall-emptied.ensures.stall c.settle_stall.ensures.rest;
+  files = λ told. copies_files g.F.Folder.tells_files c.mark_stall.new.self c.empty_stall-emptied.new.hall (g.F.Folder.files c.args.folder.now) (g.F.Folder.files c.empty_stall-emptied.new.folder) (g.F.Folder.folder_faults c.args.folder.now) (g.F.Folder.folder_faults c.empty_stall-emptied.new.folder) c.empty_stall-emptied.result c.args.i c.args.j c.mark_stall.ensures.sound c.empty_stall-emptied.ensures.rest c.empty_stall-emptied.ensures.stall told;
+  faults = c.empty_stall-emptied.ensures.stall.does.does.disk.faults;
+  cause = c.empty_stall-emptied.ensures.cause;
+}
 
 pub mark_stall-requires-clause-sound : goal.mark_stall-requires-clause-sound
 mark_stall-requires-clause-sound g c = c.requires.sound

@@ -4,29 +4,17 @@ use Rattle.floor_topics.proofs.Frames.{frame_marked}
 use Rattle.floor_topics.proofs.Marks.{range_behind}
 use Rattle.floor_topics.proofs.emptying.empty_topic.Goals as goal
 
-pub returns-clause-told : goal.returns-clause-told
-returns-clause-told g c = λ told d s holds. topic_emptied g.F.Folder.tells_files c.args.hall.now c.mark_room.new.self c.empty_room.new.hall (g.F.Folder.files c.args.folder.now) (g.F.Folder.files c.empty_room.new.folder) c.empty_room.result c.args.i (min c.args.hall.now.unsaved_from c.args.hall.now.moment) c.mark_room.ensures.rest c.mark_room.ensures.room c.mark_room.ensures.sound c.empty_room.ensures.rest c.empty_room.ensures.room told d s (c.mark_room.ensures.stands (g.F.Folder.files c.args.folder.now) s holds)
-
-pub returns-clause-sound : goal.returns-clause-sound
-returns-clause-sound g c = topic_sound g.F.Folder.tells_files c.args.hall.now c.mark_room.new.self c.empty_room.new.hall (g.F.Folder.files c.args.folder.now) (g.F.Folder.files c.empty_room.new.folder) c.empty_room.result c.args.i (min c.args.hall.now.unsaved_from c.args.hall.now.moment) c.mark_room.ensures.rest c.mark_room.ensures.room c.mark_room.ensures.sound c.empty_room.ensures.rest c.empty_room.ensures.room
-
-pub returns-clause-names : goal.returns-clause-names
-returns-clause-names g c = topic_names g.F.Folder.tells_files c.args.hall.now c.mark_room.new.self c.empty_room.new.hall (g.F.Folder.files c.args.folder.now) (g.F.Folder.files c.empty_room.new.folder) c.empty_room.result c.args.i (min c.args.hall.now.unsaved_from c.args.hall.now.moment) c.mark_room.ensures.rest c.mark_room.ensures.room c.mark_room.ensures.sound c.empty_room.ensures.rest c.empty_room.ensures.room
-
-pub returns-clause-since : goal.returns-clause-since
-returns-clause-since g c = topic_since g.F.Folder.tells_files c.args.hall.now c.mark_room.new.self c.empty_room.new.hall (g.F.Folder.files c.args.folder.now) (g.F.Folder.files c.empty_room.new.folder) c.empty_room.result c.args.i (min c.args.hall.now.unsaved_from c.args.hall.now.moment) c.mark_room.ensures.rest c.mark_room.ensures.room c.mark_room.ensures.sound c.empty_room.ensures.rest c.empty_room.ensures.room
-
-pub returns-clause-files : goal.returns-clause-files
-returns-clause-files g c = λ told. empty_files g.F.Folder.tells_files c.mark_room.new.self c.empty_room.new.hall (g.F.Folder.files c.args.folder.now) (g.F.Folder.files c.empty_room.new.folder) c.empty_room.result c.args.i c.mark_room.ensures.sound c.empty_room.ensures.rest c.empty_room.ensures.room told
-
-pub returns-clause-rest : goal.returns-clause-rest
-returns-clause-rest g c = frame_marked c.args.hall.now c.mark_room.new.self c.empty_room.new.hall (min c.args.hall.now.unsaved_from c.args.hall.now.moment) c.mark_room.ensures.rest c.empty_room.ensures.rest
-
-pub returns-clause-faults : goal.returns-clause-faults
-returns-clause-faults g c = c.empty_room.ensures.faults
-
-pub returns-clause-cause : goal.returns-clause-cause
-returns-clause-cause g c = c.empty_room.ensures.cause
+pub returns : goal.returns
+returns g c = record {
+  told = λ told d s holds. topic_emptied g.F.Folder.tells_files c.args.hall.now c.mark_room.new.self c.empty_room.new.hall (g.F.Folder.files c.args.folder.now) (g.F.Folder.files c.empty_room.new.folder) c.empty_room.result c.args.i (min c.args.hall.now.unsaved_from c.args.hall.now.moment) c.mark_room.ensures.rest c.mark_room.ensures.room c.mark_room.ensures.sound c.empty_room.ensures.rest c.empty_room.ensures.room told d s (c.mark_room.ensures.stands (g.F.Folder.files c.args.folder.now) s holds);
+  rest = frame_marked c.args.hall.now c.mark_room.new.self c.empty_room.new.hall (min c.args.hall.now.unsaved_from c.args.hall.now.moment) c.mark_room.ensures.rest c.empty_room.ensures.rest;
+  sound = topic_sound g.F.Folder.tells_files c.args.hall.now c.mark_room.new.self c.empty_room.new.hall (g.F.Folder.files c.args.folder.now) (g.F.Folder.files c.empty_room.new.folder) c.empty_room.result c.args.i (min c.args.hall.now.unsaved_from c.args.hall.now.moment) c.mark_room.ensures.rest c.mark_room.ensures.room c.mark_room.ensures.sound c.empty_room.ensures.rest c.empty_room.ensures.room;
+  names = topic_names g.F.Folder.tells_files c.args.hall.now c.mark_room.new.self c.empty_room.new.hall (g.F.Folder.files c.args.folder.now) (g.F.Folder.files c.empty_room.new.folder) c.empty_room.result c.args.i (min c.args.hall.now.unsaved_from c.args.hall.now.moment) c.mark_room.ensures.rest c.mark_room.ensures.room c.mark_room.ensures.sound c.empty_room.ensures.rest c.empty_room.ensures.room;
+  since = topic_since g.F.Folder.tells_files c.args.hall.now c.mark_room.new.self c.empty_room.new.hall (g.F.Folder.files c.args.folder.now) (g.F.Folder.files c.empty_room.new.folder) c.empty_room.result c.args.i (min c.args.hall.now.unsaved_from c.args.hall.now.moment) c.mark_room.ensures.rest c.mark_room.ensures.room c.mark_room.ensures.sound c.empty_room.ensures.rest c.empty_room.ensures.room;
+  files = λ told. empty_files g.F.Folder.tells_files c.mark_room.new.self c.empty_room.new.hall (g.F.Folder.files c.args.folder.now) (g.F.Folder.files c.empty_room.new.folder) c.empty_room.result c.args.i c.mark_room.ensures.sound c.empty_room.ensures.rest c.empty_room.ensures.room told;
+  faults = c.empty_room.ensures.faults;
+  cause = c.empty_room.ensures.cause;
+}
 
 pub mark_room-requires-clause-sound : goal.mark_room-requires-clause-sound
 mark_room-requires-clause-sound g c = c.requires.sound

@@ -25,75 +25,41 @@ put_new-requires-clause-short g c = made_short c.args.hall.now c.args.delay c.ar
 pub put_new-requires-clause-delays : goal.put_new-requires-clause-delays
 put_new-requires-clause-delays g c = made_delay c.args.hall.now c.args.delay c.args.bodies.items c.in_ok-messages.messages.items c.in_ok-messages.ensures c.requires.delay
 
-pub returns-in-Ok-clause-told : goal.returns-in-Ok-clause-told
-returns-in-Ok-clause-told g c = λ told.
-    let d = (some_at c.args.hall.now.rooms.items c.in-Ok.i c.in-Ok.ensures.in_range).0 in
-    publish_told c.args.hall.now c.args.delay c.args.bodies.items c.in_ok-messages.messages.items c.in_ok-messages.ensures c.put_there.result c.put_there.new.hall (g.F.Folder.files c.args.folder.now) (g.F.Folder.files c.put_there.new.folder) c.args.topic
-    (subst (λ (n : List ℕ). IfOk c.put_there.result (λ p. Carries c.args.hall.now (g.F.Folder.files c.args.folder.now) c.put_there.new.hall (g.F.Folder.files c.put_there.new.folder) (PutsInto n c.in_ok-messages.messages.items p))) (c.in-Ok.ensures.is_key d) (c.put_there.ensures.told told d))
+pub returns-in-Ok : goal.returns-in-Ok
+returns-in-Ok g c = record {
+  told =
+      λ told.
+      let d = (some_at c.args.hall.now.rooms.items c.in-Ok.i c.in-Ok.ensures.in_range).0 in
+      publish_told c.args.hall.now c.args.delay c.args.bodies.items c.in_ok-messages.messages.items c.in_ok-messages.ensures c.put_there.result c.put_there.new.hall (g.F.Folder.files c.args.folder.now) (g.F.Folder.files c.put_there.new.folder) c.args.topic
+      (subst (λ (n : List ℕ). IfOk c.put_there.result (λ p. Carries c.args.hall.now (g.F.Folder.files c.args.folder.now) c.put_there.new.hall (g.F.Folder.files c.put_there.new.folder) (PutsInto n c.in_ok-messages.messages.items p))) (c.in-Ok.ensures.is_key d) (c.put_there.ensures.told told d));
+  stays = c.put_there.ensures.stays;
+  ids = publish_ids c.args.hall.now c.args.delay c.args.bodies.items c.in_ok-messages.messages.items c.in_ok-messages.ensures c.put_there.result c.put_there.new.hall.ids_used c.put_there.ensures.ids;
+  none = c.put_there.ensures.none;
+  rest = publish_rest c.args.hall.now c.put_there.new.hall c.put_there.ensures.rest;
+  sound = c.put_there.ensures.sound;
+  names = c.put_there.ensures.names;
+  since = c.put_there.ensures.since;
+  files = c.put_there.ensures.files;
+  faults = c.put_there.ensures.faults;
+  cause = c.put_there.ensures.cause;
+}
 
-pub returns-in-Ok-clause-ids : goal.returns-in-Ok-clause-ids
-returns-in-Ok-clause-ids g c = publish_ids c.args.hall.now c.args.delay c.args.bodies.items c.in_ok-messages.messages.items c.in_ok-messages.ensures c.put_there.result c.put_there.new.hall.ids_used c.put_there.ensures.ids
-
-pub returns-clause-told : goal.returns-clause-told
-returns-clause-told g c = λ told.
-    publish_told c.args.hall.now c.args.delay c.args.bodies.items c.in_ok-messages.messages.items c.in_ok-messages.ensures c.put_new.result c.put_new.new.hall (g.F.Folder.files c.args.folder.now) (g.F.Folder.files c.put_new.new.folder) c.args.topic (c.put_new.ensures.told told)
-
-pub returns-clause-ids : goal.returns-clause-ids
-returns-clause-ids g c = publish_ids c.args.hall.now c.args.delay c.args.bodies.items c.in_ok-messages.messages.items c.in_ok-messages.ensures c.put_new.result c.put_new.new.hall.ids_used c.put_new.ensures.ids
-
-pub returns-in-Ok-clause-stays : goal.returns-in-Ok-clause-stays
-returns-in-Ok-clause-stays g c = c.put_there.ensures.stays
-
-pub returns-in-Ok-clause-none : goal.returns-in-Ok-clause-none
-returns-in-Ok-clause-none g c = c.put_there.ensures.none
-
-pub returns-in-Ok-clause-sound : goal.returns-in-Ok-clause-sound
-returns-in-Ok-clause-sound g c = c.put_there.ensures.sound
-
-pub returns-in-Ok-clause-names : goal.returns-in-Ok-clause-names
-returns-in-Ok-clause-names g c = c.put_there.ensures.names
-
-pub returns-in-Ok-clause-since : goal.returns-in-Ok-clause-since
-returns-in-Ok-clause-since g c = c.put_there.ensures.since
-
-pub returns-in-Ok-clause-files : goal.returns-in-Ok-clause-files
-returns-in-Ok-clause-files g c = c.put_there.ensures.files
-
-pub returns-in-Ok-clause-faults : goal.returns-in-Ok-clause-faults
-returns-in-Ok-clause-faults g c = c.put_there.ensures.faults
-
-pub returns-in-Ok-clause-cause : goal.returns-in-Ok-clause-cause
-returns-in-Ok-clause-cause g c = c.put_there.ensures.cause
-
-pub returns-clause-stays : goal.returns-clause-stays
-returns-clause-stays g c = c.put_new.ensures.stays
-
-pub returns-clause-none : goal.returns-clause-none
-returns-clause-none g c = c.put_new.ensures.none
-
-pub returns-clause-sound : goal.returns-clause-sound
-returns-clause-sound g c = c.put_new.ensures.sound
-
-pub returns-clause-names : goal.returns-clause-names
-returns-clause-names g c = c.put_new.ensures.names
-
-pub returns-clause-since : goal.returns-clause-since
-returns-clause-since g c = c.put_new.ensures.since
-
-pub returns-clause-files : goal.returns-clause-files
-returns-clause-files g c = c.put_new.ensures.files
-
-pub returns-clause-faults : goal.returns-clause-faults
-returns-clause-faults g c = c.put_new.ensures.faults
-
-pub returns-clause-cause : goal.returns-clause-cause
-returns-clause-cause g c = c.put_new.ensures.cause
-
-pub returns-in-Ok-clause-rest : goal.returns-in-Ok-clause-rest
-returns-in-Ok-clause-rest g c = publish_rest c.args.hall.now c.put_there.new.hall c.put_there.ensures.rest
-
-pub returns-clause-rest : goal.returns-clause-rest
-returns-clause-rest g c = c.put_new.ensures.rest
+pub returns : goal.returns
+returns g c = record {
+  told =
+      λ told.
+      publish_told c.args.hall.now c.args.delay c.args.bodies.items c.in_ok-messages.messages.items c.in_ok-messages.ensures c.put_new.result c.put_new.new.hall (g.F.Folder.files c.args.folder.now) (g.F.Folder.files c.put_new.new.folder) c.args.topic (c.put_new.ensures.told told);
+  stays = c.put_new.ensures.stays;
+  ids = publish_ids c.args.hall.now c.args.delay c.args.bodies.items c.in_ok-messages.messages.items c.in_ok-messages.ensures c.put_new.result c.put_new.new.hall.ids_used c.put_new.ensures.ids;
+  none = c.put_new.ensures.none;
+  rest = c.put_new.ensures.rest;
+  sound = c.put_new.ensures.sound;
+  names = c.put_new.ensures.names;
+  since = c.put_new.ensures.since;
+  files = c.put_new.ensures.files;
+  faults = c.put_new.ensures.faults;
+  cause = c.put_new.ensures.cause;
+}
 
 pub returns-in_err-messages-clause-rest : goal.returns-in_err-messages-clause-rest
 returns-in_err-messages-clause-rest g c = refl

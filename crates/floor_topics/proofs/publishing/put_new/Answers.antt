@@ -12,101 +12,65 @@ use Rattle.floor_topics.proofs.Joining.{fresh_files, joined_counted, joined_soun
 use Rattle.floor_topics.proofs.Coming.{added_else, came_names, came_since}
 use Rattle.floor_topics.proofs.publishing.put_new.Goals as goal
 
-pub returns-in-Fault-clause-told : goal.returns-in-Fault-clause-told
-returns-in-Fault-clause-told g c = λ told s holds.
-    let place : BelongsAt topic_name c.reserve_room.new.self.rooms.items c.args.topic c.args.i = subst (λ (xs : List Room). BelongsAt topic_name xs c.args.topic c.args.i) (sym c.reserve_room.ensures.rooms) c.requires.place in
-    let sound = c.reserve_room.ensures.sound c.requires.sound in (
-      s,
-      refl,
-      refused_stays c.reserve_room.new.self g.F.Folder.tells_files (g.F.Folder.files c.args.folder.now) (g.F.Folder.files c.fill.new.folder) c.args.topic c.in_ok-room.room sound c.in_ok-room.ensures.room (record {
-        after = c.fill.new.room.queue.backlog.queue;
-        unstages = c.in-Fault.ensures.room.seen.backlog.1;
-        stands = c.in-Fault.ensures.room.stands;
-        others = c.in-Fault.ensures.room.others;
-      }) place.absent (none_belonging topic_name c.reserve_room.new.self.rooms.items c.args.topic c.args.i place) told (c.in_ok-room.ensures.stands (g.F.Folder.files c.args.folder.now)) s (c.reserve_room.ensures.stands (g.F.Folder.files c.args.folder.now) s holds),
-    )
+pub returns-in-Fault : goal.returns-in-Fault
+returns-in-Fault g c = record {
+  told =
+      λ told s holds.
+      let place : BelongsAt topic_name c.reserve_room.new.self.rooms.items c.args.topic c.args.i = subst (λ (xs : List Room). BelongsAt topic_name xs c.args.topic c.args.i) (sym c.reserve_room.ensures.rooms) c.requires.place in
+      let sound = c.reserve_room.ensures.sound c.requires.sound in (
+        s,
+        refl,
+        refused_stays c.reserve_room.new.self g.F.Folder.tells_files (g.F.Folder.files c.args.folder.now) (g.F.Folder.files c.fill.new.folder) c.args.topic c.in_ok-room.room sound c.in_ok-room.ensures.room (record {
+          after = c.fill.new.room.queue.backlog.queue;
+          unstages = c.in-Fault.ensures.room.seen.backlog.1;
+          stands = c.in-Fault.ensures.room.stands;
+          others = c.in-Fault.ensures.room.others;
+        }) place.absent (none_belonging topic_name c.reserve_room.new.self.rooms.items c.args.topic c.args.i place) told (c.in_ok-room.ensures.stands (g.F.Folder.files c.args.folder.now)) s (c.reserve_room.ensures.stands (g.F.Folder.files c.args.folder.now) s holds),
+      );
+  stays = λ files. tt;
+  ids = ap (λ (x : Hall). x.ids_used) c.reserve_room.ensures.rest;
+  none = tt;
+  rest = spaced_more c.args.hall.now c.reserve_room.new.self c.reserve_room.ensures.rest;
+  sound = c.reserve_room.ensures.sound c.requires.sound;
+  names = spaced_names c.args.hall.now c.reserve_room.new.self c.reserve_room.ensures.rest c.reserve_room.ensures.rooms;
+  since = since_kept c.args.hall.now.moment c.args.hall.now.rooms.items c.reserve_room.new.self.rooms.items (keeps_equal c.args.hall.now.moment c.args.hall.now.rooms.items c.reserve_room.new.self.rooms.items c.reserve_room.ensures.rooms);
+  files = λ told. fresh_files c.args.topic c.reserve_room.new.self.options c.in_ok-room.room (g.F.Folder.files c.args.folder.now) (g.F.Folder.files c.fill.new.folder) c.in_ok-room.ensures.room (c.in-Fault.ensures.room.others told);
+  faults = c.fill.ensures.faults;
+  cause = c.in-Fault.ensures.cause;
+}
 
-pub returns-in-Fault-clause-since : goal.returns-in-Fault-clause-since
-returns-in-Fault-clause-since g c = since_kept c.args.hall.now.moment c.args.hall.now.rooms.items c.reserve_room.new.self.rooms.items (keeps_equal c.args.hall.now.moment c.args.hall.now.rooms.items c.reserve_room.new.self.rooms.items c.reserve_room.ensures.rooms)
-
-pub returns-in-Fault-clause-files : goal.returns-in-Fault-clause-files
-returns-in-Fault-clause-files g c = λ told. fresh_files c.args.topic c.reserve_room.new.self.options c.in_ok-room.room (g.F.Folder.files c.args.folder.now) (g.F.Folder.files c.fill.new.folder) c.in_ok-room.ensures.room (c.in-Fault.ensures.room.others told)
-
-pub returns-clause-told : goal.returns-clause-told
-returns-clause-told g c = λ told s holds.
-    let place : BelongsAt topic_name c.reserve_room.new.self.rooms.items c.args.topic c.args.i = subst (λ (xs : List Room). BelongsAt topic_name xs c.args.topic c.args.i) (sym c.reserve_room.ensures.rooms) c.requires.place in
-    let sound = c.reserve_room.ensures.sound c.requires.sound in
-    let count : c.len-count.result ≡ length c.args.messages.now.items = omega (arith, c.len-count.ensures, c.args.messages.now.ok.0) in
-    let rest = added_else c.reserve_room.new.self c.add_room.new.self c.min-hall.result _ c.add_room.ensures.rest in
-    joined_counted c.add_room.new.self g.F.Folder.tells_files (g.F.Folder.files c.args.folder.now) (g.F.Folder.files c.fill.new.folder) c.args.messages.now.items c.args.topic c.reserve_room.new.self.options c.in_ok-room.room c.fill.new.room c.reserve_room.new.self.moment c.in_ok-room.ensures.room c.in-Done.ensures.room c.reserve_room.new.self sound rest refl place.absent (none_belonging topic_name c.reserve_room.new.self.rooms.items c.args.topic c.args.i place) c.add_room.ensures.rooms told c.requires.delays (c.in_ok-room.ensures.stands (g.F.Folder.files c.args.folder.now)) c.len-count.result count s (c.reserve_room.ensures.stands (g.F.Folder.files c.args.folder.now) s holds)
-
-pub returns-clause-sound : goal.returns-clause-sound
-returns-clause-sound g c =
-    let place : BelongsAt topic_name c.reserve_room.new.self.rooms.items c.args.topic c.args.i = subst (λ (xs : List Room). BelongsAt topic_name xs c.args.topic c.args.i) (sym c.reserve_room.ensures.rooms) c.requires.place in
-    let sound = c.reserve_room.ensures.sound c.requires.sound in
-    let count : c.len-count.result ≡ length c.args.messages.now.items = omega (arith, c.len-count.ensures, c.args.messages.now.ok.0) in
-    let rest = added_else c.reserve_room.new.self c.add_room.new.self c.min-hall.result _ c.add_room.ensures.rest in
-    let same : c.add_room.new.self.ids_used ≡ c.args.hall.now.ids_used = ap (λ (x : Hall). x.ids_used) rest ∙ ap (λ (x : Hall). x.ids_used) c.reserve_room.ensures.rest in
-    let enough = c.requires.ids in
-    let from : c.add_room.new.self.unsaved_from ≡ min c.reserve_room.new.self.unsaved_from c.reserve_room.new.self.moment = ap (λ (x : Hall). x.unsaved_from) c.add_room.ensures.rest ∙ c.min-hall.ensures in
-    ids_sound c.add_room.new.self (c.add_room.new.self.ids_used + c.len-count.result) (omega (arith, same, count, enough))
-    (joined_sound c.add_room.new.self g.F.Folder.tells_files (g.F.Folder.files c.args.folder.now) (g.F.Folder.files c.fill.new.folder) c.args.messages.now.items c.args.topic c.reserve_room.new.self.options c.in_ok-room.room c.fill.new.room c.reserve_room.new.self.moment c.in_ok-room.ensures.room c.in-Done.ensures.room c.reserve_room.new.self sound rest (ap (λ (x : Hall). x.quiet_until) c.add_room.ensures.rest) (ap (λ (x : Hall). x.pending.items) c.add_room.ensures.rest) from refl refl (none_belonging topic_name c.reserve_room.new.self.rooms.items c.args.topic c.args.i place) c.add_room.ensures.rooms)
-
-pub returns-clause-names : goal.returns-clause-names
-returns-clause-names g c =
-    came_names c.args.hall.now c.reserve_room.new.self c.add_room.new.self c.args.i c.min-hall.result (c.add_room.new.self.ids_used + c.len-count.result) (record (c.fill.new.room) { since = Some c.reserve_room.new.self.moment }) c.args.topic c.requires.place (joins_name c.add_room.new.self g.F.Folder.tells_files (g.F.Folder.files c.args.folder.now) (g.F.Folder.files c.fill.new.folder) c.args.messages.now.items c.args.topic c.reserve_room.new.self.options c.in_ok-room.room c.fill.new.room c.reserve_room.new.self.moment c.in_ok-room.ensures.room c.in-Done.ensures.room) c.reserve_room.ensures.rest c.reserve_room.ensures.rooms c.add_room.ensures.rest c.add_room.ensures.rooms
-
-pub returns-clause-since : goal.returns-clause-since
-returns-clause-since g c =
-    came_since c.args.hall.now c.reserve_room.new.self c.add_room.new.self c.args.i (record (c.fill.new.room) { since = Some c.reserve_room.new.self.moment }) c.args.topic c.requires.place (joins_name c.add_room.new.self g.F.Folder.tells_files (g.F.Folder.files c.args.folder.now) (g.F.Folder.files c.fill.new.folder) c.args.messages.now.items c.args.topic c.reserve_room.new.self.options c.in_ok-room.room c.fill.new.room c.reserve_room.new.self.moment c.in_ok-room.ensures.room c.in-Done.ensures.room) c.reserve_room.ensures.rest c.reserve_room.ensures.rooms c.add_room.ensures.rooms (ap (λ (x : Hall). Some x.moment) c.reserve_room.ensures.rest) (joins_stalls c.add_room.new.self g.F.Folder.tells_files (g.F.Folder.files c.args.folder.now) (g.F.Folder.files c.fill.new.folder) c.args.messages.now.items c.args.topic c.reserve_room.new.self.options c.in_ok-room.room c.fill.new.room c.reserve_room.new.self.moment c.in_ok-room.ensures.room c.in-Done.ensures.room)
-
-pub returns-clause-files : goal.returns-clause-files
-returns-clause-files g c = λ told. fresh_files c.args.topic c.reserve_room.new.self.options c.in_ok-room.room (g.F.Folder.files c.args.folder.now) (g.F.Folder.files c.fill.new.folder) c.in_ok-room.ensures.room (c.in-Done.ensures.room.others told)
-
-pub returns-clause-rest : goal.returns-clause-rest
-returns-clause-rest g c = came_rest c.args.hall.now c.reserve_room.new.self c.add_room.new.self c.min-hall.result (c.add_room.new.self.ids_used + c.len-count.result) _ c.reserve_room.ensures.rest c.add_room.ensures.rest
-
-pub returns-clause-ids : goal.returns-clause-ids
-returns-clause-ids g c =
-    let count : c.len-count.result ≡ length c.args.messages.now.items = omega (arith, c.len-count.ensures, c.args.messages.now.ok.0) in
-    let same : c.add_room.new.self.ids_used ≡ c.args.hall.now.ids_used = ap (λ (x : Hall). x.ids_used) (added_else c.reserve_room.new.self c.add_room.new.self c.min-hall.result _ c.add_room.ensures.rest) ∙ ap (λ (x : Hall). x.ids_used) c.reserve_room.ensures.rest in
-    omega (arith, same, count)
-
-pub returns-clause-stays : goal.returns-clause-stays
-returns-clause-stays g c = λ files. tt
-
-pub returns-clause-none : goal.returns-clause-none
-returns-clause-none g c = tt
-
-pub returns-clause-faults : goal.returns-clause-faults
-returns-clause-faults g c = c.fill.ensures.faults
-
-pub returns-clause-cause : goal.returns-clause-cause
-returns-clause-cause g c = tt
-
-pub returns-in-Fault-clause-rest : goal.returns-in-Fault-clause-rest
-returns-in-Fault-clause-rest g c = spaced_more c.args.hall.now c.reserve_room.new.self c.reserve_room.ensures.rest
-
-pub returns-in-Fault-clause-ids : goal.returns-in-Fault-clause-ids
-returns-in-Fault-clause-ids g c = ap (λ (x : Hall). x.ids_used) c.reserve_room.ensures.rest
-
-pub returns-in-Fault-clause-stays : goal.returns-in-Fault-clause-stays
-returns-in-Fault-clause-stays g c = λ files. tt
-
-pub returns-in-Fault-clause-none : goal.returns-in-Fault-clause-none
-returns-in-Fault-clause-none g c = tt
-
-pub returns-in-Fault-clause-sound : goal.returns-in-Fault-clause-sound
-returns-in-Fault-clause-sound g c = c.reserve_room.ensures.sound c.requires.sound
-
-pub returns-in-Fault-clause-names : goal.returns-in-Fault-clause-names
-returns-in-Fault-clause-names g c = spaced_names c.args.hall.now c.reserve_room.new.self c.reserve_room.ensures.rest c.reserve_room.ensures.rooms
-
-pub returns-in-Fault-clause-faults : goal.returns-in-Fault-clause-faults
-returns-in-Fault-clause-faults g c = c.fill.ensures.faults
-
-pub returns-in-Fault-clause-cause : goal.returns-in-Fault-clause-cause
-returns-in-Fault-clause-cause g c = c.in-Fault.ensures.cause
+pub returns : goal.returns
+returns g c = record {
+  told =
+      λ told s holds.
+      let place : BelongsAt topic_name c.reserve_room.new.self.rooms.items c.args.topic c.args.i = subst (λ (xs : List Room). BelongsAt topic_name xs c.args.topic c.args.i) (sym c.reserve_room.ensures.rooms) c.requires.place in
+      let sound = c.reserve_room.ensures.sound c.requires.sound in
+      let count : c.len-count.result ≡ length c.args.messages.now.items = omega (arith, c.len-count.ensures, c.args.messages.now.ok.0) in
+      let rest = added_else c.reserve_room.new.self c.add_room.new.self c.min-hall.result _ c.add_room.ensures.rest in
+      joined_counted c.add_room.new.self g.F.Folder.tells_files (g.F.Folder.files c.args.folder.now) (g.F.Folder.files c.fill.new.folder) c.args.messages.now.items c.args.topic c.reserve_room.new.self.options c.in_ok-room.room c.fill.new.room c.reserve_room.new.self.moment c.in_ok-room.ensures.room c.in-Done.ensures.room c.reserve_room.new.self sound rest refl place.absent (none_belonging topic_name c.reserve_room.new.self.rooms.items c.args.topic c.args.i place) c.add_room.ensures.rooms told c.requires.delays (c.in_ok-room.ensures.stands (g.F.Folder.files c.args.folder.now)) c.len-count.result count s (c.reserve_room.ensures.stands (g.F.Folder.files c.args.folder.now) s holds);
+  stays = λ files. tt;
+  ids =
+      let count : c.len-count.result ≡ length c.args.messages.now.items = omega (arith, c.len-count.ensures, c.args.messages.now.ok.0) in
+      let same : c.add_room.new.self.ids_used ≡ c.args.hall.now.ids_used = ap (λ (x : Hall). x.ids_used) (added_else c.reserve_room.new.self c.add_room.new.self c.min-hall.result _ c.add_room.ensures.rest) ∙ ap (λ (x : Hall). x.ids_used) c.reserve_room.ensures.rest in
+      omega (arith, same, count);
+  none = tt;
+  rest = came_rest c.args.hall.now c.reserve_room.new.self c.add_room.new.self c.min-hall.result (c.add_room.new.self.ids_used + c.len-count.result) _ c.reserve_room.ensures.rest c.add_room.ensures.rest;
+  sound =
+      let place : BelongsAt topic_name c.reserve_room.new.self.rooms.items c.args.topic c.args.i = subst (λ (xs : List Room). BelongsAt topic_name xs c.args.topic c.args.i) (sym c.reserve_room.ensures.rooms) c.requires.place in
+      let sound = c.reserve_room.ensures.sound c.requires.sound in
+      let count : c.len-count.result ≡ length c.args.messages.now.items = omega (arith, c.len-count.ensures, c.args.messages.now.ok.0) in
+      let rest = added_else c.reserve_room.new.self c.add_room.new.self c.min-hall.result _ c.add_room.ensures.rest in
+      let same : c.add_room.new.self.ids_used ≡ c.args.hall.now.ids_used = ap (λ (x : Hall). x.ids_used) rest ∙ ap (λ (x : Hall). x.ids_used) c.reserve_room.ensures.rest in
+      let enough = c.requires.ids in
+      let from : c.add_room.new.self.unsaved_from ≡ min c.reserve_room.new.self.unsaved_from c.reserve_room.new.self.moment = ap (λ (x : Hall). x.unsaved_from) c.add_room.ensures.rest ∙ c.min-hall.ensures in
+      ids_sound c.add_room.new.self (c.add_room.new.self.ids_used + c.len-count.result) (omega (arith, same, count, enough))
+      (joined_sound c.add_room.new.self g.F.Folder.tells_files (g.F.Folder.files c.args.folder.now) (g.F.Folder.files c.fill.new.folder) c.args.messages.now.items c.args.topic c.reserve_room.new.self.options c.in_ok-room.room c.fill.new.room c.reserve_room.new.self.moment c.in_ok-room.ensures.room c.in-Done.ensures.room c.reserve_room.new.self sound rest (ap (λ (x : Hall). x.quiet_until) c.add_room.ensures.rest) (ap (λ (x : Hall). x.pending.items) c.add_room.ensures.rest) from refl refl (none_belonging topic_name c.reserve_room.new.self.rooms.items c.args.topic c.args.i place) c.add_room.ensures.rooms);
+  names = came_names c.args.hall.now c.reserve_room.new.self c.add_room.new.self c.args.i c.min-hall.result (c.add_room.new.self.ids_used + c.len-count.result) (record (c.fill.new.room) { since = Some c.reserve_room.new.self.moment }) c.args.topic c.requires.place (joins_name c.add_room.new.self g.F.Folder.tells_files (g.F.Folder.files c.args.folder.now) (g.F.Folder.files c.fill.new.folder) c.args.messages.now.items c.args.topic c.reserve_room.new.self.options c.in_ok-room.room c.fill.new.room c.reserve_room.new.self.moment c.in_ok-room.ensures.room c.in-Done.ensures.room) c.reserve_room.ensures.rest c.reserve_room.ensures.rooms c.add_room.ensures.rest c.add_room.ensures.rooms;
+  since = came_since c.args.hall.now c.reserve_room.new.self c.add_room.new.self c.args.i (record (c.fill.new.room) { since = Some c.reserve_room.new.self.moment }) c.args.topic c.requires.place (joins_name c.add_room.new.self g.F.Folder.tells_files (g.F.Folder.files c.args.folder.now) (g.F.Folder.files c.fill.new.folder) c.args.messages.now.items c.args.topic c.reserve_room.new.self.options c.in_ok-room.room c.fill.new.room c.reserve_room.new.self.moment c.in_ok-room.ensures.room c.in-Done.ensures.room) c.reserve_room.ensures.rest c.reserve_room.ensures.rooms c.add_room.ensures.rooms (ap (λ (x : Hall). Some x.moment) c.reserve_room.ensures.rest) (joins_stalls c.add_room.new.self g.F.Folder.tells_files (g.F.Folder.files c.args.folder.now) (g.F.Folder.files c.fill.new.folder) c.args.messages.now.items c.args.topic c.reserve_room.new.self.options c.in_ok-room.room c.fill.new.room c.reserve_room.new.self.moment c.in_ok-room.ensures.room c.in-Done.ensures.room);
+  files = λ told. fresh_files c.args.topic c.reserve_room.new.self.options c.in_ok-room.room (g.F.Folder.files c.args.folder.now) (g.F.Folder.files c.fill.new.folder) c.in_ok-room.ensures.room (c.in-Done.ensures.room.others told);
+  faults = c.fill.ensures.faults;
+  cause = tt;
+}
 
 pub returns-in_err-reserve_room-clause-rest : goal.returns-in_err-reserve_room-clause-rest
 returns-in_err-reserve_room-clause-rest g c = spaced_more c.args.hall.now c.reserve_room.new.self c.reserve_room.ensures.rest

@@ -1,5 +1,5 @@
 use Rattle.std.proofs.Common.{inr, sym, ◌∙◌}
-use Rattle.floor_stats.proofs.Found.{none_at}
+use Rattle.floor_words.proofs.Found.{none_at}
 use Rattle.floor_words.proofs.Sending.{quiet, none_of, no_room}
 use Rattle.floor_words.proofs.due.next_due_to.Goals as goal
 

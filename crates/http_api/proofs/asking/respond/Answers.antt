@@ -33,3 +33,48 @@ pub returns-in-Stops-clause-responds : goal.returns-in-Stops-clause-responds
 returns-in-Stops-clause-responds g c = λ tells none.
     subst (λ (x : HttpCall). RespondsTo c.args.began x c.args.number (g.D.Desk.seen c.respond_to_stop.new.desk) c.respond_to_stop.result) (sym c.in-Stops.is ∙ c.in_ok-call.ensures.value)
     (c.respond_to_stop.ensures.responds c.args.began tells none)
+
+pub returns-in-Refused-clause-status : goal.returns-in-Refused-clause-status
+returns-in-Refused-clause-status g c = c.answer.ensures.status
+
+pub returns-in-Refused-clause-number : goal.returns-in-Refused-clause-number
+returns-in-Refused-clause-number g c = refl
+
+pub returns-in-Refused-clause-wanted : goal.returns-in-Refused-clause-wanted
+returns-in-Refused-clause-wanted g c = refl
+
+pub returns-in-Refused-clause-leads : goal.returns-in-Refused-clause-leads
+returns-in-Refused-clause-leads g c = g.met.D.Desk.stays _
+
+pub returns-in-Answered-clause-number : goal.returns-in-Answered-clause-number
+returns-in-Answered-clause-number g c = refl
+
+pub returns-in-Answered-clause-wanted : goal.returns-in-Answered-clause-wanted
+returns-in-Answered-clause-wanted g c = refl
+
+pub returns-in-Answered-clause-leads : goal.returns-in-Answered-clause-leads
+returns-in-Answered-clause-leads g c = g.met.D.Desk.stays _
+
+pub returns-in-Asks-clause-status : goal.returns-in-Asks-clause-status
+returns-in-Asks-clause-status g c = c.respond_to_ask.ensures.status
+
+pub returns-in-Asks-clause-number : goal.returns-in-Asks-clause-number
+returns-in-Asks-clause-number g c = c.respond_to_ask.ensures.number
+
+pub returns-in-Asks-clause-wanted : goal.returns-in-Asks-clause-wanted
+returns-in-Asks-clause-wanted g c = c.respond_to_ask.ensures.wanted
+
+pub returns-in-Asks-clause-leads : goal.returns-in-Asks-clause-leads
+returns-in-Asks-clause-leads g c = c.respond_to_ask.ensures.leads
+
+pub returns-in-Stops-clause-status : goal.returns-in-Stops-clause-status
+returns-in-Stops-clause-status g c = c.respond_to_stop.ensures.status
+
+pub returns-in-Stops-clause-number : goal.returns-in-Stops-clause-number
+returns-in-Stops-clause-number g c = c.respond_to_stop.ensures.number
+
+pub returns-in-Stops-clause-wanted : goal.returns-in-Stops-clause-wanted
+returns-in-Stops-clause-wanted g c = c.respond_to_stop.ensures.wanted
+
+pub returns-in-Stops-clause-leads : goal.returns-in-Stops-clause-leads
+returns-in-Stops-clause-leads g c = c.respond_to_stop.ensures.leads

@@ -5,9 +5,12 @@ use Rattle.path_image.specs.Data.{KeptChannel, KeptTopic}
 use Rattle.broker_floor.specs.Opened.{AreApart}
 use Rattle.broker_floor.specs.Floors.{faults_of, files_of, hall_of}
 use Rattle.path_opening.specs.Adding.{IsNotOne, pauses}
-use Rattle.path_opening.proofs.Joining.{adds_of, apart_pauses, durable_pauses, puts_of, refused_of}
+use Rattle.path_opening.proofs.Joining.{adds_of, apart_pauses, durable_pauses, memory_first, puts_of, refused_of}
 use Rattle.path_opening.proofs.Orders.{ascends}
 use Rattle.path_opening.proofs.adding.add_topic.Goals as goal
+
+pub returns-in_default-clause-refused : goal.returns-in_default-clause-refused
+returns-in_default-clause-refused g c = memory_first g.F.Folder.tells_files c.args.topic.now (files_of c.args.floor.now) (faults_of c.args.floor.now) (faults_of c.args.floor.now)
 
 pub add-requires-clause-channels : goal.add-requires-clause-channels
 add-requires-clause-channels g c =

@@ -1,6 +1,9 @@
-use Rattle.std.proofs.Common.{◌∙◌, refl}
+use Rattle.std.proofs.Common.{◌≡◌, ◌∙◌, false, refl}
+use Rattle.std.specs.List.{All}
+use Rattle.nsq_base.specs.Name.{is_ephemeral}
+use Rattle.path_image.specs.Data.{KeptChannel, KeptTopic}
 use Rattle.broker_floor.specs.Floors.{faults_of, files_of, hall_of, held_of}
-use Rattle.path_opening.proofs.Joining.{added_first, still_unflushed, topic_added, topic_new, topic_order, topic_refused}
+use Rattle.path_opening.proofs.Joining.{added_first, at_next, still_unflushed, topic_added, topic_new, topic_order, topic_refused}
 use Rattle.path_opening.proofs.adding.add_topics.Goals as goal
 
 pub topics-init : goal.topics-init
@@ -8,6 +11,13 @@ topics-init g c = (added_first g.F.Folder.tells_files (held_of c.args.floor.now)
 
 pub add_topic-requires-clause-unflushed : goal.add_topic-requires-clause-unflushed
 add_topic-requires-clause-unflushed g c = still_unflushed (held_of c.args.floor.now) (held_of c.topics.floor) c.topics.invariant.0.rest c.requires.unflushed
+
+pub add_topic-requires-clause-durable : goal.add_topic-requires-clause-durable
+add_topic-requires-clause-durable g c = at_next (λ (t : KeptTopic). is_ephemeral t.name ≡ false) c.args.topics.now c.topics.topic-index c.topic-item.result c.topics-test.true c.topic-item.is c.requires.durable.topics
+
+pub add_topic-requires-clause-channels : goal.add_topic-requires-clause-channels
+add_topic-requires-clause-channels g c =
+    at_next (λ (t : KeptTopic). All (λ (k : KeptChannel). is_ephemeral k.name ≡ false) t.channels) c.args.topics.now c.topics.topic-index c.topic-item.result c.topics-test.true c.topic-item.is c.requires.durable.channels
 
 pub add_topic-requires-clause-order : goal.add_topic-requires-clause-order
 add_topic-requires-clause-order g c = topic_order c.args.topics.now c.topics.topic-index c.topic-item.result c.topics-test.true c.topic-item.is c.requires.can

@@ -1,9 +1,10 @@
-use Rattle.std.proofs.Common.{◌∙◌, List, ℕ, subst}
+use Rattle.std.proofs.Common.{◌∙◌, List, ℕ, subst, true, arith}
+use Rattle.nsq_outside.specs.Causes.{CountsFault, DidCounts}
 use Rattle.nsq_outside.specs.Files.{OnlyChanges, Cuts}
 use Rattle.nsq_outside.specs.declared.did.Did.TheVariants.{Done}
 use Rattle.queue_image.specs.FileNames.{data_file}
 use Rattle.queue_opening.specs.Tidied.{IsAside, StaysOrGoes, OnlyAsideChanges, RemovedWhere, OnlyRemovedChange}
-use Rattle.queue_opening.proofs.Tidies.{tidied_removed, tidied_above, tidied_bad, tidied_cut, tidy_where, partly_removed, partly_above, partly_before, partly_cut, aside_either, as_named}
+use Rattle.queue_opening.proofs.Tidies.{tidied_removed, tidied_above, tidied_bad, tidied_cut, tidy_where, partly_removed, partly_above, partly_before, partly_cut, aside_either, as_named, did_later}
 use Rattle.queue_opening.proofs.tidying.tidy.Goals as goal
 
 pub returns-in-Failed-clause-others : goal.returns-in-Failed-clause-others
@@ -124,3 +125,38 @@ returns-clause-partly g c = λ told.
     (as_named (λ n ns. OnlyAsideChanges n ns 0 f2 f3) c.set_aside.new.names name c.deref-3.result.now plan.bad.items (c.in-Done-set_aside.ensures.name ∙ c.requires.name) c.deref-3.ensures.value (c.in-Done-set_aside-2.ensures.others told))
     (subst (λ (n : List ℕ). OnlyChanges f3 f4 (data_file n plan.positions.write_file)) c.in-Done.ensures.name (c.cut.ensures.others told)) c.cut.result
     (subst (λ (n : List ℕ). Cuts (f3 (data_file n plan.positions.write_file)) (f4 (data_file n plan.positions.write_file)) plan.positions.write_at c.cut.result) c.in-Done.ensures.name (c.cut.ensures.bytes told))
+
+pub returns-clause-name : goal.returns-clause-name
+returns-clause-name g c = c.cut.ensures.name ∙ c.in-Done.ensures.name
+
+pub returns-clause-faults : goal.returns-clause-faults
+returns-clause-faults g c = omega (arith, c.in-Done.ensures.faults, c.in-Done-set_aside.ensures.faults, c.in-Done-set_aside-2.ensures.faults, c.cut.ensures.faults)
+
+pub returns-clause-cause : goal.returns-clause-cause
+returns-clause-cause g c =
+    did_later (g.F.Folder.folder_faults c.args.folder.now) (g.F.Folder.folder_faults c.set_aside-2.new.folder) (g.F.Folder.folder_faults c.cut.new.folder) c.cut.result
+    (omega (arith, c.in-Done.ensures.faults, c.in-Done-set_aside.ensures.faults, c.in-Done-set_aside-2.ensures.faults)) c.cut.ensures.cause
+
+pub returns-clause-exact : goal.returns-clause-exact
+returns-clause-exact g c = λ counts.
+    subst (λ n. DidCounts n (g.F.Folder.folder_faults c.cut.new.folder) c.cut.result) (c.in-Done-set_aside-2.ensures.exact counts ∙ c.in-Done-set_aside.ensures.exact counts ∙ c.in-Done.ensures.exact counts) (c.cut.ensures.exact counts)
+
+pub returns-in-Failed-set_aside-clause-faults : goal.returns-in-Failed-set_aside-clause-faults
+returns-in-Failed-set_aside-clause-faults g c = omega (arith, c.in-Done.ensures.faults, c.in-Failed-set_aside.ensures.faults)
+
+pub returns-in-Failed-set_aside-clause-cause : goal.returns-in-Failed-set_aside-clause-cause
+returns-in-Failed-set_aside-clause-cause g c = omega (arith, c.in-Done.ensures.faults, c.in-Failed-set_aside.ensures.cause)
+
+pub returns-in-Failed-set_aside-clause-exact : goal.returns-in-Failed-set_aside-clause-exact
+returns-in-Failed-set_aside-clause-exact g c = λ counts.
+    subst (λ n. CountsFault n (g.F.Folder.folder_faults c.set_aside.new.folder) true) (c.in-Done.ensures.exact counts) (c.in-Failed-set_aside.ensures.exact counts)
+
+pub returns-in-Failed-set_aside-2-clause-faults : goal.returns-in-Failed-set_aside-2-clause-faults
+returns-in-Failed-set_aside-2-clause-faults g c = omega (arith, c.in-Done.ensures.faults, c.in-Done-set_aside.ensures.faults, c.in-Failed-set_aside-2.ensures.faults)
+
+pub returns-in-Failed-set_aside-2-clause-cause : goal.returns-in-Failed-set_aside-2-clause-cause
+returns-in-Failed-set_aside-2-clause-cause g c = omega (arith, c.in-Done.ensures.faults, c.in-Done-set_aside.ensures.faults, c.in-Failed-set_aside-2.ensures.cause)
+
+pub returns-in-Failed-set_aside-2-clause-exact : goal.returns-in-Failed-set_aside-2-clause-exact
+returns-in-Failed-set_aside-2-clause-exact g c = λ counts.
+    subst (λ n. CountsFault n (g.F.Folder.folder_faults c.set_aside-2.new.folder) true) (c.in-Done-set_aside.ensures.exact counts ∙ c.in-Done.ensures.exact counts) (c.in-Failed-set_aside-2.ensures.exact counts)

@@ -52,57 +52,70 @@ loop-number-preserved g c =
       faults = omega (arith, given.faults, i.faults);
     }
 
-pub returns-in-Err-clause-cause : goal.returns-in-Err-clause-cause
-returns-in-Err-clause-cause g c =
-    c.in-Err.ensures.cause (g.F.Folder.folder_faults c.args.folder.now) (g.F.Folder.folder_faults c.given_by-gives.new.folder)
-    (given_earlier (g.F.Folder.folder_faults c.args.folder.now) (g.F.Folder.folder_faults c.loop-number.folder) (g.F.Folder.folder_faults c.given_by-gives.new.folder) c.given_by-gives.result c.loop-number.invariant.faults
-    c.given_by-gives.ensures.cause)
-
-pub returns-in-Err-add-clause-cause : goal.returns-in-Err-add-clause-cause
-returns-in-Err-add-clause-cause g c =
-    c.in-Err-add.ensures.cause (g.F.Folder.folder_faults c.args.folder.now) (g.F.Folder.folder_faults c.given_by-gives-2.new.folder)
-    (given_earlier (g.F.Folder.folder_faults c.args.folder.now) (g.F.Folder.folder_faults c.loop-number.folder) (g.F.Folder.folder_faults c.given_by-gives-2.new.folder) c.given_by-gives-2.result c.loop-number.invariant.faults
-    c.given_by-gives-2.ensures.cause)
-
-pub returns-in-Ok-add-clause-walk : goal.returns-in-Ok-add-clause-walk
-returns-in-Ok-add-clause-walk g c = λ told has.
+pub returns-in-Err : goal.returns-in-Err
+returns-in-Err g c =
     let i = c.loop-number.invariant in
-    let p = c.args.positions.now in
-    let least = c.args.options.now.least in
-    let limit = c.args.options.now.limit in
-    let last = p.write_file in
-    let old = g.F.Folder.files c.args.folder.now in
-    let now = g.F.Folder.files c.loop-number.folder in
-    let bytes = content old c.args.files.now in
-    let here : content now c.loop-number.files last ≡ bytes last
-    = ap (λ (name : List ℕ). content now name last) i.name ∙ ap (λ (o : Option (List ℕ)). unwrap_or o []) (i.same told (data_file c.args.files.now last)) in
-    let arrived : c.loop-number.number ≡ last = omega (arith, i.high, c.loop-number-test.false) in
-    walk_on least limit p bytes last c.loop-number.walk c.add-2.new.self c.given_by-gives-2.result
-    (subst (λ (x : List ℕ). GivesOf least limit p last x c.given_by-gives-2.result) here (c.given_by-gives-2.ensures.gives told)) c.in-Ok-add.ensures.added
-    (subst (λ (k : ℕ). WalksUpTo least limit p bytes k c.loop-number.walk.depth c.loop-number.walk.bad.items) arrived (i.walks told has))
-
-pub returns-in-Ok-add-clause-fits : goal.returns-in-Ok-add-clause-fits
-returns-in-Ok-add-clause-fits g c =
-    let i = c.loop-number.invariant in
-    let p = c.args.positions.now in
-    let arrived : c.loop-number.number ≡ p.write_file = omega (arith, i.high, c.loop-number-test.false) in
-    walk_fits p c.loop-number.walk c.add-2.new.self c.given_by-gives-2.result (file_order p c.requires.order) c.given_by-gives-2.ensures.within c.in-Ok-add.ensures.added
-    (λ k its. let h = i.within k its in (h.0, omega (arith, h.1, arrived))) (omega (arith, i.depth, arrived))
-
-pub returns-in-Err-clause-exact : goal.returns-in-Err-clause-exact
-returns-in-Err-clause-exact g c = λ counts.
+    let given = c.given_by-gives.ensures in
+    let first = g.F.Folder.folder_faults c.args.folder.now in
+    let mid = g.F.Folder.folder_faults c.loop-number.folder in
     let now = g.F.Folder.folder_faults c.given_by-gives.new.folder in
-    c.in-Err.ensures.exact (g.F.Folder.folder_faults c.args.folder.now) now
-    (subst (λ (n : ℕ). GivesCounts n now c.given_by-gives.result) (c.loop-number.invariant.exact counts) (c.given_by-gives.ensures.exact counts))
+    record {
+      name = given.name ∙ i.name;
+      walk = λ told has. tt;
+      fits = tt;
+      meta = c.in-Err.ensures.meta;
+      same = λ told file. given.same told file ∙ i.same told file;
+      faults = omega (arith, given.faults, i.faults);
+      cause = c.in-Err.ensures.cause first now (given_earlier first mid now c.given_by-gives.result i.faults given.cause);
+      exact = λ counts. c.in-Err.ensures.exact first now (subst (λ (n : ℕ). GivesCounts n now c.given_by-gives.result) (i.exact counts) (given.exact counts));
+    }
 
-pub returns-in-Err-add-clause-exact : goal.returns-in-Err-add-clause-exact
-returns-in-Err-add-clause-exact g c = λ counts.
+pub returns-in-Err-add : goal.returns-in-Err-add
+returns-in-Err-add g c =
+    let i = c.loop-number.invariant in
+    let given = c.given_by-gives-2.ensures in
+    let first = g.F.Folder.folder_faults c.args.folder.now in
+    let mid = g.F.Folder.folder_faults c.loop-number.folder in
     let now = g.F.Folder.folder_faults c.given_by-gives-2.new.folder in
-    c.in-Err-add.ensures.exact (g.F.Folder.folder_faults c.args.folder.now) now
-    (subst (λ (n : ℕ). GivesCounts n now c.given_by-gives-2.result) (c.loop-number.invariant.exact counts) (c.given_by-gives-2.ensures.exact counts))
+    record {
+      name = given.name ∙ i.name;
+      walk = λ told has. tt;
+      fits = tt;
+      meta = c.in-Err-add.ensures.meta;
+      same = λ told file. given.same told file ∙ i.same told file;
+      faults = omega (arith, given.faults, i.faults);
+      cause = c.in-Err-add.ensures.cause first now (given_earlier first mid now c.given_by-gives-2.result i.faults given.cause);
+      exact = λ counts. c.in-Err-add.ensures.exact first now (subst (λ (n : ℕ). GivesCounts n now c.given_by-gives-2.result) (i.exact counts) (given.exact counts));
+    }
 
-pub returns-in-Ok-add-clause-exact : goal.returns-in-Ok-add-clause-exact
-returns-in-Ok-add-clause-exact g c = λ counts.
+pub returns-in-Ok-add : goal.returns-in-Ok-add
+returns-in-Ok-add g c =
+    let i = c.loop-number.invariant in
+    let given = c.given_by-gives-2.ensures in
+    let p = c.args.positions.now in
     let now = g.F.Folder.folder_faults c.given_by-gives-2.new.folder in
-    c.in-Ok-add.ensures.exact (g.F.Folder.folder_faults c.args.folder.now) now
-    (subst (λ (n : ℕ). GivesCounts n now c.given_by-gives-2.result) (c.loop-number.invariant.exact counts) (c.given_by-gives-2.ensures.exact counts))
+    let arrived : c.loop-number.number ≡ p.write_file = omega (arith, i.high, c.loop-number-test.false) in
+    record {
+      name = given.name ∙ i.name;
+      walk = λ told has.
+          let least = c.args.options.now.least in
+          let limit = c.args.options.now.limit in
+          let last = p.write_file in
+          let old = g.F.Folder.files c.args.folder.now in
+          let now = g.F.Folder.files c.loop-number.folder in
+          let bytes = content old c.args.files.now in
+          let here : content now c.loop-number.files last ≡ bytes last
+          = ap (λ (name : List ℕ). content now name last) i.name ∙ ap (λ (o : Option (List ℕ)). unwrap_or o []) (i.same told (data_file c.args.files.now last)) in
+          walk_on least limit p bytes last c.loop-number.walk c.add-2.new.self c.given_by-gives-2.result
+          (subst (λ (x : List ℕ). GivesOf least limit p last x c.given_by-gives-2.result) here (given.gives told)) c.in-Ok-add.ensures.added
+          (subst (λ (k : ℕ). WalksUpTo least limit p bytes k c.loop-number.walk.depth c.loop-number.walk.bad.items) arrived (i.walks told has));
+      fits =
+          walk_fits p c.loop-number.walk c.add-2.new.self c.given_by-gives-2.result (file_order p c.requires.order) given.within c.in-Ok-add.ensures.added
+          (λ k its. let h = i.within k its in (h.0, omega (arith, h.1, arrived))) (omega (arith, i.depth, arrived));
+      meta = tt;
+      same = λ told file. given.same told file ∙ i.same told file;
+      faults = omega (arith, given.faults, i.faults);
+      cause = tt;
+      exact = λ counts.
+          c.in-Ok-add.ensures.exact (g.F.Folder.folder_faults c.args.folder.now) now (subst (λ (n : ℕ). GivesCounts n now c.given_by-gives-2.result) (i.exact counts) (given.exact counts));
+    }

@@ -1,11 +1,28 @@
-use Rattle.std.proofs.Common.{◌∙◌, arith}
-use Rattle.queue_sweep.proofs.Sweeps.{swept_more, gone_more, gone_all}
+use Rattle.std.proofs.Common.{ℕ, Bool, Result, Err, refl, subst, ◌∙◌, arith}
+use Rattle.queue_sweep.specs.Steps.{SweepCounts}
+use Rattle.queue_sweep.specs.declared.unswept.Unswept.{Unswept}
+use Rattle.queue_sweep.proofs.Sweeps.{swept_from_same, swept_more, gone_more, gone_all}
 use Rattle.queue_sweep.proofs.sweeping.sweep.Goals as goal
 
-pub returns-in-Err-clause-swept : goal.returns-in-Err-clause-swept
-returns-in-Err-clause-swept g c = λ told.
-    swept_more c.args.listed.now (g.F.Folder.files c.args.folder.now) (g.F.Folder.files c.loop-file.folder) (g.F.Folder.files c.sweep_one.new.folder) (c.loop-file.invariant.swept told) c.as_str.result.now
-    (c.in-Err.ensures.step told).either
+pub loop-file-init : goal.loop-file-init
+loop-file-init g c = record {
+  swept = λ told. swept_from_same c.args.listed.now (g.F.Folder.files c.args.folder.now) (g.F.Folder.files c.args.folder.now) (λ name. refl);
+  gone = λ told file its u. absurd (let no : ⊥ = omega (arith, its.1) in no);
+  exact = λ counts. refl;
+  faults = omega arith;
+}
+
+pub returns-in-Err : goal.returns-in-Err
+returns-in-Err g c =
+    let i = c.loop-file.invariant in
+    let answer : Result Bool Unswept = Err c.in-Err.why in
+    record {
+      swept = λ told. swept_more c.args.listed.now (g.F.Folder.files c.args.folder.now) (g.F.Folder.files c.loop-file.folder) (g.F.Folder.files c.sweep_one.new.folder) (i.swept told) c.as_str.result.now (c.in-Err.ensures.step told).either;
+      gone = λ told. tt;
+      faults = omega (arith, i.faults, c.in-Err.ensures.faults);
+      cause = λ fault. let rose = c.in-Err.ensures.cause fault in omega (arith, i.faults, rose);
+      exact = λ counts. subst (λ (n : ℕ). SweepCounts n (g.F.Folder.folder_faults c.sweep_one.new.folder) answer) (i.exact counts) (c.in-Err.ensures.exact counts);
+    }
 
 pub loop-file-preserved : goal.loop-file-preserved
 loop-file-preserved g c =
@@ -22,5 +39,13 @@ loop-file-preserved g c =
       faults = omega (arith, i.faults, c.in-Ok.ensures.faults);
     }
 
-pub returns-clause-gone : goal.returns-clause-gone
-returns-clause-gone g c = λ told. gone_all c.args.listed.now (g.F.Folder.files c.loop-file.folder) c.args.files.now c.loop-file.file-index c.loop-file-test.false (c.loop-file.invariant.gone told)
+pub returns : goal.returns
+returns g c =
+    let i = c.loop-file.invariant in
+    record {
+      swept = i.swept;
+      gone = λ told. gone_all c.args.listed.now (g.F.Folder.files c.loop-file.folder) c.args.files.now c.loop-file.file-index c.loop-file-test.false (i.gone told);
+      faults = i.faults;
+      cause = tt;
+      exact = i.exact;
+    }

@@ -1,4 +1,4 @@
-use Rattle.std.proofs.Common.{◌∙◌, None, Some, refl, sym, arith}
+use Rattle.std.proofs.Common.{◌∙◌, None, Some, refl, sym, le_refl, arith}
 use Rattle.v2_frame.proofs.ReadLemmas.{given_limits}
 use Rattle.v2_frame.specs.declared.got.Got.TheVariants as got
 use Rattle.broker_history.specs.Entries.{has_stop}
@@ -134,3 +134,17 @@ returns-in-Memory g c =
       wanted = before.wanted;
       leads = before.leads;
     }
+
+pub commands-init : goal.commands-init
+commands-init g c = record {
+  talk = λ limits told i. i;
+  here = c.requires.here;
+  limits = refl;
+  pieces = refl;
+  left = refl;
+  write_faults = le_refl _;
+  read_faults = le_refl _;
+  number = refl;
+  wanted = refl;
+  leads = g.met.D.Desk.stays _;
+}

@@ -1,4 +1,4 @@
-use Rattle.std.proofs.Common.{◌∙◌, refl, sym, arith, Some}
+use Rattle.std.proofs.Common.{◌∙◌, refl, sym, le_refl, arith, Some}
 use Rattle.broker_history.specs.Entries.{has_stop}
 use Rattle.v2_session.specs.declared.output.Delivered.TheVariants.{More, Rest, Over}
 use Rattle.v2_session.proofs.Talking.{moved, spent_talk}
@@ -92,3 +92,17 @@ returns g c =
       wanted = all.wanted;
       leads = all.leads;
     }
+
+pub pushes-init : goal.pushes-init
+pushes-init g c = record {
+  sent = omega arith;
+  talk = λ limits reader told i. i;
+  here = c.requires.here;
+  pieces = refl;
+  left = refl;
+  write_faults = le_refl _;
+  read_faults = le_refl _;
+  number = refl;
+  wanted = refl;
+  leads = g.met.D.Desk.stays _;
+}

@@ -1,5 +1,6 @@
-use Rattle.std.proofs.Common.{◌≤◌, ◌<◌, ◌∙◌, refl, sym, take, length, length-take, le_refl, arith, Some}
+use Rattle.std.proofs.Common.{◌≤◌, ◌<◌, ◌∙◌, refl, sym, subst, take, length, length-take, le_refl, arith, Some}
 use Rattle.broker_history.specs.Entries.{has_stop}
+use Rattle.desk.specs.Calls.{AreAllowed}
 use Rattle.v2_session.proofs.Talking.{moved, fed_talk, nothing_talk, talk_waits}
 use Rattle.v2_session.proofs.Turning.{memory_over, fed_front, fed_same, read_stream, same_stream}
 use Rattle.v2_session.proofs.Warning.{warned_since}
@@ -129,3 +130,18 @@ returns-in-Failed g c =
       wanted = sent.wanted;
       leads = sent.leads;
     }
+
+pub pushes-requires-clause-number : goal.pushes-requires-clause-number
+pushes-requires-clause-number g c = λ κs lives. c.requires.number
+
+pub pushes-requires-clause-here : goal.pushes-requires-clause-here
+pushes-requires-clause-here g c = λ κs lives. c.requires.here
+
+pub commands-requires-clause-number : goal.commands-requires-clause-number
+commands-requires-clause-number g c = λ κs lives. c.requires.number ∙ sym c.in-None.ensures.number
+
+pub commands-requires-clause-here : goal.commands-requires-clause-here
+commands-requires-clause-here g c = λ κs lives. c.in-None.ensures.here
+
+pub commands-requires-clause-limits : goal.commands-requires-clause-limits
+commands-requires-clause-limits g c = λ κs lives. subst AreAllowed (sym (fed_keeps c.args.reader.now _ c.feed.result c.feed.new.self c.feed.ensures)) c.requires.limits

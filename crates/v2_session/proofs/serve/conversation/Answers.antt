@@ -1,4 +1,4 @@
-use Rattle.std.proofs.Common.{◌∙◌, refl}
+use Rattle.std.proofs.Common.{◌∙◌, refl, sym}
 use Rattle.broker_history.specs.Talk.{stops_before_gone}
 use Rattle.v2_session.specs.Sessions.{rises}
 use Rattle.v2_session.proofs.Turning.{unbegun, begun_talk, same_stream}
@@ -52,3 +52,15 @@ returns g c = record {
   number = c.turn-gone.ensures.number ∙ c.rounds-ended.ensures.number ∙ c.turn-turned.ensures.number;
   leads = g.met.D.Desk.goes_on _ _ _ (g.met.D.Desk.goes_on _ _ _ c.turn-turned.ensures.leads c.rounds-ended.ensures.leads) c.turn-gone.ensures.leads;
 }
+
+pub turn-turned-requires-clause-number : goal.turn-turned-requires-clause-number
+turn-turned-requires-clause-number g c = c.requires.number.1
+
+pub rounds-ended-requires-clause-number : goal.rounds-ended-requires-clause-number
+rounds-ended-requires-clause-number g c = λ κs lives. c.requires.number.1 ∙ sym c.turn-turned.ensures.number
+
+pub rounds-ended-requires-clause-limits : goal.rounds-ended-requires-clause-limits
+rounds-ended-requires-clause-limits g c = λ κs lives. c.requires.limits
+
+pub turn-gone-requires-clause-number : goal.turn-gone-requires-clause-number
+turn-gone-requires-clause-number g c = c.requires.number.1 ∙ sym c.turn-turned.ensures.number ∙ sym c.rounds-ended.ensures.number

@@ -1,4 +1,5 @@
-use Rattle.std.proofs.Common.{◌∙◌, sym, arith, Some}
+use Rattle.std.proofs.Common.{◌∙◌, refl, sym, subst, le_refl, arith, Some}
+use Rattle.desk.specs.Calls.{AreAllowed}
 use Rattle.v2_session.proofs.Warning.{warned_since}
 use Rattle.v2_session.proofs.Causing.{cause_from}
 use Rattle.v2_session.proofs.serve.rounds.Goals as goal
@@ -35,3 +36,25 @@ returns-in-Some-round g c =
       wanted = did.wanted ∙ before.wanted;
       leads = g.met.D.Desk.goes_on _ _ _ before.leads did.leads;
     }
+
+pub rounds-init : goal.rounds-init
+rounds-init g c = record {
+  talk = λ limits told i. i;
+  here = c.requires.here;
+  limits = refl;
+  stream = λ told. refl;
+  write_faults = le_refl _;
+  read_faults = le_refl _;
+  number = refl;
+  wanted = refl;
+  leads = g.met.D.Desk.stays _;
+}
+
+pub round-requires-clause-number : goal.round-requires-clause-number
+round-requires-clause-number g c = λ κs lives. c.requires.number ∙ sym c.rounds.invariant.number
+
+pub round-requires-clause-here : goal.round-requires-clause-here
+round-requires-clause-here g c = λ κs lives. c.rounds.invariant.here
+
+pub round-requires-clause-limits : goal.round-requires-clause-limits
+round-requires-clause-limits g c = λ κs lives. subst AreAllowed (sym c.rounds.invariant.limits) c.requires.limits

@@ -1,8 +1,49 @@
-use Rattle.std.proofs.Common.{◌≡◌, ◌∙◌, Some, take, inl, inr, ap, sym}
-use Rattle.backlog.specs.Seen.{Seen}
-use Rattle.backlog.proofs.Putting.{put_listed, put_refused, put_changed}
+use Rattle.std.proofs.Common.{◌≡◌, ◌≤◌, ◌<◌, ◌∙◌, None, Some, length, take, refl, inl, inr, ap, sym, subst}
+use Rattle.std.proofs.Math.Nat.{le_of_eq}
+use Rattle.std.proofs.lemmas.Bool.{cases_lt, false≢true}
+use Rattle.circular_buffer.specs.Buffer.{Buffer}
+use Rattle.v2_frame.specs.declared.message.Message.{Message}
+use Rattle.backlog.specs.Seen.{Seen, SameQueue}
+use Rattle.backlog.specs.Lists.{OnDisk, Stands}
+use Rattle.backlog.proofs.Putting.{put_listed, put_refused, put_changed, put_kept, same_queue}
 use Rattle.backlog.proofs.backlog.Backlog.put.Goals.{in-Stored, in-Fault}
 use Rattle.backlog.proofs.backlog.Backlog.put.Goals as goal
+
+pub returns-in-Ok : goal.returns-in-Ok
+returns-in-Ok g c =
+    let was = c.self.inside in
+    let files = g.F.Folder.files c.args.folder.now in
+    record {
+      nothing_now = ap (λ (b : Seen). b.lent) c.self.view_is ∙ c.requires.nothing;
+      queue = subst (λ (b : Seen). SameQueue b.queue was.queue) c.self.view_is (same_queue was.queue);
+      place = subst (λ (b : Seen). length b.ring < b.capacity) c.self.view_is (c.in-Ok.ensures.variant.0 refl);
+      seen = put_kept c.args.self.now was.ring.items was.ring.capacity was.queue was.lent c.try_push_back.new.self c.args.message c.self.view_is c.in-Ok.ensures.ok;
+      list = λ told disk. subst (λ (b : Seen). OnDisk b.queue files disk) (sym c.self.view_is);
+      stands = λ told. subst (λ (b : Seen). Stands b.queue files) (sym c.self.view_is);
+      others = λ told name. refl;
+      faults = le_of_eq refl;
+      cause = refl;
+      exact = λ counts. refl;
+    }
+
+pub returns-in_default : goal.returns-in_default
+returns-in_default g c =
+    let was = c.self.inside in
+    let files = g.F.Folder.files c.args.folder.now in
+    let refused = c.in-Err.ensures in
+    let full : was.ring.capacity ≤ length was.ring.items = elim (cases_lt (length was.ring.items) was.ring.capacity) [ inl room ↦ absurd (false≢true (refused.variant.1 room)) | inr past ↦ past ] in
+    record {
+      nothing_now = ap (λ (b : Seen). b.lent) c.self.view_is ∙ c.requires.nothing;
+      queue = subst (λ (b : Seen). SameQueue b.queue was.queue) c.self.view_is (same_queue was.queue);
+      place = subst (λ (b : Seen). (b.capacity ≤ length b.ring) × (b.queue ≡ None)) c.self.view_is (full, c.in_default.is);
+      seen = ap (λ (b : Buffer Message). record { ring = b.items; capacity = b.capacity; queue = was.queue; lent = was.lent }) refused.err.1 ∙ c.self.view_is;
+      list = λ told disk. subst (λ (b : Seen). OnDisk b.queue files disk) (sym c.self.view_is);
+      stands = λ told. subst (λ (b : Seen). Stands b.queue files) (sym c.self.view_is);
+      others = λ told name. refl;
+      faults = le_of_eq refl;
+      cause = refl;
+      exact = λ counts. refl;
+    }
 
 pub returns-clause-list : goal.returns-clause-list
 returns-clause-list g c = λ told disk on.

@@ -1,10 +1,12 @@
-use Rattle.std.proofs.Common.{◌≡◌, ◌≢◌, length, map, take, ap, subst, arith}
+use Rattle.std.proofs.Common.{◌≡◌, ◌≢◌, ◌∙◌, length, map, take, ap, refl, subst, arith}
+use Rattle.std.proofs.Math.Nat.{le_of_eq}
 use Rattle.std.proofs.lemmas.List.{take_all}
 use Rattle.v2_frame.specs.Written.{message_bytes}
-use Rattle.disk_queue.specs.Seen.{Seen as Queue}
+use Rattle.disk_queue.specs.Seen.{Seen as Queue, committed, after_save, IsEarly}
+use Rattle.disk_queue.specs.Answers.{NotDueWhere}
 use Rattle.disk_queue.specs.declared.answers.Stage.TheVariants as stage
 use Rattle.backlog.specs.Seen.{ForMessages, FitsLimit, size_of}
-use Rattle.backlog.proofs.Putting.{Spilling, spilling_more, next_front, holds_spilled, unstaged_seen, not_staged, stage_rose, options_kept, short_at, written_long, own_more}
+use Rattle.backlog.proofs.Putting.{Spilling, spilling_none, spilling_more, next_front, holds_spilled, unstaged_seen, not_staged, stage_rose, options_kept, short_at, written_long, own_more}
 use Rattle.backlog.proofs.backlog.putting.spill.Goals as goal
 
 pub stage-requires : goal.stage-requires
@@ -57,18 +59,36 @@ returns-in-Fault g c =
       cause = stage_rose (count c.args.folder.now) (count c.loop-message.folder) (count c.stage.new.folder) c.loop-message.queue.options.limit (length (take c.write_record-size.result now)) c.stage.result before.faults (omega (arith, options.limit, short, long)) c.stage.ensures.too_long c.stage.ensures.cause refused;
     }
 
-pub returns-clause-list : goal.returns-clause-list
-returns-clause-list g c = λ told disk h.
+pub loop-message-init : goal.loop-message-init
+loop-message-init g c = record {
+  spilling = spilling_none g.F.Folder.tells_files c.args.queue.now (g.F.Folder.files c.args.folder.now);
+  scratch = refl;
+  faults = le_of_eq refl;
+}
+
+pub returns : goal.returns
+returns g c =
     let files = g.F.Folder.files in
+    let held = c.loop-message.invariant in
+    let saved = c.commit-sync.ensures in
+    let sync = c.commit-sync.result in
     let messages = c.args.messages.now in
     let done : take c.loop-message.message-index messages ≡ messages = take_all c.loop-message.message-index messages c.loop-message-test.false in
     let all : Spilling g.F.Folder.tells_files c.args.queue.now c.loop-message.queue (files c.args.folder.now) (files c.loop-message.folder) messages
-    = subst (Spilling g.F.Folder.tells_files c.args.queue.now c.loop-message.queue (files c.args.folder.now) (files c.loop-message.folder)) done c.loop-message.invariant.spilling in
-    holds_spilled c.args.queue.now c.commit-sync.new.self (files c.args.folder.now) (files c.commit-sync.new.folder) disk messages all.fits
-    (λ bodies held. c.commit-sync.ensures.list told bodies (map message_bytes messages) (all.list told bodies held)) h
-
-pub returns-clause-others : goal.returns-clause-others
-returns-clause-others g c = λ told.
-    let files = g.F.Folder.files in
-    let before = c.loop-message.invariant.spilling in
-    own_more c.args.queue.now c.loop-message.queue (map size_of (take c.loop-message.message-index c.args.messages.now)) (files c.args.folder.now) (files c.loop-message.folder) (files c.commit-sync.new.folder) before.queue (before.others told) (c.commit-sync.ensures.others told)
+    = subst (Spilling g.F.Folder.tells_files c.args.queue.now c.loop-message.queue (files c.args.folder.now) (files c.loop-message.folder)) done held.spilling in
+    record {
+      seen = record {
+        sync = sync;
+        is = saved.seen ∙ ap (λ (q : Queue). after_save (committed q) sync) all.queue;
+        due = subst (λ (q : Queue). NotDueWhere (IsEarly (committed q)) sync) all.queue saved.due;
+      };
+      none_now = ap (λ (q : Queue). q.staged.count) saved.seen;
+      list = λ told disk h.
+          holds_spilled c.args.queue.now c.commit-sync.new.self (files c.args.folder.now) (files c.commit-sync.new.folder) disk messages all.fits
+          (λ bodies held. saved.list told bodies (map message_bytes messages) (all.list told bodies held)) h;
+      stands = λ told s. saved.stands told (all.stands told s);
+      others = λ told.
+          own_more c.args.queue.now c.loop-message.queue (map size_of messages) (files c.args.folder.now) (files c.loop-message.folder) (files c.commit-sync.new.folder) all.queue (all.others told) (saved.others told);
+      faults = omega (arith, held.faults, saved.faults);
+      cause = tt;
+    }

@@ -2,7 +2,7 @@ use Rattle.std.proofs.Common.{◌≡◌, length, take, sym, ap, refl, arith}
 use Rattle.disk_queue.specs.QueueOptions.{QueueOptions}
 use Rattle.backlog.specs.Seen.{FitsLimit}
 use Rattle.backlog.proofs.Drawing.{ring_empty}
-use Rattle.backlog.proofs.Saving.{moving_more, moving_refused, not_stored, put_rose, moved, first_left, short_left, record_long, left_over}
+use Rattle.backlog.proofs.Saving.{moving_more, moving_refused, not_stored, put_rose, moved, first_left, short_left, record_long, left_over, none_left}
 use Rattle.backlog.proofs.backlog.saving.write_ring.Goals as goal
 
 pub returns-in-Fault : goal.returns-in-Fault
@@ -53,17 +53,40 @@ loop-preserved g c =
       faults = omega (arith, c.loop.invariant.faults, c.put.ensures.faults);
     }
 
-pub returns-after-loop-clause-list : goal.returns-after-loop-clause-list
-returns-after-loop-clause-list g c =
+pub returns-after-loop : goal.returns-after-loop
+returns-after-loop g c =
     let files = g.F.Folder.files in
-    let before = moved g.F.Folder.tells_files c.args.ring.now.items c.args.ring.now.capacity c.loop.ring c.args.queue.now c.loop.queue (files c.args.folder.now) (files c.loop.folder) c.loop.counter c.loop.invariant.moving in
-    before.list
+    let items = c.args.ring.now.items in
+    let held = c.loop.invariant in
+    let before = moved g.F.Folder.tells_files items c.args.ring.now.capacity c.loop.ring c.args.queue.now c.loop.queue (files c.args.folder.now) (files c.loop.folder) c.loop.counter held.moving in
+    record {
+      within = omega (arith, left_over items c.args.ring.now.capacity c.loop.ring c.loop.counter held.moving.left);
+      ring = before.left;
+      all = none_left items c.args.ring.now.capacity c.loop.ring c.loop.counter held.moving.left (omega (arith, c.loop-test.false, held.end));
+      queue = before.longer;
+      none_now = before.none;
+      list = before.list;
+      stands = before.stands;
+      others = before.others;
+      faults = held.faults;
+      cause = tt;
+    }
 
-pub returns-in_default-clause-all : goal.returns-in_default-clause-all
-returns-in_default-clause-all g c = ring_empty c.loop.ring.items _ c.in_default.ensures refl
-
-pub returns-in_default-clause-list : goal.returns-in_default-clause-list
-returns-in_default-clause-list g c =
+pub returns-in_default : goal.returns-in_default
+returns-in_default g c =
     let files = g.F.Folder.files in
-    let before = moved g.F.Folder.tells_files c.args.ring.now.items c.args.ring.now.capacity c.loop.ring c.args.queue.now c.loop.queue (files c.args.folder.now) (files c.loop.folder) c.loop.counter c.loop.invariant.moving in
-    before.list
+    let items = c.args.ring.now.items in
+    let held = c.loop.invariant in
+    let before = moved g.F.Folder.tells_files items c.args.ring.now.capacity c.loop.ring c.args.queue.now c.loop.queue (files c.args.folder.now) (files c.loop.folder) c.loop.counter held.moving in
+    record {
+      within = omega (arith, left_over items c.args.ring.now.capacity c.loop.ring c.loop.counter held.moving.left);
+      ring = before.left;
+      all = ring_empty c.loop.ring.items _ c.in_default.ensures refl;
+      queue = before.longer;
+      none_now = before.none;
+      list = before.list;
+      stands = before.stands;
+      others = before.others;
+      faults = held.faults;
+      cause = tt;
+    }

@@ -1,7 +1,7 @@
 use Rattle.std.proofs.Common.{◌≡◌, ◌∙◌, ◌<◌, ◌^◌, ap, subst, sym}
 use Rattle.std.specs.Prelude.{OnErr, OnOk}
 use Rattle.floor_rooms.specs.declared.hall.Hall.{Hall}
-use Rattle.floor_opening.specs.Opened.{OpensRoom, OpensTo}
+use Rattle.floor_files.specs.Opened.{OpensRoom, OpensTo}
 use Rattle.broker_floor.specs.Held.{Held}
 use Rattle.broker_floor.proofs.sound.SoundHall.add.Goals as goal
 

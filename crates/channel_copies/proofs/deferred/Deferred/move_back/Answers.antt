@@ -3,11 +3,11 @@ use Rattle.due_heap.specs.Heap.{Entry}
 use Rattle.v2_frame.specs.declared.message.Message.{Message}
 use Rattle.backlog.specs.Seen.{FitsLimit}
 use Rattle.broker_history.specs.Channels.{AsOften}
-use Rattle.channel_copies.specs.Deferred.{Deferring, FirstWentBack, waiting_of}
+use Rattle.channel_copies.specs.Deferred.{Deferring, FirstWentBack, waiting_in, waiting_of}
 use Rattle.channel_copies.specs.Flights.{CostsCalls}
 use Rattle.channel_copies.specs.Putting.{around}
 use Rattle.channel_copies.proofs.Counts.{all-in}
-use Rattle.channel_copies.proofs.Heaps.{one_of_two, some_first, some_popped, if_some, on_some, popped_first, popped_leaves, popped_short, told_at, waits_again, taken_by}
+use Rattle.channel_copies.proofs.Heaps.{one_of_two, two_calls, fewer, some_first, some_popped, if_some, on_some, popped_first, popped_leaves, popped_short, told_at, waits_again, taken_by}
 use Rattle.channel_copies.proofs.deferred.Deferred.move_back.Goals as goal
 
 pub unwrap-due-requires : goal.unwrap-due-requires
@@ -54,3 +54,15 @@ returns-in-Fault-clause-moves g c =
       back = c.in-Fault.message;
       puts = c.in-Fault.ensures;
     }
+
+pub insert-requires : goal.insert-requires
+insert-requires g c = omega (arith, on_some c.unwrap-message.ensures c.pop_due.ensures.spare)
+
+pub returns-in-Fault-clause-spare : goal.returns-in-Fault-clause-spare
+returns-in-Fault-clause-spare g c = omega (arith, on_some c.unwrap-message.ensures c.pop_due.ensures.spare, c.insert.ensures.spare, ap (λ (v : Deferring). v.spare) c.self.view_is)
+
+pub returns-in-Fault-clause-steps : goal.returns-in-Fault-clause-steps
+returns-in-Fault-clause-steps g c =
+    let t = if_some _ c.unwrap-message.ensures c.pop_due.ensures.first in
+    subst (λ (v : Deferring). CostsCalls 2 (length v.waiting) c.args.steps.now c.insert.new.steps) c.self.view_is
+    (two_calls waiting_in c.self.inside.heap.entries c.pop_due.new.self.entries c.args.steps.now c.pop_due.new.steps c.insert.new.steps (fewer t.out) c.pop_due.ensures.steps c.insert.ensures.steps)

@@ -1,5 +1,5 @@
 use Rattle.std.specs.HashMap.{get}
-use Rattle.std.proofs.Common.{◌<◌, nat_eq, sym, ap, ◌∙◌, refl, subst, option_copied, length}
+use Rattle.std.proofs.Common.{◌<◌, nat_eq, sym, ap, ◌∙◌, refl, subst, option_copied, length, arith}
 use Rattle.std.specs.Cmp.Lexicographic.{pointwise}
 use Rattle.v2_frame.specs.declared.message.Message.{Message}
 use Rattle.backlog.specs.Seen.{FitsLimit}
@@ -9,7 +9,7 @@ use Rattle.channel_copies.specs.Putting.{around}
 use Rattle.channel_copies.proofs.Heaps.{one_of_two, two_calls, fewer, taken_by}
 use Rattle.channel_copies.specs.Index.{items_of}
 use Rattle.channel_copies.proofs.Counts.{on_present}
-use Rattle.channel_copies.proofs.Indexing.{counts_less, counts_again, taken_by_key, put_again, as_often_again, id_of_taken, fit_taken, has_key_of, is_some_of, copied_some, key_reaches, items_leave, none_left}
+use Rattle.channel_copies.proofs.Indexing.{counts_less, counts_again, taken_by_key, put_again, as_often_again, id_of_taken, fit_taken, has_key_of, is_some_of, copied_some, key_reaches, items_leave, none_left, has_one}
 use Rattle.channel_copies.proofs.flights.Flights.move_back.Goals as goal
 
 pub unwrap-key-requires : goal.unwrap-key-requires
@@ -74,3 +74,9 @@ pub returns-in-Fault-clause-steps : goal.returns-in-Fault-clause-steps
 returns-in-Fault-clause-steps g c =
     subst (λ (v : Flying). CostsCalls 2 (length v.flights) c.args.steps.now c.insert-key.new.steps) c.self.view_is
     (two_calls (λ e. e.item) c.self.inside.heap.entries c.remove-message.new.self.entries c.args.steps.now c.remove-message.new.steps c.insert-key.new.steps (fewer c.remove-message.ensures.one.1) c.remove-message.ensures.steps c.insert-key.ensures.steps)
+
+pub count_down-requires : goal.count_down-requires
+count_down-requires g c = record { some = has_one c.remove-message.ensures.one.1 c.self.invariant.counted }
+
+pub insert-key-requires : goal.insert-key-requires
+insert-key-requires g c = omega (arith, c.remove-message.ensures.spare)

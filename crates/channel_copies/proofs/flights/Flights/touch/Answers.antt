@@ -1,9 +1,10 @@
 use Rattle.std.specs.HashMap.{get}
-use Rattle.std.proofs.Common.{◌<◌, nat_eq, sym, ap, ◌∙◌, refl, subst, option_copied, arith}
+use Rattle.std.proofs.Common.{◌<◌, nat_eq, sym, ap, ◌∙◌, refl, subst, option_copied, length, arith}
 use Rattle.std.specs.Cmp.Lexicographic.{pointwise}
-use Rattle.channel_copies.specs.Flights.{Flying, Leaves, Prolongs, flights_of_id}
+use Rattle.channel_copies.specs.Flights.{CostsCalls, Flying, Leaves, Prolongs, flights_of_id}
 use Rattle.channel_copies.specs.Index.{items_of}
 use Rattle.channel_copies.proofs.Counts.{on_present}
+use Rattle.channel_copies.proofs.Heaps.{two_calls, fewer}
 use Rattle.channel_copies.proofs.Indexing.{counts_again, taken_by_key, put_again, id_of_taken, fit_taken, has_key_of, is_some_of, copied_some, key_reaches, items_leave, none_left}
 use Rattle.channel_copies.proofs.flights.Flights.touch.Goals as goal
 
@@ -40,3 +41,11 @@ returns-clause-prolongs g c =
       goes = items_leave r.one.1;
       comes = subst (λ n. Leaves (record c.remove-flight.result { due = n }) (items_of c.insert-key.new.self.entries) (items_of c.remove-flight.new.self.entries)) c.min-due.ensures (items_leave c.insert-key.ensures.one);
     })
+
+pub insert-key-requires : goal.insert-key-requires
+insert-key-requires g c = omega (arith, c.remove-flight.ensures.spare)
+
+pub returns-clause-steps : goal.returns-clause-steps
+returns-clause-steps g c =
+    subst (λ (v : Flying). CostsCalls 2 (length v.flights) c.args.steps.now c.insert-key.new.steps) c.self.view_is
+    (two_calls (λ e. e.item) c.self.inside.heap.entries c.remove-flight.new.self.entries c.args.steps.now c.remove-flight.new.steps c.insert-key.new.steps (fewer c.remove-flight.ensures.one.1) c.remove-flight.ensures.steps c.insert-key.ensures.steps)

@@ -1,8 +1,10 @@
 use Rattle.std.proofs.Common.{◌++◌, ◌∙◌, refl, sym, ap, subst}
 use Rattle.backlog.specs.Seen.{Seen as Backlog}
 use Rattle.backlog.specs.Lists.{DiskChanges, OnDisk, Stands}
+use Rattle.channel_core.specs.Deleting.{DeleteFinds, DeleteGone}
+use Rattle.channel_core.specs.declared.answers.DropChannel.TheVariants.{Done}
 use Rattle.channel_core.specs.Seen.{Seen}
-use Rattle.channel_core.proofs.Deleting.{kept_back, same_kept}
+use Rattle.channel_core.proofs.Deleting.{finds_kept, finds_nothing, gone_kept, gone_with, kept_back, same_kept}
 use Rattle.channel_core.proofs.Keeping.{nothing_lent, still_named, still_whole}
 use Rattle.channel_core.proofs.channel.Channel.delete.Goals as goal
 
@@ -33,3 +35,20 @@ returns-in-Fault-clause-others g c = λ told. subst (λ (v : Seen). DiskChanges 
 
 pub returns-in-Done-clause-others : goal.returns-in-Done-clause-others
 returns-in-Done-clause-others g c = λ told. subst (λ (v : Seen). DiskChanges v.backlog.queue (g.F.Folder.files c.args.folder.now) (g.F.Folder.files c.delete.new.folder)) c.self.view_is (c.delete.ensures.others told)
+
+pub returns-in-Fault-clause-found : goal.returns-in-Fault-clause-found
+returns-in-Fault-clause-found g c = λ told. finds_kept c.args.self.backlog.queue (g.F.Folder.files c.delete.new.folder) _
+
+pub returns-in-Fault-clause-gone : goal.returns-in-Fault-clause-gone
+returns-in-Fault-clause-gone g c = λ told stands. gone_kept c.args.self.backlog.queue (g.F.Folder.files c.delete.new.folder) (g.F.Folder.folder_faults c.args.folder.now) (g.F.Folder.folder_faults c.delete.new.folder) _
+
+pub returns-in-Done-clause-found : goal.returns-in-Done-clause-found
+returns-in-Done-clause-found g c = λ told.
+    subst (λ (v : Seen). DeleteFinds v.backlog.queue (g.F.Folder.files c.delete.new.folder) Done) c.self.view_is (finds_nothing c.self.inside.backlog.queue (g.F.Folder.files c.delete.new.folder) (c.in-Done.ensures.found told))
+
+pub returns-in-Done-clause-gone : goal.returns-in-Done-clause-gone
+returns-in-Done-clause-gone g c = λ told stands.
+    let files = g.F.Folder.files in
+    let count = g.F.Folder.folder_faults in
+    subst (λ (v : Seen). DeleteGone v.backlog.queue (files c.delete.new.folder) (count c.args.folder.now) (count c.delete.new.folder) Done) c.self.view_is
+    (gone_with c.self.inside.backlog.queue (files c.delete.new.folder) (count c.args.folder.now) (count c.delete.new.folder) (c.in-Done.ensures.gone told (subst (λ (v : Seen). Stands v.backlog.queue (files c.args.folder.now)) (sym c.self.view_is) stands)))

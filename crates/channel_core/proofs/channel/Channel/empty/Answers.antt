@@ -5,7 +5,7 @@ use Rattle.channel_copies.specs.Putting.{around}
 use Rattle.channel_core.specs.Seen.{Seen, queued_in}
 use Rattle.channel_core.proofs.Keeping.{keeps_of, nothing_lent, still_named, still_whole}
 use Rattle.channel_core.proofs.Storing.{was_emptied, was_not_emptied}
-use Rattle.channel_storing.proofs.Capacity.{empty_capacity}
+use Rattle.channel_copies.proofs.Capacity.{empty_capacity}
 use Rattle.channel_core.proofs.channel.Channel.empty.Goals as goal
 
 pub empty-requires : goal.empty-requires

@@ -4,7 +4,7 @@ use Rattle.channel_core.specs.Answers.{TellsDue}
 use Rattle.channel_core.specs.Costs.{MoveCosts}
 use Rattle.channel_core.specs.Seen.{channel_with, queued_in}
 use Rattle.channel_core.proofs.Dues.{costs_came_due, costs_timed_out, flies_there, waits_there}
-use Rattle.channel_storing.proofs.Wrote.{keeps_none}
+use Rattle.channel_copies.proofs.Wrote.{keeps_none}
 use Rattle.channel_core.proofs.channel.Channel.move_due.Goals as goal
 
 pub returns-in_default-clause-told : goal.returns-in_default-clause-told

@@ -7,7 +7,7 @@ use Rattle.channel_core.specs.Seen.{Seen}
 use Rattle.channel_core.proofs.Keeping.{costs_both, costs_flying, keeps_of, nothing_lent, put_named, still_whole}
 use Rattle.channel_core.proofs.Moving.{gave_back, was_deferred, flies_again}
 use Rattle.channel_core.proofs.Rows.{asked}
-use Rattle.channel_storing.proofs.Wrote.{keeps_put}
+use Rattle.channel_copies.proofs.Wrote.{keeps_none, keeps_put}
 use Rattle.channel_core.proofs.channel.Channel.requeue.Goals as goal
 
 pub take-flight-requires : goal.take-flight-requires
@@ -22,11 +22,26 @@ invariant_of-self g c =
     still_whole _ _ _ _ c.self.invariant c.self.invariant.named nothing (nothing_lent nothing c.self.invariant)
     (omega (arith, shorter c.take-flight.result c.self.inside.flights.flights c.take-flight.new.self.flights c.take-flight.ensures.leaves, c.self.invariant.room, c.put.ensures.spare))
 
-pub returns-then-delay-ne0-clause-row : goal.returns-then-delay-ne0-clause-row
-returns-then-delay-ne0-clause-row g c = λ told disk on.
-    let files = g.F.Folder.files in
-    was_deferred (files c.args.folder.now) disk c.take-flight.result c.self.view_is (ne_eqb c.args.delay 0 c.if-delay-ne0.true) c.requires.yours c.take-flight.ensures.id c.take-flight.ensures.leaves c.take-flight.ensures.none c.put.ensures.joins
-    (subst (λ (v : Seen). OnDisk v.backlog.queue (files c.args.folder.now) disk) (sym c.self.view_is) on) c.saturating_add-self-inside.ensures refl
+pub returns-then-delay-ne0 : goal.returns-then-delay-ne0
+returns-then-delay-ne0 g c = record {
+  row =
+      λ told disk on.
+      let files = g.F.Folder.files in
+      was_deferred (files c.args.folder.now) disk c.take-flight.result c.self.view_is (ne_eqb c.args.delay 0 c.if-delay-ne0.true) c.requires.yours c.take-flight.ensures.id c.take-flight.ensures.leaves c.take-flight.ensures.none c.put.ensures.joins
+      (subst (λ (v : Seen). OnDisk v.backlog.queue (files c.args.folder.now) disk) (sym c.self.view_is) on) c.saturating_add-self-inside.ensures refl;
+  rest = ap (λ (v : Seen). record v { requeue_count = c.saturating_add-self-inside.result; backlog = c.self.inside.backlog; flights = c.take-flight.new.self.flights; deferred = c.put.new.self.waiting; spare = c.take-flight.new.self.spare; deferred_spare = c.put.new.self.spare }) c.self.view_is;
+  disk =
+      let files = g.F.Folder.files c.args.folder.now in
+      let count = g.F.Folder.folder_faults c.args.folder.now in
+      let same = around c.self.inside.backlog files count in
+      keeps_of files count same c.self.view_is (keeps_none g.F.Folder.tells_files same);
+  cause = tt;
+  steps =
+      record {
+        at_once = λ none. absurd (c.if-delay-ne0.true none);
+        later = λ some. costs_both 1 1 c.args.steps.now c.take-flight.new.steps c.put.new.steps c.self.view_is c.take-flight.ensures.steps c.put.ensures.steps;
+      };
+}
 
 pub move_back-requires-clause-there : goal.move_back-requires-clause-there
 move_back-requires-clause-there g c = asked c.self.view_is c.requires.yours
@@ -46,51 +61,49 @@ invariant_of-self-in-Fault g c =
     let back = c.in-Fault.ensures.moves in
     still_whole _ _ _ _ c.self.invariant (put_named _ _ c.self.invariant.named back.puts) nothing back.puts.nothing (omega (arith, as_long c.self.inside.flights.flights c.move_back.new.self.flights back.often, c.self.invariant.room))
 
-pub returns-in-Done-clause-row : goal.returns-in-Done-clause-row
-returns-in-Done-clause-row g c = λ told disk on.
-    let files = g.F.Folder.files in
-    let count = g.F.Folder.folder_faults in
-    gave_back (files c.args.folder.now) (files c.move_back.new.folder) (count c.args.folder.now) (count c.move_back.new.folder) disk c.self.view_is c.self.invariant.named told c.if-delay-ne0.false c.requires.yours c.in-Done.ensures.moves
-    (subst (λ (v : Seen). OnDisk v.backlog.queue (files c.args.folder.now) disk) (sym c.self.view_is) on) c.saturating_add-self-inside-in-Done.ensures refl
-
-pub returns-in-Done-clause-disk : goal.returns-in-Done-clause-disk
-returns-in-Done-clause-disk g c =
-    let files = g.F.Folder.files in
-    let count = g.F.Folder.folder_faults in
-    let after = around c.move_back.new.backlog (files c.move_back.new.folder) (count c.move_back.new.folder) in
-    keeps_of (files c.args.folder.now) (count c.args.folder.now) after c.self.view_is (keeps_put c.in-Done.ensures.moves.answer (around c.self.inside.backlog (files c.args.folder.now) (count c.args.folder.now)) after c.in-Done.ensures.moves.puts)
-
-pub returns-in-Fault-clause-row : goal.returns-in-Fault-clause-row
-returns-in-Fault-clause-row g c = λ told disk on.
-    let files = g.F.Folder.files in
-    let count = g.F.Folder.folder_faults in
-    flies_again (files c.args.folder.now) (files c.move_back.new.folder) (count c.args.folder.now) (count c.move_back.new.folder) disk c.self.view_is told c.in-Fault.ensures.moves
-    (subst (λ (v : Seen). OnDisk v.backlog.queue (files c.args.folder.now) disk) (sym c.self.view_is) on) refl
-
-pub returns-in-Fault-clause-disk : goal.returns-in-Fault-clause-disk
-returns-in-Fault-clause-disk g c =
-    let files = g.F.Folder.files in
-    let count = g.F.Folder.folder_faults in
-    let after = around c.move_back.new.backlog (files c.move_back.new.folder) (count c.move_back.new.folder) in
-    keeps_of (files c.args.folder.now) (count c.args.folder.now) after c.self.view_is (keeps_put _ (around c.self.inside.backlog (files c.args.folder.now) (count c.args.folder.now)) after c.in-Fault.ensures.moves.puts)
-
-pub returns-in-Fault-clause-cause : goal.returns-in-Fault-clause-cause
-returns-in-Fault-clause-cause g c = (c.if-delay-ne0.false, c.in-Fault.ensures.moves.puts.cause)
-
-pub returns-then-delay-ne0-clause-steps : goal.returns-then-delay-ne0-clause-steps
-returns-then-delay-ne0-clause-steps g c = record {
-  at_once = λ none. absurd (c.if-delay-ne0.true none);
-  later = λ some. costs_both 1 1 c.args.steps.now c.take-flight.new.steps c.put.new.steps c.self.view_is c.take-flight.ensures.steps c.put.ensures.steps;
+pub returns-in-Done : goal.returns-in-Done
+returns-in-Done g c = record {
+  row =
+      λ told disk on.
+      let files = g.F.Folder.files in
+      let count = g.F.Folder.folder_faults in
+      gave_back (files c.args.folder.now) (files c.move_back.new.folder) (count c.args.folder.now) (count c.move_back.new.folder) disk c.self.view_is c.self.invariant.named told c.if-delay-ne0.false c.requires.yours c.in-Done.ensures.moves
+      (subst (λ (v : Seen). OnDisk v.backlog.queue (files c.args.folder.now) disk) (sym c.self.view_is) on) c.saturating_add-self-inside-in-Done.ensures refl;
+  rest = ap (λ (v : Seen). record v { requeue_count = c.saturating_add-self-inside-in-Done.result; backlog = c.move_back.new.backlog; flights = c.move_back.new.self.flights; deferred = c.self.inside.deferred.waiting; spare = c.move_back.new.self.spare; deferred_spare = c.self.inside.deferred.spare }) c.self.view_is;
+  disk =
+      let files = g.F.Folder.files in
+      let count = g.F.Folder.folder_faults in
+      let after = around c.move_back.new.backlog (files c.move_back.new.folder) (count c.move_back.new.folder) in
+      keeps_of (files c.args.folder.now) (count c.args.folder.now) after c.self.view_is (keeps_put c.in-Done.ensures.moves.answer (around c.self.inside.backlog (files c.args.folder.now) (count c.args.folder.now)) after c.in-Done.ensures.moves.puts);
+  cause = tt;
+  steps =
+      record {
+        at_once = λ none. costs_flying 2 c.args.steps.now c.move_back.new.steps c.self.view_is c.move_back.ensures.steps;
+        later = λ some. absurd (some c.if-delay-ne0.false);
+      };
 }
 
-pub returns-in-Done-clause-steps : goal.returns-in-Done-clause-steps
-returns-in-Done-clause-steps g c = record {
-  at_once = λ none. costs_flying 2 c.args.steps.now c.move_back.new.steps c.self.view_is c.move_back.ensures.steps;
-  later = λ some. absurd (some c.if-delay-ne0.false);
+pub returns-in-Fault : goal.returns-in-Fault
+returns-in-Fault g c = record {
+  row =
+      λ told disk on.
+      let files = g.F.Folder.files in
+      let count = g.F.Folder.folder_faults in
+      flies_again (files c.args.folder.now) (files c.move_back.new.folder) (count c.args.folder.now) (count c.move_back.new.folder) disk c.self.view_is told c.in-Fault.ensures.moves
+      (subst (λ (v : Seen). OnDisk v.backlog.queue (files c.args.folder.now) disk) (sym c.self.view_is) on) refl;
+  rest = ap (λ (v : Seen). record v { requeue_count = c.self.inside.requeue_count; backlog = c.move_back.new.backlog; flights = c.move_back.new.self.flights; deferred = c.self.inside.deferred.waiting; spare = c.move_back.new.self.spare; deferred_spare = c.self.inside.deferred.spare }) c.self.view_is;
+  disk =
+      let files = g.F.Folder.files in
+      let count = g.F.Folder.folder_faults in
+      let after = around c.move_back.new.backlog (files c.move_back.new.folder) (count c.move_back.new.folder) in
+      keeps_of (files c.args.folder.now) (count c.args.folder.now) after c.self.view_is (keeps_put _ (around c.self.inside.backlog (files c.args.folder.now) (count c.args.folder.now)) after c.in-Fault.ensures.moves.puts);
+  cause = (c.if-delay-ne0.false, c.in-Fault.ensures.moves.puts.cause);
+  steps =
+      record {
+        at_once = λ none. costs_flying 2 c.args.steps.now c.move_back.new.steps c.self.view_is c.move_back.ensures.steps;
+        later = λ some. absurd (some c.if-delay-ne0.false);
+      };
 }
 
-pub returns-in-Fault-clause-steps : goal.returns-in-Fault-clause-steps
-returns-in-Fault-clause-steps g c = record {
-  at_once = λ none. costs_flying 2 c.args.steps.now c.move_back.new.steps c.self.view_is c.move_back.ensures.steps;
-  later = λ some. absurd (some c.if-delay-ne0.false);
-}
+pub put-requires-clause-short : goal.put-requires-clause-short
+put-requires-clause-short g c = c.take-flight.ensures.short

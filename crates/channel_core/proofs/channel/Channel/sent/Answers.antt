@@ -5,7 +5,7 @@ use Rattle.channel_copies.specs.Putting.{around}
 use Rattle.channel_copies.proofs.Counts.{shorter}
 use Rattle.channel_core.specs.Seen.{Seen}
 use Rattle.channel_core.proofs.Keeping.{costs_flying, keeps_of, still_named, still_whole, to_send}
-use Rattle.channel_storing.proofs.Capacity.{settle_capacity}
+use Rattle.channel_copies.proofs.Capacity.{settle_capacity}
 use Rattle.channel_core.proofs.Rows.{sent_row}
 use Rattle.channel_core.proofs.channel.Channel.sent.Goals as goal
 

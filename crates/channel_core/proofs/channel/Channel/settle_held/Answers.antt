@@ -7,7 +7,7 @@ use Rattle.channel_core.specs.Drawn.{held_of}
 use Rattle.channel_core.specs.Seen.{Seen}
 use Rattle.channel_core.proofs.Drawings.{held_is, is_held}
 use Rattle.channel_core.proofs.Keeping.{costs_deferred, keeps_of, still_named, still_whole, to_hold}
-use Rattle.channel_storing.proofs.Capacity.{settle_capacity}
+use Rattle.channel_copies.proofs.Capacity.{settle_capacity}
 use Rattle.channel_core.proofs.Rows.{held_now}
 use Rattle.channel_core.proofs.channel.Channel.settle_held.Goals as goal
 

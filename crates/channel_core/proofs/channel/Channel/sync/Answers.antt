@@ -14,26 +14,20 @@ invariant_of-self g c =
     still_whole c.sync.new.self c.self.inside.flights c.self.inside.deferred c.self.inside.drawn c.self.invariant (still_named _ _ c.sync.new.self c.self.invariant.named c.sync.ensures.queue (ap (λ (b : Backlog). b.capacity) c.sync.ensures.rest))
     (ap (λ (v : Seen). v.drawn) c.self.view_is ∙ c.requires.nothing) c.sync.ensures.nothing_now c.self.invariant.room
 
-pub returns-clause-same : goal.returns-clause-same
-returns-clause-same g c = λ disk. ap (λ (b : Backlog). b.ring ++ disk) c.sync.ensures.rest ∙ ap (λ (v : Seen). v.backlog.ring ++ disk) c.self.view_is
-
-pub returns-clause-list : goal.returns-clause-list
-returns-clause-list g c = λ told disk on. c.sync.ensures.list told disk (subst (λ (v : Seen). OnDisk v.backlog.queue (g.F.Folder.files c.args.folder.now) disk) (sym c.self.view_is) on)
-
-pub returns-clause-found : goal.returns-clause-found
-returns-clause-found g c = λ told disk on stands.
-    let files = g.F.Folder.files c.args.folder.now in
-    c.sync.ensures.found told disk (subst (λ (v : Seen). OnDisk v.backlog.queue files disk) (sym c.self.view_is) on) (subst (λ (v : Seen). Stands v.backlog.queue files) (sym c.self.view_is) stands)
-
-pub returns-clause-seen : goal.returns-clause-seen
-returns-clause-seen g c = subst (λ (v : Seen). SyncSeen v.backlog.queue c.sync.new.self.queue c.sync.result) c.self.view_is c.sync.ensures.seen
-
-pub returns-clause-rest : goal.returns-clause-rest
-returns-clause-rest g c = queue_rest _ _ _ c.self.view_is c.sync.ensures.rest refl
-
-pub returns-clause-disk : goal.returns-clause-disk
-returns-clause-disk g c =
-    let files = g.F.Folder.files in
-    let count = g.F.Folder.folder_faults in
-    keeps_of (files c.args.folder.now) (count c.args.folder.now) (around c.sync.new.self (files c.sync.new.folder) (count c.sync.new.folder)) c.self.view_is
-    (record { queue = c.sync.ensures.queue; stands = c.sync.ensures.stands; others = c.sync.ensures.others; faults = c.sync.ensures.faults })
+pub returns : goal.returns
+returns g c = record {
+  same = λ disk. ap (λ (b : Backlog). b.ring ++ disk) c.sync.ensures.rest ∙ ap (λ (v : Seen). v.backlog.ring ++ disk) c.self.view_is;
+  list = λ told disk on. c.sync.ensures.list told disk (subst (λ (v : Seen). OnDisk v.backlog.queue (g.F.Folder.files c.args.folder.now) disk) (sym c.self.view_is) on);
+  found =
+      λ told disk on stands.
+      let files = g.F.Folder.files c.args.folder.now in
+      c.sync.ensures.found told disk (subst (λ (v : Seen). OnDisk v.backlog.queue files disk) (sym c.self.view_is) on) (subst (λ (v : Seen). Stands v.backlog.queue files) (sym c.self.view_is) stands);
+  seen = subst (λ (v : Seen). SyncSeen v.backlog.queue c.sync.new.self.queue c.sync.result) c.self.view_is c.sync.ensures.seen;
+  rest = queue_rest _ _ _ c.self.view_is c.sync.ensures.rest refl;
+  disk =
+      let files = g.F.Folder.files in
+      let count = g.F.Folder.folder_faults in
+      keeps_of (files c.args.folder.now) (count c.args.folder.now) (around c.sync.new.self (files c.sync.new.folder) (count c.sync.new.folder)) c.self.view_is
+      (record { queue = c.sync.ensures.queue; stands = c.sync.ensures.stands; others = c.sync.ensures.others; faults = c.sync.ensures.faults });
+  cause = c.sync.ensures.cause;
+}

@@ -1,4 +1,4 @@
-use Rattle.std.proofs.Common.{◌∙◌, ◌<◌, refl, sym, ap, subst, arith}
+use Rattle.std.proofs.Common.{true, ◌∙◌, ◌<◌, refl, sym, ap, subst, arith}
 use Rattle.backlog.specs.Lists.{OnDisk}
 use Rattle.channel_copies.specs.Flights.{flights_of_id}
 use Rattle.channel_copies.specs.Putting.{around}
@@ -7,7 +7,7 @@ use Rattle.channel_core.specs.Seen.{Seen, queued_in}
 use Rattle.channel_core.proofs.Dues.{flight_is_due, flight_told, timed_out_due}
 use Rattle.channel_core.proofs.Keeping.{costs_flying, keeps_of, nothing_lent, put_named, still_whole}
 use Rattle.channel_core.proofs.Moving.{flies_again, timed_out}
-use Rattle.channel_storing.proofs.Wrote.{keeps_put}
+use Rattle.channel_copies.proofs.Wrote.{keeps_put}
 use Rattle.channel_core.proofs.channel.Channel.time_out.Goals as goal
 
 pub move_back-requires-clause-there : goal.move_back-requires-clause-there
@@ -28,42 +28,43 @@ invariant_of-self-in-Fault g c =
     let back = c.in-Fault.ensures.moves in
     still_whole _ _ _ _ c.self.invariant (put_named _ _ c.self.invariant.named back.puts) nothing back.puts.nothing (omega (arith, as_long c.self.inside.flights.flights c.move_back.new.self.flights back.often, c.self.invariant.room))
 
-pub returns-in-Done-clause-row : goal.returns-in-Done-clause-row
-returns-in-Done-clause-row g c = λ told now due disk on.
-    let files = g.F.Folder.files in
-    let count = g.F.Folder.folder_faults in
-    timed_out (files c.args.folder.now) (files c.move_back.new.folder) (count c.args.folder.now) (count c.move_back.new.folder) disk c.self.view_is c.self.invariant.named told c.in-Done.ensures.moves
-    (timed_out_due now c.args.id c.self.view_is due c.in-Done.ensures.moves)
-    (subst (λ (v : Seen). OnDisk v.backlog.queue (files c.args.folder.now) disk) (sym c.self.view_is) on) c.saturating_add-self-inside.ensures refl
+pub returns-in-Done : goal.returns-in-Done
+returns-in-Done g c = record {
+  told = refl;
+  row =
+      λ told now due disk on.
+      let files = g.F.Folder.files in
+      let count = g.F.Folder.folder_faults in
+      timed_out (files c.args.folder.now) (files c.move_back.new.folder) (count c.args.folder.now) (count c.move_back.new.folder) disk c.self.view_is c.self.invariant.named told c.in-Done.ensures.moves
+      (timed_out_due now c.args.id c.self.view_is due c.in-Done.ensures.moves)
+      (subst (λ (v : Seen). OnDisk v.backlog.queue (files c.args.folder.now) disk) (sym c.self.view_is) on) c.saturating_add-self-inside.ensures refl;
+  rest = ap (λ (v : Seen). record v { timeout_count = c.saturating_add-self-inside.result; backlog = c.move_back.new.backlog; flights = c.move_back.new.self.flights; deferred = c.self.inside.deferred.waiting; spare = c.move_back.new.self.spare; deferred_spare = c.self.inside.deferred.spare }) c.self.view_is;
+  disk =
+      let files = g.F.Folder.files in
+      let count = g.F.Folder.folder_faults in
+      let after = around c.move_back.new.backlog (files c.move_back.new.folder) (count c.move_back.new.folder) in
+      keeps_of (files c.args.folder.now) (count c.args.folder.now) after c.self.view_is (keeps_put c.in-Done.ensures.moves.answer (around c.self.inside.backlog (files c.args.folder.now) (count c.args.folder.now)) after c.in-Done.ensures.moves.puts);
+  cause = tt;
+  steps = costs_flying 2 c.args.steps.now c.move_back.new.steps c.self.view_is c.move_back.ensures.steps;
+}
 
-pub returns-in-Done-clause-disk : goal.returns-in-Done-clause-disk
-returns-in-Done-clause-disk g c =
-    let files = g.F.Folder.files in
-    let count = g.F.Folder.folder_faults in
-    let after = around c.move_back.new.backlog (files c.move_back.new.folder) (count c.move_back.new.folder) in
-    keeps_of (files c.args.folder.now) (count c.args.folder.now) after c.self.view_is (keeps_put c.in-Done.ensures.moves.answer (around c.self.inside.backlog (files c.args.folder.now) (count c.args.folder.now)) after c.in-Done.ensures.moves.puts)
-
-pub returns-in-Fault-clause-row : goal.returns-in-Fault-clause-row
-returns-in-Fault-clause-row g c = λ told now due disk on.
-    let files = g.F.Folder.files in
-    let count = g.F.Folder.folder_faults in (
-      flight_is_due now c.args.id c.args.self.now (queued_in c.args.self.now disk) (flight_told now c.args.id c.args.self.now due),
-      flies_again (files c.args.folder.now) (files c.move_back.new.folder) (count c.args.folder.now) (count c.move_back.new.folder) disk c.self.view_is told c.in-Fault.ensures.moves
-          (subst (λ (v : Seen). OnDisk v.backlog.queue (files c.args.folder.now) disk) (sym c.self.view_is) on) refl,
-    )
-
-pub returns-in-Fault-clause-disk : goal.returns-in-Fault-clause-disk
-returns-in-Fault-clause-disk g c =
-    let files = g.F.Folder.files in
-    let count = g.F.Folder.folder_faults in
-    let after = around c.move_back.new.backlog (files c.move_back.new.folder) (count c.move_back.new.folder) in
-    keeps_of (files c.args.folder.now) (count c.args.folder.now) after c.self.view_is (keeps_put _ (around c.self.inside.backlog (files c.args.folder.now) (count c.args.folder.now)) after c.in-Fault.ensures.moves.puts)
-
-pub returns-in-Fault-clause-cause : goal.returns-in-Fault-clause-cause
-returns-in-Fault-clause-cause g c = c.in-Fault.ensures.moves.puts.cause
-
-pub returns-in-Done-clause-steps : goal.returns-in-Done-clause-steps
-returns-in-Done-clause-steps g c = costs_flying 2 c.args.steps.now c.move_back.new.steps c.self.view_is c.move_back.ensures.steps
-
-pub returns-in-Fault-clause-steps : goal.returns-in-Fault-clause-steps
-returns-in-Fault-clause-steps g c = costs_flying 2 c.args.steps.now c.move_back.new.steps c.self.view_is c.move_back.ensures.steps
+pub returns-in-Fault : goal.returns-in-Fault
+returns-in-Fault g c = record {
+  told = (true, refl);
+  row =
+      λ told now due disk on.
+      let files = g.F.Folder.files in
+      let count = g.F.Folder.folder_faults in (
+        flight_is_due now c.args.id c.args.self.now (queued_in c.args.self.now disk) (flight_told now c.args.id c.args.self.now due),
+        flies_again (files c.args.folder.now) (files c.move_back.new.folder) (count c.args.folder.now) (count c.move_back.new.folder) disk c.self.view_is told c.in-Fault.ensures.moves
+            (subst (λ (v : Seen). OnDisk v.backlog.queue (files c.args.folder.now) disk) (sym c.self.view_is) on) refl,
+      );
+  rest = ap (λ (v : Seen). record v { timeout_count = c.self.inside.timeout_count; backlog = c.move_back.new.backlog; flights = c.move_back.new.self.flights; deferred = c.self.inside.deferred.waiting; spare = c.move_back.new.self.spare; deferred_spare = c.self.inside.deferred.spare }) c.self.view_is;
+  disk =
+      let files = g.F.Folder.files in
+      let count = g.F.Folder.folder_faults in
+      let after = around c.move_back.new.backlog (files c.move_back.new.folder) (count c.move_back.new.folder) in
+      keeps_of (files c.args.folder.now) (count c.args.folder.now) after c.self.view_is (keeps_put _ (around c.self.inside.backlog (files c.args.folder.now) (count c.args.folder.now)) after c.in-Fault.ensures.moves.puts);
+  cause = c.in-Fault.ensures.moves.puts.cause;
+  steps = costs_flying 2 c.args.steps.now c.move_back.new.steps c.self.view_is c.move_back.ensures.steps;
+}

@@ -1,8 +1,11 @@
-use Rattle.std.proofs.Common.{arith, refl, sym, subst, ◌∙◌}
+use Rattle.std.proofs.Common.{◌≡◌, arith, refl, sym, subst, ◌∙◌, Some, IfSome}
 use Rattle.queue_image.specs.Between.{content}
-use Rattle.disk_queue.specs.Seen.{Seen}
-use Rattle.disk_queue.specs.Peeking.{HeadFinds}
+use Rattle.disk_queue.specs.Seen.{Seen, reading_at}
+use Rattle.disk_queue.specs.Parts.{IsSound}
+use Rattle.disk_queue.specs.Peeking.{HeadFinds, HeadEnds, FindCounts}
+use Rattle.disk_queue.specs.Reading.{Turns}
 use Rattle.disk_queue.specs.Reading.Turns.{stays}
+use Rattle.disk_queue.proofs.Sound.{head_later}
 use Rattle.disk_queue.proofs.Turning.{turn_more, turn_seen, finds_known, some_known}
 use Rattle.disk_queue.proofs.queue.Queue.find.Goals as goal
 
@@ -24,15 +27,45 @@ loop-self-preserved g c =
       faults = omega (arith, more, c.in-None.ensures.faults);
     }
 
-pub returns-in-Some-clause-finds : goal.returns-in-Some-clause-finds
-returns-in-Some-clause-finds g c = λ told.
-    let known = c.loop-self.invariant in
-    some_known c.args.self.now c.loop-self.self c.size_or_turn.new.self (g.F.Folder.files c.args.folder.now) (g.F.Folder.files c.loop-self.folder) _ known.seen c.in-Some.ensures.seen (known.same told) (c.in-Some.ensures.finds told)
-
-pub returns-clause-finds : goal.returns-clause-finds
-returns-clause-finds g c = λ told.
+pub returns-in-Some : goal.returns-in-Some
+returns-in-Some g c =
     let q = c.args.self.now in
     let known = c.loop-self.invariant in
+    let found = c.in-Some.ensures in
     let old = g.F.Folder.files c.args.folder.now in
-    subst (λ (x : Seen). HeadFinds (content old q.name) x.positions c.last_size.result) (sym c.last_size.ensures.seen)
-    (finds_known q c.loop-self.self old (g.F.Folder.files c.loop-self.folder) c.last_size.result known.seen (known.same told) (c.last_size.ensures.finds told))
+    let first = g.F.Folder.folder_faults c.args.folder.now in
+    let last = g.F.Folder.folder_faults c.size_or_turn.new.folder in
+    record {
+      seen = subst (λ (x : Seen). x ≡ reading_at q x.positions.read_file x.positions.read_at) (sym found.seen) known.seen;
+      sound = subst IsSound (sym found.seen) found.sound;
+      moves = λ told. subst (λ (x : Seen). Turns (content old q.name) q.positions x.positions) (sym found.seen) (known.moves told);
+      finds = λ told. some_known q c.loop-self.self c.size_or_turn.new.self old (g.F.Folder.files c.loop-self.folder) _ known.seen found.seen (known.same told) (found.finds told);
+      ends = subst (λ (x : Seen). HeadEnds x.positions.read_at c.in-Some.head) (sym found.seen) found.ends;
+      same = λ told name. found.same told name ∙ known.same told name;
+      faults = omega (arith, known.faults, found.faults);
+      cause = head_later first (g.F.Folder.folder_faults c.loop-self.folder) last (Some c.in-Some.head) known.faults found.cause;
+      exact = λ counts. subst (λ n. FindCounts n last (Some c.in-Some.head)) (known.exact counts) (found.exact counts);
+    }
+
+pub returns : goal.returns
+returns g c =
+    let q = c.args.self.now in
+    let known = c.loop-self.invariant in
+    let found = c.last_size.ensures in
+    let head = c.last_size.result in
+    let old = g.F.Folder.files c.args.folder.now in
+    let first = g.F.Folder.folder_faults c.args.folder.now in
+    let last = g.F.Folder.folder_faults c.last_size.new.folder in
+    record {
+      seen = subst (λ (x : Seen). x ≡ reading_at q x.positions.read_file x.positions.read_at) (sym found.seen) known.seen;
+      sound = subst IsSound (sym found.seen) found.sound;
+      moves = λ told. subst (λ (x : Seen). Turns (content old q.name) q.positions x.positions) (sym found.seen) (known.moves told);
+      finds = λ told.
+          subst (λ (x : Seen). HeadFinds (content old q.name) x.positions head) (sym found.seen)
+          (finds_known q c.loop-self.self old (g.F.Folder.files c.loop-self.folder) head known.seen (known.same told) (found.finds told));
+      ends = subst (λ (x : Seen). IfSome head (HeadEnds x.positions.read_at)) (sym found.seen) found.ends;
+      same = λ told name. found.same told name ∙ known.same told name;
+      faults = omega (arith, known.faults, found.faults);
+      cause = head_later first (g.F.Folder.folder_faults c.loop-self.folder) last head known.faults found.cause;
+      exact = λ counts. subst (λ n. FindCounts n last head) (known.exact counts) (found.exact counts);
+    }

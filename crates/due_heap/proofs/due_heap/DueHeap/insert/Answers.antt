@@ -41,92 +41,39 @@ invariant_of-self g c =
     rw (written c.self.inside.order.len c.attach.new.order c.self.inside.order.items o, written c.self.inside.places.len c.attach.new.places c.self.inside.places.items p, written c.self.inside.slots.len c.fill.new.slots c.self.inside.slots.items q)
     (insert_sound (record { due = c.args.due; number = c.self.inside.made; item = c.args.item }) c.deref_mut-2.ensures.value c.deref_mut-3.ensures.value c.deref_mut.ensures.value c.self.invariant room is d.matched d.heap d.attached c.fill.ensures refl c.saturating_add-self-inside.ensures)
 
-pub returns-clause-fresh : goal.returns-clause-fresh
-returns-clause-fresh g c =
-    let room = room_left c.self.inside.order.items c.self.inside.count c.args.self.now.spare (ap (λ (h : Heap g.row.T.Denot). h.spare) c.self.view_is) c.requires in
-    let old : listed 0 c.deref_mut.result.now ≡ c.args.self.now.entries = ap (listed 0) c.deref_mut.ensures.value ∙ ap (λ (h : Heap g.row.T.Denot). h.entries) c.self.view_is in
-    let free = insert_free refl refl c.deref_mut.ensures.value c.self.invariant room (free_slot c.self.inside.order.items room c.index.ensures) in
-    let h : Held g.row.T.Denot = record { due = c.args.due; number = c.self.inside.made; item = c.args.item } in
-    let k : Key = record { slot = c.index.result.now.slot; number = c.self.inside.made } in
-    ap (entry_of k) (sym old) ∙ fresh c.deref_mut.result.now c.index.result.now.slot h free k refl refl
-
-pub returns-clause-live : goal.returns-clause-live
-returns-clause-live g c =
-    let room = room_left c.self.inside.order.items c.self.inside.count c.args.self.now.spare (ap (λ (h : Heap g.row.T.Denot). h.spare) c.self.view_is) c.requires in
-    let old : listed 0 c.deref_mut.result.now ≡ c.args.self.now.entries = ap (listed 0) c.deref_mut.ensures.value ∙ ap (λ (h : Heap g.row.T.Denot). h.entries) c.self.view_is in
-    let free = insert_free refl refl c.deref_mut.ensures.value c.self.invariant room (free_slot c.self.inside.order.items room c.index.ensures) in
-    let h : Held g.row.T.Denot = record { due = c.args.due; number = c.self.inside.made; item = c.args.item } in
-    let k : Key = record { slot = c.index.result.now.slot; number = c.self.inside.made } in
-    let l = insert_range refl refl c.deref_mut.ensures.value c.self.invariant room (free_slot c.self.inside.order.items room c.index.ensures) in
-    let q : length c.fill.new.slots ≡ c.self.inside.slots.len = ap length c.fill.ensures ∙ (length-set _ _ _ ∙ c.deref_mut.ensures.len) in
-    rw (written c.self.inside.slots.len c.fill.new.slots c.self.inside.slots.items q, c.fill.ensures)
-    (live c.deref_mut.result.now c.index.result.now.slot h free k refl refl l)
-
-pub returns-clause-rest : goal.returns-clause-rest
-returns-clause-rest g c =
-    let room = room_left c.self.inside.order.items c.self.inside.count c.args.self.now.spare (ap (λ (h : Heap g.row.T.Denot). h.spare) c.self.view_is) c.requires in
-    let old : listed 0 c.deref_mut.result.now ≡ c.args.self.now.entries = ap (listed 0) c.deref_mut.ensures.value ∙ ap (λ (h : Heap g.row.T.Denot). h.entries) c.self.view_is in
-    let free = insert_free refl refl c.deref_mut.ensures.value c.self.invariant room (free_slot c.self.inside.order.items room c.index.ensures) in
-    let h : Held g.row.T.Denot = record { due = c.args.due; number = c.self.inside.made; item = c.args.item } in
-    let k : Key = record { slot = c.index.result.now.slot; number = c.self.inside.made } in
-    let l = insert_range refl refl c.deref_mut.ensures.value c.self.invariant room (free_slot c.self.inside.order.items room c.index.ensures) in
-    let q : length c.fill.new.slots ≡ c.self.inside.slots.len = ap length c.fill.ensures ∙ (length-set _ _ _ ∙ c.deref_mut.ensures.len) in
-    rw (written c.self.inside.slots.len c.fill.new.slots c.self.inside.slots.items q, c.fill.ensures)
-    (others c.deref_mut.result.now c.index.result.now.slot h free k refl refl l ∙ old)
-
-pub returns-clause-one : goal.returns-clause-one
-returns-clause-one g c =
-    let room = room_left c.self.inside.order.items c.self.inside.count c.args.self.now.spare (ap (λ (h : Heap g.row.T.Denot). h.spare) c.self.view_is) c.requires in
-    let old : listed 0 c.deref_mut.result.now ≡ c.args.self.now.entries = ap (listed 0) c.deref_mut.ensures.value ∙ ap (λ (h : Heap g.row.T.Denot). h.entries) c.self.view_is in
-    let free = insert_free refl refl c.deref_mut.ensures.value c.self.invariant room (free_slot c.self.inside.order.items room c.index.ensures) in
-    let h : Held g.row.T.Denot = record { due = c.args.due; number = c.self.inside.made; item = c.args.item } in
-    let k : Key = record { slot = c.index.result.now.slot; number = c.self.inside.made } in
-    let l = insert_range refl refl c.deref_mut.ensures.value c.self.invariant room (free_slot c.self.inside.order.items room c.index.ensures) in
-    let q : length c.fill.new.slots ≡ c.self.inside.slots.len = ap length c.fill.ensures ∙ (length-set _ _ _ ∙ c.deref_mut.ensures.len) in
-    rw (written c.self.inside.slots.len c.fill.new.slots c.self.inside.slots.items q, c.fill.ensures)
-    (put_in c.deref_mut.result.now c.index.result.now.slot h free k refl refl l c.args.self.now.entries old)
-
-pub returns-clause-others : goal.returns-clause-others
-returns-clause-others g c other u =
-    let room = room_left c.self.inside.order.items c.self.inside.count c.args.self.now.spare (ap (λ (h : Heap g.row.T.Denot). h.spare) c.self.view_is) c.requires in
-    let old : listed 0 c.deref_mut.result.now ≡ c.args.self.now.entries = ap (listed 0) c.deref_mut.ensures.value ∙ ap (λ (h : Heap g.row.T.Denot). h.entries) c.self.view_is in
-    let free = insert_free refl refl c.deref_mut.ensures.value c.self.invariant room (free_slot c.self.inside.order.items room c.index.ensures) in
-    let h : Held g.row.T.Denot = record { due = c.args.due; number = c.self.inside.made; item = c.args.item } in
-    let k : Key = record { slot = c.index.result.now.slot; number = c.self.inside.made } in
-    let l = insert_range refl refl c.deref_mut.ensures.value c.self.invariant room (free_slot c.self.inside.order.items room c.index.ensures) in
-    let q : length c.fill.new.slots ≡ c.self.inside.slots.len = ap length c.fill.ensures ∙ (length-set _ _ _ ∙ c.deref_mut.ensures.len) in
-    rw (written c.self.inside.slots.len c.fill.new.slots c.self.inside.slots.items q, c.fill.ensures)
-    (rest_stays c.deref_mut.result.now c.index.result.now.slot h free k refl refl l c.args.self.now.entries old other u)
-
-pub returns-clause-last : goal.returns-clause-last
-returns-clause-last g c m =
-    let room = room_left c.self.inside.order.items c.self.inside.count c.args.self.now.spare (ap (λ (h : Heap g.row.T.Denot). h.spare) c.self.view_is) c.requires in
-    let old : listed 0 c.deref_mut.result.now ≡ c.args.self.now.entries = ap (listed 0) c.deref_mut.ensures.value ∙ ap (λ (h : Heap g.row.T.Denot). h.entries) c.self.view_is in
-    let free = insert_free refl refl c.deref_mut.ensures.value c.self.invariant room (free_slot c.self.inside.order.items room c.index.ensures) in
-    let h : Held g.row.T.Denot = record { due = c.args.due; number = c.self.inside.made; item = c.args.item } in
-    let k : Key = record { slot = c.index.result.now.slot; number = c.self.inside.made } in
-    let l = insert_range refl refl c.deref_mut.ensures.value c.self.invariant room (free_slot c.self.inside.order.items room c.index.ensures) in
-    let q : length c.fill.new.slots ≡ c.self.inside.slots.len = ap length c.fill.ensures ∙ (length-set _ _ _ ∙ c.deref_mut.ensures.len) in
-    rw (written c.self.inside.slots.len c.fill.new.slots c.self.inside.slots.items q, c.fill.ensures)
-    (goes_last c.deref_mut.result.now c.index.result.now.slot h free k refl refl l (subst (AllBelow c.self.inside.made) (sym c.deref_mut.ensures.value) (all_below c.self.invariant (omega (arith, m, ap (λ (h : Heap g.row.T.Denot). h.made) c.self.view_is)))) ∙ ap (λ es. es ++ entry_at c.index.result.now.slot h ∷ []) old)
-
-pub returns-clause-steps : goal.returns-clause-steps
-returns-clause-steps g c d h =
-    let n : length c.args.self.now.entries ≡ c.self.inside.count = sym (ap (λ (h : Heap g.row.T.Denot). length h.entries) c.self.view_is) ∙ c.self.invariant.counted in
-    c.attach.ensures.steps d (omega arith)
-
 pub attach-requires-clause-in_range : goal.attach-requires-clause-in_range
 attach-requires-clause-in_range g c =
     rw c.deref_mut-2.ensures.value (room_left c.self.inside.order.items c.self.inside.count c.args.self.now.spare (ap (λ (h : Heap g.row.T.Denot). h.spare) c.self.view_is) c.requires)
 
-pub returns-clause-number : goal.returns-clause-number
-returns-clause-number g c = ap (λ (h : Heap g.row.T.Denot). h.made) c.self.view_is
-
-pub returns-clause-made : goal.returns-clause-made
-returns-clause-made g c = c.saturating_add-self-inside.ensures ∙ ap (λ (h : Heap g.row.T.Denot). min (h.made + 1) (2 ^ 64 - 1)) c.self.view_is
-
-pub returns-clause-spare : goal.returns-clause-spare
-returns-clause-spare g c =
+pub returns : goal.returns
+returns g c =
+    let now : Heap g.row.T.Denot = c.args.self.now in
+    let room = room_left c.self.inside.order.items c.self.inside.count now.spare (ap (λ (h : Heap g.row.T.Denot). h.spare) c.self.view_is) c.requires in
+    let old : listed 0 c.deref_mut.result.now ≡ now.entries = ap (listed 0) c.deref_mut.ensures.value ∙ ap (λ (h : Heap g.row.T.Denot). h.entries) c.self.view_is in
+    let place = free_slot c.self.inside.order.items room c.index.ensures in
+    let free = insert_free refl refl c.deref_mut.ensures.value c.self.invariant room place in
+    let l = insert_range refl refl c.deref_mut.ensures.value c.self.invariant room place in
+    let h : Held g.row.T.Denot = record { due = c.args.due; number = c.self.inside.made; item = c.args.item } in
+    let k : Key = record { slot = c.index.result.now.slot; number = c.self.inside.made } in
+    let slots = c.deref_mut.result.now in
+    let slot = c.index.result.now.slot in
+    let q : length c.fill.new.slots ≡ c.self.inside.slots.len = ap length c.fill.ensures ∙ (length-set _ _ _ ∙ c.deref_mut.ensures.len) in
+    let filled = written c.self.inside.slots.len c.fill.new.slots c.self.inside.slots.items q in
     let long : length c.attach.new.order ≡ c.self.inside.order.len = c.attach.ensures.attached.same_length ∙ c.deref_mut-2.ensures.len in
     let same : length c.attach.new.order ≡ length c.self.inside.order.items = c.attach.ensures.attached.same_length ∙ ap length c.deref_mut-2.ensures.value in
-    rw (written c.self.inside.order.len c.attach.new.order c.self.inside.order.items long) (omega (arith, same, ap (λ (h : Heap g.row.T.Denot). h.spare) c.self.view_is))
+    record {
+      number = ap (λ (h : Heap g.row.T.Denot). h.made) c.self.view_is;
+      made = c.saturating_add-self-inside.ensures ∙ ap (λ (h : Heap g.row.T.Denot). min (h.made + 1) (2 ^ 64 - 1)) c.self.view_is;
+      fresh = ap (entry_of k) (sym old) ∙ fresh slots slot h free k refl refl;
+      live = rw (filled, c.fill.ensures) (live slots slot h free k refl refl l);
+      rest = rw (filled, c.fill.ensures) (others slots slot h free k refl refl l ∙ old);
+      one = rw (filled, c.fill.ensures) (put_in slots slot h free k refl refl l now.entries old);
+      others = λ other u. rw (filled, c.fill.ensures) (rest_stays slots slot h free k refl refl l now.entries old other u);
+      last = λ m.
+          rw (filled, c.fill.ensures)
+          (goes_last slots slot h free k refl refl l (subst (AllBelow c.self.inside.made) (sym c.deref_mut.ensures.value) (all_below c.self.invariant (omega (arith, m, ap (λ (h : Heap g.row.T.Denot). h.made) c.self.view_is)))) ∙ ap (λ es. es ++ entry_at slot h ∷ []) old);
+      spare = rw (written c.self.inside.order.len c.attach.new.order c.self.inside.order.items long) (omega (arith, same, ap (λ (h : Heap g.row.T.Denot). h.spare) c.self.view_is));
+      steps = λ d few.
+          let n : length now.entries ≡ c.self.inside.count = sym (ap (λ (h : Heap g.row.T.Denot). length h.entries) c.self.view_is) ∙ c.self.invariant.counted in
+          c.attach.ensures.steps d (omega arith);
+    }

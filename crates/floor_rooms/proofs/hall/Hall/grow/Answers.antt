@@ -1,6 +1,7 @@
-use Rattle.std.proofs.Common.{ap}
+use Rattle.std.proofs.Common.{◌≡◌, refl, ap}
 use Rattle.floor_rooms.specs.declared.hall.Hall.{Hall}
-use Rattle.floor_rooms.proofs.Growing.{added_stall_sound, added_stall_stands, else_both, else_spaced, reserved_place, reserved_stands_at}
+use Rattle.floor_rooms.specs.Standing.{Carries}
+use Rattle.floor_rooms.proofs.Growing.{added_stall_sound, added_stall_stands, else_both, else_spaced, on_error, reserved_place, reserved_stands_at}
 use Rattle.floor_rooms.proofs.Dating.{keeps_reserved, since_kept}
 use Rattle.floor_rooms.proofs.Naming.{names_kept}
 use Rattle.floor_rooms.proofs.Spacing.{range_spaced, ranges_spaced, stall_called, stall_spaced}
@@ -86,3 +87,15 @@ returns-in_err-reserve_stall-clause-sound c = c.reserve_stall.ensures.sound c.re
 
 pub returns-in_err-stall-clause-sound : goal.returns-in_err-stall-clause-sound
 returns-in_err-stall-clause-sound c = c.reserve_stall.ensures.sound c.requires.sound
+
+pub returns-in_err-reserve_stall-clause-stays : goal.returns-in_err-reserve_stall-clause-stays
+returns-in_err-reserve_stall-clause-stays c = λ files. on_error c.from_residual.result (Carries c.args.self.now files c.reserve_stall.new.self files (λ s t. t ≡ s)) (λ s holds. (s, refl, c.reserve_stall.ensures.stands files s holds))
+
+pub returns-in_err-stall-clause-stays : goal.returns-in_err-stall-clause-stays
+returns-in_err-stall-clause-stays c = λ files. on_error c.from_residual-in_err-stall.result (Carries c.args.self.now files c.reserve_stall.new.self files (λ s t. t ≡ s)) (λ s holds. (s, refl, c.reserve_stall.ensures.stands files s holds))
+
+pub add_stall-requires-clause-space : goal.add_stall-requires-clause-space
+add_stall-requires-clause-space c = c.in_ok-reserve_stall.ensures.space
+
+pub add_stall-requires-clause-list : goal.add_stall-requires-clause-list
+add_stall-requires-clause-list c = c.in_ok-reserve_stall.ensures.list

@@ -1,12 +1,13 @@
-use Rattle.std.proofs.Common.{◌≡◌, List, [], None, ◌∙◌, ap, sym, subst}
+use Rattle.std.proofs.Common.{◌≡◌, List, [], None, refl, ◌∙◌, ap, sym, subst}
 use Rattle.std.specs.List.{All}
 use Rattle.std.proofs.lemmas.List.Elements.{All-cons, All-nil}
 use Rattle.floor_rooms.specs.declared.hall.Hall.{Hall}
+use Rattle.floor_rooms.specs.Standing.{Carries}
 use Rattle.floor_rooms.specs.declared.stall.Stall.{Stall}
 use Rattle.floor_rooms.specs.declared.room.Room.{Room}
 use Rattle.floor_rooms.specs.Rooms.{room_in, topic_name}
 use Rattle.floor_rooms.proofs.Placing.{none_belonging}
-use Rattle.floor_rooms.proofs.Growing.{else_added, else_put, else_spaced, with_sound, with_stands}
+use Rattle.floor_rooms.proofs.Growing.{else_added, else_put, else_spaced, on_error, with_sound, with_stands}
 use Rattle.floor_rooms.proofs.Dating.{keeps_equal, since_kept}
 use Rattle.floor_rooms.proofs.Naming.{names_kept}
 use Rattle.floor_rooms.proofs.Spacing.{place_spaced, ranges_spaced, room_called, stall_called}
@@ -91,3 +92,12 @@ returns-in_err-reserve_room-clause-sound c = c.reserve_room.ensures.sound c.requ
 
 pub returns-in_err-room-clause-sound : goal.returns-in_err-room-clause-sound
 returns-in_err-room-clause-sound c = c.reserve_room.ensures.sound c.requires.sound
+
+pub returns-in_err-reserve_room-clause-stays : goal.returns-in_err-reserve_room-clause-stays
+returns-in_err-reserve_room-clause-stays c = λ files. on_error c.from_residual.result (Carries c.args.self.now files c.reserve_room.new.self files (λ s t. t ≡ s)) (λ s holds. (s, refl, c.reserve_room.ensures.stands files s holds))
+
+pub returns-in_err-room-clause-stays : goal.returns-in_err-room-clause-stays
+returns-in_err-room-clause-stays c = λ files. on_error c.from_residual-in_err-room.result (Carries c.args.self.now files c.reserve_room.new.self files (λ s t. t ≡ s)) (λ s holds. (s, refl, c.reserve_room.ensures.stands files s holds))
+
+pub add_room-requires-clause-space : goal.add_room-requires-clause-space
+add_room-requires-clause-space c = c.in_ok-reserve_room.ensures.space

@@ -2,12 +2,13 @@ use Rattle.std.proofs.Common.{◌≡◌, None, refl, ap, sym, subst}
 use Rattle.std.specs.List.{All}
 use Rattle.std.proofs.lemmas.List.Elements.{All-nil}
 use Rattle.floor_rooms.specs.declared.hall.Hall.{Hall}
+use Rattle.floor_rooms.specs.Standing.{Carries}
 use Rattle.floor_rooms.specs.declared.stall.Stall.{Stall}
 use Rattle.floor_rooms.specs.Rooms.{topic_name}
 use Rattle.floor_rooms.proofs.Placing.{there_standing}
 use Rattle.floor_rooms.proofs.Forming.{added_made, added_sound, added_stands, added_there, fresh_before, makes_there, there_stands}
 use Rattle.floor_rooms.proofs.Dating.{keeps_equal, since_kept}
-use Rattle.floor_rooms.proofs.Growing.{else_put, else_spaced}
+use Rattle.floor_rooms.proofs.Growing.{else_put, else_spaced, on_error}
 use Rattle.floor_rooms.proofs.Naming.{names_kept}
 use Rattle.floor_rooms.proofs.Spacing.{place_spaced, room_called}
 use Rattle.floor_rooms.proofs.Coming.{came_names, came_since}
@@ -116,3 +117,12 @@ returns-in_err-room-in-Err-clause-sound c = c.reserve_room.ensures.sound c.requi
 
 pub returns-in_err-room-in-Err-clause-pending : goal.returns-in_err-room-in-Err-clause-pending
 returns-in_err-room-in-Err-clause-pending c = c.reserve_room.ensures.pending
+
+pub returns-in_err-reserve_room-in-Err-clause-stays : goal.returns-in_err-reserve_room-in-Err-clause-stays
+returns-in_err-reserve_room-in-Err-clause-stays c = λ files. on_error c.from_residual.result (Carries c.args.self.now files c.reserve_room.new.self files (λ s t. t ≡ s)) (λ s holds. (s, refl, c.reserve_room.ensures.stands files s holds))
+
+pub returns-in_err-room-in-Err-clause-stays : goal.returns-in_err-room-in-Err-clause-stays
+returns-in_err-room-in-Err-clause-stays c = λ files. on_error c.from_residual-in_err-room-in-Err.result (Carries c.args.self.now files c.reserve_room.new.self files (λ s t. t ≡ s)) (λ s holds. (s, refl, c.reserve_room.ensures.stands files s holds))
+
+pub add_room-requires-clause-space : goal.add_room-requires-clause-space
+add_room-requires-clause-space c = c.in_ok-reserve_room-in-Err.ensures.space

@@ -1,4 +1,4 @@
-use Rattle.std.proofs.Common.{◌≡◌, ◌++◌, [], ◌∷◌, List, OnOk, codes, subst}
+use Rattle.std.proofs.Common.{◌≡◌, ◌++◌, [], ◌∷◌, List, OnOk, codes, subst, ◌∙◌}
 use Rattle.json.specs.Token.{Token, begin_object, end_object, key, string, boolean}
 use Rattle.http_stats.specs.Tokens.{client_tokens, channel_tokens, count_tokens, list_tokens}
 use Rattle.http_stats.proofs.Appending.{all_appended}
@@ -35,3 +35,39 @@ returns-clause-ok c =
     ∷ count_tokens (codes "timeout_count") self.timeout_count
     ∷ (end_object ∷ []) ∷ [])) in
     subst (λ (tokens : List Token). OnOk c.end_object.result (c.end_object.new.self.tokens ≡ tokens)) is c.end_object.ensures.ok
+
+pub returns-in_err-begin_object-clause-before : goal.returns-in_err-begin_object-clause-before
+returns-in_err-begin_object-clause-before c = c.begin_object.ensures.room.0
+
+pub returns-in_err-put_depth-clause-before : goal.returns-in_err-put_depth-clause-before
+returns-in_err-put_depth-clause-before c = c.put_depth.ensures.before ∙ c.begin_object.ensures.room.0
+
+pub returns-in_err-put_name-clause-before : goal.returns-in_err-put_name-clause-before
+returns-in_err-put_name-clause-before c = c.put_name.ensures.before ∙ c.put_depth.ensures.before ∙ c.begin_object.ensures.room.0
+
+pub returns-in_err-put_list-clause-before : goal.returns-in_err-put_list-clause-before
+returns-in_err-put_list-clause-before c = c.put_list.ensures.before ∙ c.put_name.ensures.before ∙ c.put_depth.ensures.before ∙ c.begin_object.ensures.room.0
+
+pub returns-in_err-put_count-clause-before : goal.returns-in_err-put_count-clause-before
+returns-in_err-put_count-clause-before c = c.put_count.ensures.before ∙ c.put_list.ensures.before ∙ c.put_name.ensures.before ∙ c.put_depth.ensures.before ∙ c.begin_object.ensures.room.0
+
+pub returns-in_err-put_depth-2-clause-before : goal.returns-in_err-put_depth-2-clause-before
+returns-in_err-put_depth-2-clause-before c = c.put_depth-2.ensures.before ∙ c.put_count.ensures.before ∙ c.put_list.ensures.before ∙ c.put_name.ensures.before ∙ c.put_depth.ensures.before ∙ c.begin_object.ensures.room.0
+
+pub returns-in_err-put_count-2-clause-before : goal.returns-in_err-put_count-2-clause-before
+returns-in_err-put_count-2-clause-before c = c.put_count-2.ensures.before ∙ c.put_depth-2.ensures.before ∙ c.put_count.ensures.before ∙ c.put_list.ensures.before ∙ c.put_name.ensures.before ∙ c.put_depth.ensures.before ∙ c.begin_object.ensures.room.0
+
+pub returns-in_err-put_count-3-clause-before : goal.returns-in_err-put_count-3-clause-before
+returns-in_err-put_count-3-clause-before c = c.put_count-3.ensures.before ∙ c.put_count-2.ensures.before ∙ c.put_depth-2.ensures.before ∙ c.put_count.ensures.before ∙ c.put_list.ensures.before ∙ c.put_name.ensures.before ∙ c.put_depth.ensures.before ∙ c.begin_object.ensures.room.0
+
+pub returns-in_err-put_flag-clause-before : goal.returns-in_err-put_flag-clause-before
+returns-in_err-put_flag-clause-before c = c.put_flag.ensures.before ∙ c.put_count-3.ensures.before ∙ c.put_count-2.ensures.before ∙ c.put_depth-2.ensures.before ∙ c.put_count.ensures.before ∙ c.put_list.ensures.before ∙ c.put_name.ensures.before ∙ c.put_depth.ensures.before ∙ c.begin_object.ensures.room.0
+
+pub returns-in_err-put_count-4-clause-before : goal.returns-in_err-put_count-4-clause-before
+returns-in_err-put_count-4-clause-before c = c.put_count-4.ensures.before ∙ c.put_flag.ensures.before ∙ c.put_count-3.ensures.before ∙ c.put_count-2.ensures.before ∙ c.put_depth-2.ensures.before ∙ c.put_count.ensures.before ∙ c.put_list.ensures.before ∙ c.put_name.ensures.before ∙ c.put_depth.ensures.before ∙ c.begin_object.ensures.room.0
+
+pub returns-in_err-put_count-5-clause-before : goal.returns-in_err-put_count-5-clause-before
+returns-in_err-put_count-5-clause-before c = c.put_count-5.ensures.before ∙ c.put_count-4.ensures.before ∙ c.put_flag.ensures.before ∙ c.put_count-3.ensures.before ∙ c.put_count-2.ensures.before ∙ c.put_depth-2.ensures.before ∙ c.put_count.ensures.before ∙ c.put_list.ensures.before ∙ c.put_name.ensures.before ∙ c.put_depth.ensures.before ∙ c.begin_object.ensures.room.0
+
+pub returns-clause-before : goal.returns-clause-before
+returns-clause-before c = c.end_object.ensures.room.0 ∙ c.put_count-5.ensures.before ∙ c.put_count-4.ensures.before ∙ c.put_flag.ensures.before ∙ c.put_count-3.ensures.before ∙ c.put_count-2.ensures.before ∙ c.put_depth-2.ensures.before ∙ c.put_count.ensures.before ∙ c.put_list.ensures.before ∙ c.put_name.ensures.before ∙ c.put_depth.ensures.before ∙ c.begin_object.ensures.room.0

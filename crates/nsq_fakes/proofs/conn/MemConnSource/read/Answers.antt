@@ -1,7 +1,12 @@
-use Rattle.std.proofs.Common.{ℕ, true, refl, sym, ◌∙◌, subst, inl}
-use Rattle.std.proofs.lemmas.Bool.{false≢true}
+use Rattle.std.proofs.Common.{◌≤◌, ◌++◌, ◌∷◌, [], ℕ, List, true, length, take, refl, ap, sym, ◌∙◌, subst, inl, inr, rules, arith}
+use Rattle.std.proofs.lemmas.Bool.{false≢true, eqb-true}
+use Rattle.std.proofs.lemmas.List.{nil_from_length}
 use Rattle.std.proofs.Math.Nat.{le_of_eq}
 use Rattle.nsq_outside.specs.Causes.{Rose, CountsFault}
+use Rattle.nsq_fakes.specs.MemConns.{pieces_of}
+use Rattle.nsq_fakes.specs.Scripts.{to_come, rest_of}
+use Rattle.nsq_fakes.proofs.PassedBytes.{piece_read, rest_kept}
+use Rattle.nsq_fakes.proofs.Results.{from_ok}
 use Rattle.nsq_fakes.proofs.conn.MemConnSource.read.Goals as goal
 
 pub returns-then-self : goal.returns-then-self
@@ -38,62 +43,88 @@ returns-then-next_fails g c = record {
   writes = refl;
 }
 
-pub returns-in_default-clause-told : goal.returns-in_default-clause-told
-returns-in_default-clause-told g c = (refl, c.pass_mark.ensures.bytes)
+pub returns-in_default : goal.returns-in_default
+returns-in_default g c = record {
+  amount = tt;
+  told = (refl, c.pass_mark.ensures.bytes);
+  buffer = refl;
+  end = (c.if-self.false, c.if-self.false);
+  written = refl;
+  write_faults = le_of_eq refl;
+  faults = c.next_fails.ensures.faults;
+  cause = tt;
+  counted = c.if-next_fails.ensures.fault;
+  calls = λ _. (c.next_fails.ensures.counted, λ failing. absurd (false≢true (c.if-next_fails.ensures.failing.1 failing)));
+  over = λ ended. absurd (false≢true (sym c.if-self.false ∙ ended));
+  script = (c.in_default.ensures.mark, c.pass_mark.ensures.passed);
+  writes = refl;
+}
 
-pub returns-in_default-clause-end : goal.returns-in_default-clause-end
-returns-in_default-clause-end g c = (c.if-self.false, c.if-self.false)
+pub returns-then-is_empty : goal.returns-then-is_empty
+returns-then-is_empty g c = record {
+  amount = tt;
+  told = (refl, refl, c.in-Some.ensures.end (eqb-true _ _ (sym c.if-is_empty.ensures)));
+  buffer = refl;
+  end = refl;
+  written = refl;
+  write_faults = le_of_eq refl;
+  faults = c.next_fails.ensures.faults;
+  cause = tt;
+  counted = c.if-next_fails.ensures.fault;
+  calls = λ _. (c.next_fails.ensures.counted, λ failing. absurd (false≢true (c.if-next_fails.ensures.failing.1 failing)));
+  over = λ ended. absurd (false≢true (sym c.if-self.false ∙ ended));
+  script = (refl, inr (sym c.in-Some.ensures.rest ∙ nil_from_length c.in-Some.rest.now (eqb-true _ _ (sym c.if-is_empty.ensures)), c.in-Some.ensures.no_mark));
+  writes = refl;
+}
 
-pub returns-in_default-clause-faults : goal.returns-in_default-clause-faults
-returns-in_default-clause-faults g c = c.next_fails.ensures.faults
+pub returns-then-is_err : goal.returns-then-is_err
+returns-then-is_err g c = record {
+  amount = tt;
+  told = (search rules, refl);
+  buffer = refl;
+  end = (c.if-self.false, c.if-self.false);
+  written = refl;
+  write_faults = le_of_eq refl;
+  faults = subst (λ (n : ℕ). n ≤ c.add.new.self.count) c.if-next_fails.ensures.fault c.add.ensures.faults;
+  cause = subst (λ (n : ℕ). Rose n c.add.new.self.count) c.if-next_fails.ensures.fault c.add.ensures.rose;
+  counted = subst (λ (n : ℕ). CountsFault n c.add.new.self.count true) c.if-next_fails.ensures.fault c.add.ensures.counted;
+  calls = λ _. (c.next_fails.ensures.counted, λ _. refl);
+  over = λ ended. absurd (false≢true (sym c.if-self.false ∙ ended));
+  script = (refl, inr (search rules));
+  writes = refl;
+}
 
-pub returns-in_default-clause-counted : goal.returns-in_default-clause-counted
-returns-in_default-clause-counted g c = c.if-next_fails.ensures.fault
+pub returns : goal.returns
+returns g c = record {
+  amount = search rules;
+  told = (
+    from_ok c.keep.result _ c.if-is_err.ensures.value c.keep.ensures.ok ∙ ap (λ (piece : List ℕ). pieces_of c.args.self.now ++ piece ∷ []) (sym (piece_read c.args.into.now c.copy_from_slice.new.self c.in-Some.rest.now c.min-count.result c.copy_from_slice.ensures.after (omega (arith, c.min-count.ensures)))),
+    c.pass.ensures.bytes ∙ ap (λ (piece : List ℕ). piece ++ to_come c.pass.new.self) (sym (piece_read c.args.into.now c.copy_from_slice.new.self (rest_of c.args.self.now.script) c.min-count.result (c.copy_from_slice.ensures.after ∙ ap (take c.min-count.result) c.in-Some.ensures.rest) (subst (λ (rest : List ℕ). c.min-count.result ≤ length rest) c.in-Some.ensures.rest (omega (arith, c.min-count.ensures))))),
+  );
+  buffer = rest_kept c.args.into.now c.copy_from_slice.new.self c.in-Some.rest.now c.min-count.result c.copy_from_slice.ensures.after (omega (arith, c.min-count.ensures));
+  end = (c.if-self.false, c.if-self.false);
+  written = refl;
+  write_faults = le_of_eq refl;
+  faults = c.next_fails.ensures.faults;
+  cause = tt;
+  counted = c.if-next_fails.ensures.fault;
+  calls = λ _. (c.next_fails.ensures.counted, λ failing. absurd (false≢true (c.if-next_fails.ensures.failing.1 failing)));
+  over = λ ended. absurd (false≢true (sym c.if-self.false ∙ ended));
+  script = search rules;
+  writes = refl;
+}
 
-pub returns-in_default-clause-calls : goal.returns-in_default-clause-calls
-returns-in_default-clause-calls g c = λ _. (c.next_fails.ensures.counted, λ failing. absurd (false≢true (c.if-next_fails.ensures.failing.1 failing)))
+pub invariant_of-self : goal.invariant_of-self
+invariant_of-self g c = record { at_end = c.args.self.now.at_end }
 
-pub returns-in_default-clause-over : goal.returns-in_default-clause-over
-returns-in_default-clause-over g c = λ ended. absurd (false≢true (sym c.if-self.false ∙ ended))
+pub invariant_of-self-in_default : goal.invariant_of-self-in_default
+invariant_of-self-in_default g c = record { at_end = λ ended. absurd (false≢true (sym c.if-self.false ∙ ended)) }
 
-pub returns-then-is_empty-clause-faults : goal.returns-then-is_empty-clause-faults
-returns-then-is_empty-clause-faults g c = c.next_fails.ensures.faults
+pub invariant_of-self-then-is_empty : goal.invariant_of-self-then-is_empty
+invariant_of-self-then-is_empty g c = record { at_end = λ _. c.in-Some.ensures.end (eqb-true _ _ (sym c.if-is_empty.ensures)) }
 
-pub returns-then-is_empty-clause-counted : goal.returns-then-is_empty-clause-counted
-returns-then-is_empty-clause-counted g c = c.if-next_fails.ensures.fault
+pub invariant_of-self-then-is_err : goal.invariant_of-self-then-is_err
+invariant_of-self-then-is_err g c = record { at_end = c.args.self.now.at_end }
 
-pub returns-then-is_empty-clause-calls : goal.returns-then-is_empty-clause-calls
-returns-then-is_empty-clause-calls g c = λ _. (c.next_fails.ensures.counted, λ failing. absurd (false≢true (c.if-next_fails.ensures.failing.1 failing)))
-
-pub returns-then-is_empty-clause-over : goal.returns-then-is_empty-clause-over
-returns-then-is_empty-clause-over g c = λ ended. absurd (false≢true (sym c.if-self.false ∙ ended))
-
-pub returns-then-is_err-clause-end : goal.returns-then-is_err-clause-end
-returns-then-is_err-clause-end g c = (c.if-self.false, c.if-self.false)
-
-pub returns-then-is_err-clause-cause : goal.returns-then-is_err-clause-cause
-returns-then-is_err-clause-cause g c = subst (λ (n : ℕ). Rose n c.add.new.self.count) c.if-next_fails.ensures.fault c.add.ensures.rose
-
-pub returns-then-is_err-clause-counted : goal.returns-then-is_err-clause-counted
-returns-then-is_err-clause-counted g c = subst (λ (n : ℕ). CountsFault n c.add.new.self.count true) c.if-next_fails.ensures.fault c.add.ensures.counted
-
-pub returns-then-is_err-clause-calls : goal.returns-then-is_err-clause-calls
-returns-then-is_err-clause-calls g c = λ _. (c.next_fails.ensures.counted, λ _. refl)
-
-pub returns-then-is_err-clause-over : goal.returns-then-is_err-clause-over
-returns-then-is_err-clause-over g c = λ ended. absurd (false≢true (sym c.if-self.false ∙ ended))
-
-pub returns-clause-end : goal.returns-clause-end
-returns-clause-end g c = (c.if-self.false, c.if-self.false)
-
-pub returns-clause-faults : goal.returns-clause-faults
-returns-clause-faults g c = c.next_fails.ensures.faults
-
-pub returns-clause-counted : goal.returns-clause-counted
-returns-clause-counted g c = c.if-next_fails.ensures.fault
-
-pub returns-clause-calls : goal.returns-clause-calls
-returns-clause-calls g c = λ _. (c.next_fails.ensures.counted, λ failing. absurd (false≢true (c.if-next_fails.ensures.failing.1 failing)))
-
-pub returns-clause-over : goal.returns-clause-over
-returns-clause-over g c = λ ended. absurd (false≢true (sym c.if-self.false ∙ ended))
+pub invariant_of-self-2 : goal.invariant_of-self-2
+invariant_of-self-2 g c = record { at_end = λ ended. absurd (false≢true (sym c.if-self.false ∙ ended)) }

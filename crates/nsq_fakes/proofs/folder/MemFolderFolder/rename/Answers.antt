@@ -5,71 +5,41 @@ use Rattle.nsq_outside.specs.Files.{SameFiles}
 use Rattle.nsq_fakes.specs.MemFiles.{files_of, MovesToNew}
 use Rattle.nsq_fakes.specs.MemFolders.{called_of}
 use Rattle.nsq_fakes.specs.declared.folder.MemFolder.{MemFolder}
-use Rattle.nsq_fakes.proofs.FolderCalls.{files_stay, fails_stay, joins_failed, joins_done}
+use Rattle.nsq_fakes.proofs.FolderCalls.{files_stay, fails_stay, joins_failed, joins_done, or_more}
 use Rattle.nsq_fakes.proofs.Outcomes.{rename_outcome, behind_failed}
 use Rattle.nsq_fakes.specs.declared.folder_calls.FolderCall.TheVariants.{Rename}
 use Rattle.nsq_outside.specs.declared.did.Did.TheVariants.{Failed}
 use Rattle.nsq_fakes.proofs.folder.MemFolderFolder.rename.Goals as goal
 
-pub returns-then-fails-clause-files : goal.returns-then-fails-clause-files
-returns-then-fails-clause-files c = inl (files_stay c.args.self.now c.fails.new.self c.fails.ensures.rest)
+pub returns-then-fails : goal.returns-then-fails
+returns-then-fails c = record {
+  files = inl (files_stay c.args.self.now c.fails.new.self c.fails.ensures.rest);
+  faults = c.fails.ensures.faults;
+  cause = c.if-fails.ensures.rose refl;
+  counted = c.if-fails.ensures.fault;
+  calls = c.fails.ensures.counted;
+  called = joins_failed (called_of c.args.self.now) (called_of c.fails.new.self) Rename c.args.from.now c.args.to.now (Failed ≡ Failed) refl c.if-fails.ensures.called;
+  fails = fails_stay c.args.self.now c.fails.new.self c.fails.ensures.rest;
+  refused = λ _. refl;
+  failed = λ _. files_stay c.args.self.now c.fails.new.self c.fails.ensures.rest;
+  why = λ _. or_more (c.if-fails.ensures.why refl);
+}
 
-pub returns-then-fails-clause-faults : goal.returns-then-fails-clause-faults
-returns-then-fails-clause-faults c = c.fails.ensures.faults
-
-pub returns-then-fails-clause-cause : goal.returns-then-fails-clause-cause
-returns-then-fails-clause-cause c = c.if-fails.ensures.rose refl
-
-pub returns-then-fails-clause-counted : goal.returns-then-fails-clause-counted
-returns-then-fails-clause-counted c = c.if-fails.ensures.fault
-
-pub returns-then-fails-clause-calls : goal.returns-then-fails-clause-calls
-returns-then-fails-clause-calls c = c.fails.ensures.counted
-
-pub returns-then-fails-clause-called : goal.returns-then-fails-clause-called
-returns-then-fails-clause-called c = joins_failed (called_of c.args.self.now) (called_of c.fails.new.self) Rename c.args.from.now c.args.to.now (Failed ≡ Failed) refl c.if-fails.ensures.called
-
-pub returns-then-fails-clause-fails : goal.returns-then-fails-clause-fails
-returns-then-fails-clause-fails c = fails_stay c.args.self.now c.fails.new.self c.fails.ensures.rest
-
-pub returns-then-fails-clause-refused : goal.returns-then-fails-clause-refused
-returns-then-fails-clause-refused c = λ _. refl
-
-pub returns-then-fails-clause-failed : goal.returns-then-fails-clause-failed
-returns-then-fails-clause-failed c = λ _. files_stay c.args.self.now c.fails.new.self c.fails.ensures.rest
-
-pub returns-clause-files : goal.returns-clause-files
-returns-clause-files c =
-    let before : c.fails.new.self.files ≡ c.args.self.now.files = ap (λ (folder : MemFolder). folder.files) c.fails.ensures.rest in
-    rw (← before) (rename_outcome (files_of c.fails.new.self.files) (files_of c.rename-outcome.new.files) c.args.from.now c.args.to.now c.rename-outcome.result c.answer.result c.answer.ensures.done c.answer.ensures.failed c.rename-outcome.ensures.ok c.rename-outcome.ensures.err)
-
-pub returns-clause-faults : goal.returns-clause-faults
-returns-clause-faults c = subst (λ (n : ℕ). n ≤ c.answer.new.faults.count) c.if-fails.ensures.fault c.answer.ensures.faults
-
-pub returns-clause-cause : goal.returns-clause-cause
-returns-clause-cause c = subst (λ (n : ℕ). DidFails n c.answer.new.faults.count c.answer.result) c.if-fails.ensures.fault c.answer.ensures.cause
-
-pub returns-clause-counted : goal.returns-clause-counted
-returns-clause-counted c = subst (λ (n : ℕ). DidCounts n c.answer.new.faults.count c.answer.result) c.if-fails.ensures.fault c.answer.ensures.counted
-
-pub returns-clause-calls : goal.returns-clause-calls
-returns-clause-calls c = c.fails.ensures.counted
-
-pub returns-clause-called : goal.returns-clause-called
-returns-clause-called c = joins_done (called_of c.args.self.now) (called_of c.fails.new.self) Rename c.args.from.now c.args.to.now (c.answer.result ≡ Failed) c.if-fails.ensures.called
-
-pub returns-clause-fails : goal.returns-clause-fails
-returns-clause-fails c = fails_stay c.args.self.now c.fails.new.self c.fails.ensures.rest
-
-pub returns-clause-refused : goal.returns-clause-refused
-returns-clause-refused c = λ refused. absurd (false≢true (c.if-fails.ensures.refused refused))
-
-pub returns-clause-failed : goal.returns-clause-failed
-returns-clause-failed c = λ failed.
-    let before : c.fails.new.self.files ≡ c.args.self.now.files = ap (λ (folder : MemFolder). folder.files) c.fails.ensures.rest in
-    rw (← before) (behind_failed c.rename-outcome.result c.answer.result (SameFiles (files_of c.fails.new.self.files) (files_of c.rename-outcome.new.files)) c.answer.ensures.done c.rename-outcome.ensures.err failed)
-
-pub returns-clause-why : goal.returns-clause-why
-returns-clause-why c = λ failed.
-    let before : c.fails.new.self.files ≡ c.args.self.now.files = ap (λ (folder : MemFolder). folder.files) c.fails.ensures.rest in
-    inr (inr (rw (← before) (behind_failed c.rename-outcome.result c.answer.result (MovesToNew (files_of c.fails.new.self.files) c.args.from.now c.args.to.now) c.answer.ensures.done c.rename-outcome.ensures.moves failed)))
+pub returns : goal.returns
+returns c = record {
+  files = let before : c.fails.new.self.files ≡ c.args.self.now.files = ap (λ (folder : MemFolder). folder.files) c.fails.ensures.rest in
+      rw (← before) (rename_outcome (files_of c.fails.new.self.files) (files_of c.rename-outcome.new.files) c.args.from.now c.args.to.now c.rename-outcome.result c.answer.result c.answer.ensures.done c.answer.ensures.failed c.rename-outcome.ensures.ok c.rename-outcome.ensures.err);
+  faults = subst (λ (n : ℕ). n ≤ c.answer.new.faults.count) c.if-fails.ensures.fault c.answer.ensures.faults;
+  cause = subst (λ (n : ℕ). DidFails n c.answer.new.faults.count c.answer.result) c.if-fails.ensures.fault c.answer.ensures.cause;
+  counted = subst (λ (n : ℕ). DidCounts n c.answer.new.faults.count c.answer.result) c.if-fails.ensures.fault c.answer.ensures.counted;
+  calls = c.fails.ensures.counted;
+  called = joins_done (called_of c.args.self.now) (called_of c.fails.new.self) Rename c.args.from.now c.args.to.now (c.answer.result ≡ Failed) c.if-fails.ensures.called;
+  fails = fails_stay c.args.self.now c.fails.new.self c.fails.ensures.rest;
+  refused = λ refused. absurd (false≢true (c.if-fails.ensures.refused refused));
+  failed = λ failed.
+      let before : c.fails.new.self.files ≡ c.args.self.now.files = ap (λ (folder : MemFolder). folder.files) c.fails.ensures.rest in
+      rw (← before) (behind_failed c.rename-outcome.result c.answer.result (SameFiles (files_of c.fails.new.self.files) (files_of c.rename-outcome.new.files)) c.answer.ensures.done c.rename-outcome.ensures.err failed);
+  why = λ failed.
+      let before : c.fails.new.self.files ≡ c.args.self.now.files = ap (λ (folder : MemFolder). folder.files) c.fails.ensures.rest in
+      inr (inr (rw (← before) (behind_failed c.rename-outcome.result c.answer.result (MovesToNew (files_of c.fails.new.self.files) c.args.from.now c.args.to.now) c.answer.ensures.done c.rename-outcome.ensures.moves failed)));
+}

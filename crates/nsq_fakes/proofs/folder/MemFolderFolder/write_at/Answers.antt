@@ -5,85 +5,46 @@ use Rattle.nsq_outside.specs.Files.{SameFiles, written_at}
 use Rattle.nsq_fakes.specs.MemFiles.{files_of, GrowsTo}
 use Rattle.nsq_fakes.specs.MemFolders.{files_in, called_of}
 use Rattle.nsq_fakes.specs.declared.folder.MemFolder.{MemFolder}
-use Rattle.nsq_fakes.proofs.FolderCalls.{files_stay, fails_stay, joins_failed, joins_done}
+use Rattle.nsq_fakes.proofs.FolderCalls.{files_stay, fails_stay, joins_failed, joins_done, or_more}
 use Rattle.nsq_fakes.proofs.Outcomes.{write_refused, write_outcome, others_stay, ends_within, behind_failed}
 use Rattle.nsq_fakes.specs.declared.folder_calls.FolderCall.TheVariants.{WriteAt}
 use Rattle.nsq_outside.specs.declared.did.Did.TheVariants.{Failed}
 use Rattle.nsq_fakes.proofs.folder.MemFolderFolder.write_at.Goals as goal
 
-pub returns-then-fails-clause-bytes : goal.returns-then-fails-clause-bytes
-returns-then-fails-clause-bytes c = write_refused (files_in c.args.self.now) (files_in c.fails.new.self) c.args.name.now c.args.from.now c.args.at (files_stay c.args.self.now c.fails.new.self c.fails.ensures.rest)
+pub returns-then-fails : goal.returns-then-fails
+returns-then-fails c = record {
+  bytes = write_refused (files_in c.args.self.now) (files_in c.fails.new.self) c.args.name.now c.args.from.now c.args.at (files_stay c.args.self.now c.fails.new.self c.fails.ensures.rest);
+  limit = tt;
+  others = λ other _. files_stay c.args.self.now c.fails.new.self c.fails.ensures.rest other;
+  faults = c.fails.ensures.faults;
+  cause = c.if-fails.ensures.rose refl;
+  counted = c.if-fails.ensures.fault;
+  calls = c.fails.ensures.counted;
+  called = joins_failed (called_of c.args.self.now) (called_of c.fails.new.self) WriteAt c.args.name.now [] (Failed ≡ Failed) refl c.if-fails.ensures.called;
+  fails = fails_stay c.args.self.now c.fails.new.self c.fails.ensures.rest;
+  refused = λ _. refl;
+  failed = λ _. files_stay c.args.self.now c.fails.new.self c.fails.ensures.rest;
+  why = λ _. or_more (c.if-fails.ensures.why refl);
+}
 
-pub returns-then-fails-clause-limit : goal.returns-then-fails-clause-limit
-returns-then-fails-clause-limit c = tt
-
-pub returns-then-fails-clause-others : goal.returns-then-fails-clause-others
-returns-then-fails-clause-others c = λ other _. files_stay c.args.self.now c.fails.new.self c.fails.ensures.rest other
-
-pub returns-then-fails-clause-faults : goal.returns-then-fails-clause-faults
-returns-then-fails-clause-faults c = c.fails.ensures.faults
-
-pub returns-then-fails-clause-cause : goal.returns-then-fails-clause-cause
-returns-then-fails-clause-cause c = c.if-fails.ensures.rose refl
-
-pub returns-then-fails-clause-counted : goal.returns-then-fails-clause-counted
-returns-then-fails-clause-counted c = c.if-fails.ensures.fault
-
-pub returns-then-fails-clause-calls : goal.returns-then-fails-clause-calls
-returns-then-fails-clause-calls c = c.fails.ensures.counted
-
-pub returns-then-fails-clause-called : goal.returns-then-fails-clause-called
-returns-then-fails-clause-called c = joins_failed (called_of c.args.self.now) (called_of c.fails.new.self) WriteAt c.args.name.now [] (Failed ≡ Failed) refl c.if-fails.ensures.called
-
-pub returns-then-fails-clause-fails : goal.returns-then-fails-clause-fails
-returns-then-fails-clause-fails c = fails_stay c.args.self.now c.fails.new.self c.fails.ensures.rest
-
-pub returns-then-fails-clause-refused : goal.returns-then-fails-clause-refused
-returns-then-fails-clause-refused c = λ _. refl
-
-pub returns-then-fails-clause-failed : goal.returns-then-fails-clause-failed
-returns-then-fails-clause-failed c = λ _. files_stay c.args.self.now c.fails.new.self c.fails.ensures.rest
-
-pub returns-clause-bytes : goal.returns-clause-bytes
-returns-clause-bytes c =
-    let before : c.fails.new.self.files ≡ c.args.self.now.files = ap (λ (folder : MemFolder). folder.files) c.fails.ensures.rest in
-    rw (← before) (write_outcome (files_of c.fails.new.self.files) (files_of c.write-outcome.new.files) c.args.name.now c.args.from.now c.args.at c.write-outcome.result c.answer.result c.answer.ensures.done c.answer.ensures.failed c.write-outcome.ensures.ok c.write-outcome.ensures.err)
-
-pub returns-clause-limit : goal.returns-clause-limit
-returns-clause-limit c = ends_within (c.args.at + length c.args.from.now) c.write-outcome.result c.answer.result c.answer.ensures.done c.answer.ensures.failed c.write-outcome.ensures.fits
-
-pub returns-clause-others : goal.returns-clause-others
-returns-clause-others c =
-    let before : c.fails.new.self.files ≡ c.args.self.now.files = ap (λ (folder : MemFolder). folder.files) c.fails.ensures.rest in
-    rw (← before) (others_stay (files_of c.fails.new.self.files) (files_of c.write-outcome.new.files) c.args.name.now (Some (written_at (unwrap_or (files_of c.fails.new.self.files c.args.name.now) []) c.args.at c.args.from.now)) c.write-outcome.result c.write-outcome.ensures.ok c.write-outcome.ensures.err)
-
-pub returns-clause-faults : goal.returns-clause-faults
-returns-clause-faults c = subst (λ (n : ℕ). n ≤ c.answer.new.faults.count) c.if-fails.ensures.fault c.answer.ensures.faults
-
-pub returns-clause-cause : goal.returns-clause-cause
-returns-clause-cause c = subst (λ (n : ℕ). DidFails n c.answer.new.faults.count c.answer.result) c.if-fails.ensures.fault c.answer.ensures.cause
-
-pub returns-clause-counted : goal.returns-clause-counted
-returns-clause-counted c = subst (λ (n : ℕ). DidCounts n c.answer.new.faults.count c.answer.result) c.if-fails.ensures.fault c.answer.ensures.counted
-
-pub returns-clause-calls : goal.returns-clause-calls
-returns-clause-calls c = c.fails.ensures.counted
-
-pub returns-clause-called : goal.returns-clause-called
-returns-clause-called c = joins_done (called_of c.args.self.now) (called_of c.fails.new.self) WriteAt c.args.name.now [] (c.answer.result ≡ Failed) c.if-fails.ensures.called
-
-pub returns-clause-fails : goal.returns-clause-fails
-returns-clause-fails c = fails_stay c.args.self.now c.fails.new.self c.fails.ensures.rest
-
-pub returns-clause-refused : goal.returns-clause-refused
-returns-clause-refused c = λ refused. absurd (false≢true (c.if-fails.ensures.refused refused))
-
-pub returns-clause-failed : goal.returns-clause-failed
-returns-clause-failed c = λ failed.
-    let before : c.fails.new.self.files ≡ c.args.self.now.files = ap (λ (folder : MemFolder). folder.files) c.fails.ensures.rest in
-    rw (← before) (behind_failed c.write-outcome.result c.answer.result (SameFiles (files_of c.fails.new.self.files) (files_of c.write-outcome.new.files)) c.answer.ensures.done c.write-outcome.ensures.err failed)
-
-pub returns-clause-why : goal.returns-clause-why
-returns-clause-why c = λ failed.
-    let before : c.fails.new.self.files ≡ c.args.self.now.files = ap (λ (folder : MemFolder). folder.files) c.fails.ensures.rest in
-    inr (inr (rw (← before) (behind_failed c.write-outcome.result c.answer.result (GrowsTo (files_of c.fails.new.self.files c.args.name.now) (c.args.at + length c.args.from.now)) c.answer.ensures.done c.write-outcome.ensures.grows failed)))
+pub returns : goal.returns
+returns c = record {
+  bytes = let before : c.fails.new.self.files ≡ c.args.self.now.files = ap (λ (folder : MemFolder). folder.files) c.fails.ensures.rest in
+      rw (← before) (write_outcome (files_of c.fails.new.self.files) (files_of c.write-outcome.new.files) c.args.name.now c.args.from.now c.args.at c.write-outcome.result c.answer.result c.answer.ensures.done c.answer.ensures.failed c.write-outcome.ensures.ok c.write-outcome.ensures.err);
+  limit = ends_within (c.args.at + length c.args.from.now) c.write-outcome.result c.answer.result c.answer.ensures.done c.answer.ensures.failed c.write-outcome.ensures.fits;
+  others = let before : c.fails.new.self.files ≡ c.args.self.now.files = ap (λ (folder : MemFolder). folder.files) c.fails.ensures.rest in
+      rw (← before) (others_stay (files_of c.fails.new.self.files) (files_of c.write-outcome.new.files) c.args.name.now (Some (written_at (unwrap_or (files_of c.fails.new.self.files c.args.name.now) []) c.args.at c.args.from.now)) c.write-outcome.result c.write-outcome.ensures.ok c.write-outcome.ensures.err);
+  faults = subst (λ (n : ℕ). n ≤ c.answer.new.faults.count) c.if-fails.ensures.fault c.answer.ensures.faults;
+  cause = subst (λ (n : ℕ). DidFails n c.answer.new.faults.count c.answer.result) c.if-fails.ensures.fault c.answer.ensures.cause;
+  counted = subst (λ (n : ℕ). DidCounts n c.answer.new.faults.count c.answer.result) c.if-fails.ensures.fault c.answer.ensures.counted;
+  calls = c.fails.ensures.counted;
+  called = joins_done (called_of c.args.self.now) (called_of c.fails.new.self) WriteAt c.args.name.now [] (c.answer.result ≡ Failed) c.if-fails.ensures.called;
+  fails = fails_stay c.args.self.now c.fails.new.self c.fails.ensures.rest;
+  refused = λ refused. absurd (false≢true (c.if-fails.ensures.refused refused));
+  failed = λ failed.
+      let before : c.fails.new.self.files ≡ c.args.self.now.files = ap (λ (folder : MemFolder). folder.files) c.fails.ensures.rest in
+      rw (← before) (behind_failed c.write-outcome.result c.answer.result (SameFiles (files_of c.fails.new.self.files) (files_of c.write-outcome.new.files)) c.answer.ensures.done c.write-outcome.ensures.err failed);
+  why = λ failed.
+      let before : c.fails.new.self.files ≡ c.args.self.now.files = ap (λ (folder : MemFolder). folder.files) c.fails.ensures.rest in
+      inr (inr (rw (← before) (behind_failed c.write-outcome.result c.answer.result (GrowsTo (files_of c.fails.new.self.files c.args.name.now) (c.args.at + length c.args.from.now)) c.answer.ensures.done c.write-outcome.ensures.grows failed)));
+}

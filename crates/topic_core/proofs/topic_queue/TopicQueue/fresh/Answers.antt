@@ -1,4 +1,4 @@
-use Rattle.std.proofs.Common.{ℕ, ◌≡◌, List, ap, subst, sym}
+use Rattle.std.proofs.Common.{ℕ, List, ap, subst, sym}
 use Rattle.queue_image.specs.FileNames.{meta_file}
 use Rattle.queue_image.specs.Metas.{IsIdle}
 use Rattle.backlog.specs.Seen.{Seen as Backlog}

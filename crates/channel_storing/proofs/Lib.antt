@@ -1,2 +1,0 @@
-pub mod Capacity
-pub mod Wrote

@@ -1,0 +1,17 @@
+-- Where a caller is for whose going memory was wanting for the first time.
+use Rattle.std.proofs.Common.{ℕ, ◌<◌, inl, inr, subst, sym}
+use Rattle.nsq_outside.specs.Causes.{CountsFault}
+use Rattle.broker_history.specs.Entries.{History}
+use Rattle.desk.specs.Answers.{Adds, stays_for_memory}
+use Rattle.desk.specs.Calls.{IsHere, MayCall}
+use Rattle.desk.specs.declared.call.Call.{Call}
+use Rattle.desk.specs.declared.call.Call.TheVariants as call
+use Rattle.desk.specs.declared.turned.Turned.{Turned}
+use Rattle.desk.specs.declared.turned.Turned.TheVariants as turned
+
+-- where a turn is the first for whose going memory was wanting, its connection is still there
+pub stays_behind : (number : ℕ) (own own' : History) (c : Call) (t : Turned) (wanted wanted' : ℕ) → (0 < wanted → ⊥) → MayCall number own c → Adds number own own' c t → CountsFault wanted wanted' (stays_for_memory c t) → 0 < wanted' → IsHere own'
+stays_behind number own own' call.Gone turned.Memory wanted wanted' none may (inl a) counts some = subst IsHere (sym a.0) may
+stays_behind number own own' call.Gone turned.Memory wanted wanted' none may (inr j) counts some = absurd j.answers
+stays_behind number own own' call.Gone t wanted wanted' none may adds counts some = absurd (none (subst (λ (n : ℕ). 0 < n) counts some))
+stays_behind number own own' c t wanted wanted' none may adds counts some = absurd (none (subst (λ (n : ℕ). 0 < n) counts some))

@@ -1,0 +1,12 @@
+pub mod Marking
+pub mod Clearing
+pub mod Syncing
+pub mod Beginning
+pub mod Raising
+pub mod Reading
+pub mod Leaving
+pub mod Stopping
+pub mod Parting
+pub mod Starting
+pub mod Joining
+pub mod Found

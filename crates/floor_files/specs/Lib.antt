@@ -1,0 +1,4 @@
+pub mod Timely
+pub mod Saving
+pub mod Flushing
+pub mod Opened

@@ -1,4 +1,0 @@
-pub mod Parting
-pub mod Starting
-pub mod Joining
-pub mod Leaving

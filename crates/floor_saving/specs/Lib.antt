@@ -1,3 +1,0 @@
-pub mod Timely
-pub mod Saving
-pub mod Flushing

@@ -1,3 +1,0 @@
-pub mod Stats
-pub use Rattle.floor_replies.specs.Replies
-pub use Rattle.channel_core.specs.Seen

@@ -1,4 +1,0 @@
-pub mod Keepable
-pub mod Listing
-pub mod Putting
-pub mod Sorting

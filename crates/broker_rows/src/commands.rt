@@ -3,8 +3,9 @@
 //! A message is named by its number among those of its run: those of a second run begin with 1000. Its body is a letter of that number. Delays of
 //! commands are in milliseconds.
 
-use crate::made::{channel, copy, moment, number, put, topic, words};
+use crate::made::{channel, copy, is, moment, number, put, topic, unknown, words};
 use broker_history::{Ask, Said};
+use broker_plain::Phase;
 use nsq_base::{Bodies, Body, Chan, MsgId};
 use std::alloc::Global;
 use std::process::Abort;
@@ -22,19 +23,26 @@ pub fn command_of(rt: &impl Abort, alloc: Global, word: &str, rest: &str) -> Com
             bodies(rt, alloc, nth(rt, of), number(rt, n)),
         ),
         "dpub" => Command::Dpub(topic(rt, name), signed(rt, of), body(rt, alloc, nth(rt, n))),
+        _ => short_command_of(rt, word, name, of),
+    }
+}
+
+// The same of one that has no body and names no topic.
+fn short_command_of(rt: &impl Abort, word: &str, name: &str, of: &str) -> Command {
+    match word {
         "rdy" => Command::Rdy(signed(rt, name)),
         "fin" => Command::Fin(id(nth(rt, name))),
         "req" => Command::Req(id(nth(rt, name)), signed(rt, of)),
         "touch" => Command::Touch(id(nth(rt, name))),
         "cls" => Command::Cls,
         "nop" => Command::Nop,
-        _ => panic!(rt; "{} is no command", word),
+        _ => unknown(rt, word),
     }
 }
 
 // What an IDENTIFY says.
 fn identity(text: &str) -> &[u8] {
-    if text == "NOT_UTF8" {
+    if is(text, "NOT_UTF8") {
         b"{\"client_id\":\"\xff\"}"
     } else {
         text.as_bytes()
@@ -59,7 +67,7 @@ pub fn ask_of(rt: &impl Abort, alloc: Global, word: &str, words: [&str; 4]) -> A
         "empty" => Ask::Empty(topic, channel),
         "pause" => Ask::Pause(topic, channel),
         "unpause" => Ask::Unpause(topic, channel),
-        _ => panic!(rt; "{} is nothing to ask", word),
+        _ => unknown(rt, word),
     }
 }
 
@@ -80,7 +88,18 @@ pub fn said_of(rt: &impl Abort, answer: &str) -> Said {
         "no channel" => Said::NoChannel,
         "ids" => Said::Ids,
         "disk" => Said::Disk,
-        _ => panic!(rt; "{} is nothing to say", answer),
+        _ => unknown(rt, answer),
+    }
+}
+
+/// A client's phase.
+pub fn phase_of(rt: &impl Abort, word: &str) -> Phase {
+    match word {
+        "Fresh" => Phase::Fresh,
+        "Subscribed" => Phase::Subscribed,
+        "Closing" => Phase::Closing,
+        "Lost" => Phase::Lost,
+        _ => unknown(rt, word),
     }
 }
 

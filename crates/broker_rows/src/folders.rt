@@ -2,7 +2,7 @@
 //! there.
 
 use crate::made::{bytes_of, copy, cut, put};
-use crate::state::given::Sent;
+use crate::state::given::{Sent, sent_of};
 use broker_files::{Finding, FoundNames, found, start};
 use broker_state::State;
 use nsq_base::{Body, MsgId, Options};
@@ -64,18 +64,6 @@ fn add_file(
         bytes: copy(rt, alloc, bytes),
     };
     put(rt, files, file);
-}
-
-/// The message of a letter and the number of its attempts.
-fn sent_of(rt: &impl Abort, word: &str) -> Sent {
-    match word.as_bytes() {
-        [letter, attempts] => Sent {
-            number: u64::from(letter.wrapping_sub(b'a')),
-            attempts: u16::from(attempts.wrapping_sub(b'0')),
-            letter: *letter,
-        },
-        _ => panic!(rt; "{} is no message", word),
-    }
 }
 
 /// Adds the files of a queue: its name, and its messages, all of them in the first data file.

@@ -5,7 +5,7 @@
 //! Delays of commands are in milliseconds, others are moments.
 
 use crate::commands::{ask_of, body, command_of, id, kind_of, nth, said_of};
-use crate::made::{channel, copy, cut, halves, moment, number, put, topic, words};
+use crate::made::{channel, copy, cut, halves, is, moment, number, put, topic, unknown, words};
 use crate::stats::stats;
 use broker_history::{Act, Ask, Entry, Said};
 use nsq_base::{Chan, Names, Topic};
@@ -106,6 +106,15 @@ fn other_act(rt: &impl Abort, alloc: Global, what: &str) -> Act {
             took(rt, alloc, name, nth(rt, of), delay, behind(rest, 3))
         }
         "copied" => copied(rt, alloc, name, of, nth(rt, n), moment(rt, delay)),
+        _ => copy_act(rt, alloc, what),
+    }
+}
+
+// The same of a copy of a channel, and of what a fault kept off.
+fn copy_act(rt: &impl Abort, alloc: Global, what: &str) -> Act {
+    let (word, rest) = cut(what);
+    let [name, of, n, _] = words(rest);
+    match word {
         "timed-out" => Act::TimedOut(topic(rt, name), channel(rt, of), id(nth(rt, n))),
         "came-due" => Act::CameDue(topic(rt, name), channel(rt, of), id(nth(rt, n))),
         "held-back" => Act::HeldBack(topic(rt, name), channel(rt, of), id(nth(rt, n))),
@@ -147,7 +156,7 @@ fn fault_of(rt: &impl Abort, kind: &str, at: &str) -> Fault {
     let kind = match kind {
         "BadMagic" => FaultKind::BadMagic,
         "BadWord" => FaultKind::BadWord,
-        _ => panic!(rt; "{} is no fault", kind),
+        _ => unknown(rt, kind),
     };
     Fault {
         kind,
@@ -166,7 +175,7 @@ fn reply_of(rt: &impl Abort, alloc: Global, answer: &str) -> Option<Frame> {
 
 // A frame of this text, which is an error's where it begins so.
 fn frame(rt: &impl Abort, alloc: Global, answer: &str) -> Frame {
-    let text = if answer == "FEATURES" {
+    let text = if is(answer, "FEATURES") {
         FEATURES
     } else {
         answer

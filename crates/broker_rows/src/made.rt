@@ -1,6 +1,11 @@
 //! What rows of several subjects read and make.
 
+use broker_files::FoundNames;
+use broker_history::Entry;
+use broker_state::State;
 use nsq_base::{Body, Chan, Topic};
+use nsq_outside::End;
+use queue_plain::NamedFile;
 use std::alloc::Global;
 use std::process::Abort;
 
@@ -41,11 +46,11 @@ pub fn part<'a>(rt: &impl Abort, text: &'a str, mark: &str) -> (&'a str, &'a str
 pub fn bytes_of(rt: &impl Abort, table: &'static str, word: &str) -> &'static [u8] {
     for entry in table.split('~') {
         let (name, bytes) = cut(entry);
-        if name == word {
+        if is(name, word) {
             return bytes.as_bytes();
         }
     }
-    panic!(rt; "{} is no word", word)
+    unknown(rt, word)
 }
 
 /// The number that a word says.
@@ -75,11 +80,9 @@ pub fn used_of(rt: &impl Abort, text: &str) -> u64 {
     match text.trim().strip_prefix("all ids but ") {
         Some(left) => ALL_IDS.saturating_sub(number(rt, left)),
         None => {
-            assert!(rt;
-                same(text.trim().as_bytes(), b"no ids"),
-                "{} is no count of ids",
-                text
-            );
+            if !is(text.trim(), "no ids") {
+                return unknown(rt, text);
+            }
             0
         }
     }
@@ -110,3 +113,33 @@ pub fn copy(rt: &impl Abort, alloc: Global, bytes: &[u8]) -> Body {
 pub fn same(one: &[u8], other: &[u8]) -> bool {
     one == other
 }
+
+/// Whether these are the same texts.
+pub fn is(one: &str, other: &str) -> bool {
+    same(one.as_bytes(), other.as_bytes())
+}
+
+/// Stops the run: nobody knows this word.
+pub fn unknown<T>(rt: &impl Abort, word: &str) -> T {
+    panic!(rt; "{} is no word of a row", word)
+}
+
+/// Stops the run where a row doesn't hold, and names it.
+pub fn check(rt: &impl Abort, holds: bool, name: &str) {
+    assert!(rt; holds, "{}", name);
+}
+
+/// Takes entries apart, once for all that held some.
+pub fn let_entries_go(_entries: Vec<(Entry, End)>) {}
+
+/// The same of a state.
+pub fn let_state_go(_state: State) {}
+
+/// The same of states.
+pub fn let_states_go(_states: Vec<State>) {}
+
+/// The same of names that an opening found.
+pub fn let_names_go(_names: FoundNames) {}
+
+/// The same of files.
+pub fn let_files_go(_files: Vec<NamedFile>) {}

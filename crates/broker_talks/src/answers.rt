@@ -1,116 +1,75 @@
-use crate::output::put;
 use crate::parts::Part;
-use nsq_base::{Body, Memory};
 use nsq_outside::End;
-use std::alloc::Global;
-use v2_frame::{Command, Frame, FrameKind, Message};
+use v2_frame::{Command, Frame, FrameKind};
 
-/// What the client got by an entry that is this part of its conversation, with this end.
-pub fn answered(alloc: Global, part: Part<'_>, end: End) -> Result<Option<Frame>, Memory> {
+/// The error for want of memory.
+pub const MEMORY: &[u8] = b"E_MEMORY out of memory";
+
+/// The type and the text of the frame that the client got by an entry that is this part of its conversation, with this end; None where
+/// it got none, or a message.
+pub fn answered<'a>(part: Part<'a>, end: End) -> Option<(FrameKind, &'a [u8])> {
     match part {
-        Part::Took(command, reply) => did_answered(alloc, command, reply, end),
-        Part::Refused(_, frame) => copied(alloc, frame),
-        Part::Sent(message) => message_frame(alloc, message),
-        Part::Beat => beat_frame(alloc),
-        _ => Ok(None),
+        Part::Took(command, reply) => did_answered(command, reply, end),
+        Part::Refused(_, frame) => text_in(frame),
+        Part::Beat => text(FrameKind::Response, b"_heartbeat_"),
+        _ => None,
     }
 }
 
 // What the client of a command was answered, by the entry's end.
-fn did_answered(
-    alloc: Global,
-    command: &Command,
-    reply: &Option<Frame>,
+fn did_answered<'a>(
+    command: &'a Command,
+    reply: &'a Option<Frame>,
     end: End,
-) -> Result<Option<Frame>, Memory> {
+) -> Option<(FrameKind, &'a [u8])> {
     match end {
-        End::Done => copy_reply(alloc, reply),
-        End::Faulted(_) => disk_reply(alloc, command),
-        End::Skip => Ok(None),
+        End::Done => replied(reply),
+        End::Faulted(_) => disk_reply(command),
+        End::Skip => None,
     }
 }
 
-// A copy of a reply, if there is one.
-fn copy_reply(alloc: Global, reply: &Option<Frame>) -> Result<Option<Frame>, Memory> {
+// What a reply says, if there is one.
+fn replied(reply: &Option<Frame>) -> Option<(FrameKind, &[u8])> {
     match reply {
-        Some(frame) => copied(alloc, frame),
-        None => Ok(None),
+        Some(frame) => text_in(frame),
+        None => None,
     }
 }
 
-// A copy of a frame.
-fn copied(alloc: Global, frame: &Frame) -> Result<Option<Frame>, Memory> {
-    Ok(Some(frame.copy(alloc)?))
+// What a frame says.
+fn text_in(frame: &Frame) -> Option<(FrameKind, &[u8])> {
+    Some((frame.kind, frame.body.bytes()))
+}
+
+// A type and a text.
+fn text(kind: FrameKind, text: &[u8]) -> Option<(FrameKind, &[u8])> {
+    Some((kind, text))
 }
 
 // The reply to a command that a disk fault kept from being carried out, if there is one.
-fn disk_reply(alloc: Global, command: &Command) -> Result<Option<Frame>, Memory> {
+fn disk_reply(command: &Command) -> Option<(FrameKind, &[u8])> {
     match command {
-        Command::Pub(_, _) => disk_fault(alloc, b"E_PUB_FAILED disk fault"),
-        Command::Mpub(_, _) => disk_fault(alloc, b"E_MPUB_FAILED disk fault"),
-        Command::Dpub(_, _, _) => disk_fault(alloc, b"E_DPUB_FAILED disk fault"),
-        Command::Req(_, _) => disk_fault(alloc, b"E_REQ_FAILED disk fault"),
-        Command::Identify(_)
-        | Command::Sub(_, _)
-        | Command::Rdy(_)
-        | Command::Fin(_)
-        | Command::Touch(_)
-        | Command::Cls
-        | Command::Nop => Ok(None),
+        Command::Pub(_, _) => text(FrameKind::Error, b"E_PUB_FAILED disk fault"),
+        Command::Mpub(_, _) => text(FrameKind::Error, b"E_MPUB_FAILED disk fault"),
+        Command::Dpub(_, _, _) => text(FrameKind::Error, b"E_DPUB_FAILED disk fault"),
+        Command::Req(_, _) => text(FrameKind::Error, b"E_REQ_FAILED disk fault"),
+        _ => None,
     }
 }
 
-// The error of this text.
-fn disk_fault(alloc: Global, text: &[u8]) -> Result<Option<Frame>, Memory> {
-    Ok(Some(frame(alloc, FrameKind::Error, text)?))
-}
-
-// The heartbeat.
-fn beat_frame(alloc: Global) -> Result<Option<Frame>, Memory> {
-    Ok(Some(frame(alloc, FrameKind::Response, b"_heartbeat_")?))
-}
-
-// The frame of a message.
-fn message_frame(alloc: Global, message: &Message) -> Result<Option<Frame>, Memory> {
-    let mut bytes = Vec::new(alloc);
-    put_message(&mut bytes, message)?;
-    Ok(Some(Frame {
-        kind: FrameKind::Message,
-        body: Body::of(bytes),
-    }))
-}
-
-// Adds the bytes of a message.
-fn put_message(bytes: &mut Vec<u8>, message: &Message) -> Result<(), Memory> {
-    put(bytes, &message.stamp.to_be_bytes())?;
-    put(bytes, &message.attempts.to_be_bytes())?;
-    put(bytes, message.id.bytes())?;
-    put(bytes, message.body.bytes())
-}
-
-// A frame of a kind and a text.
-fn frame(alloc: Global, kind: FrameKind, text: &[u8]) -> Result<Frame, Memory> {
-    let body = Body::copy(alloc, text)?;
-    Ok(Frame { kind, body })
-}
-
-/// The frame for want of memory.
-pub fn memory_frame(alloc: Global) -> Result<Frame, Memory> {
-    frame(alloc, FrameKind::Error, b"E_MEMORY out of memory")
-}
-
-/// Whether the connection is closed after this answer.
-pub fn closes_answer(answer: &Option<Frame>) -> bool {
-    match answer {
-        Some(frame) => closes(frame),
+/// Whether the connection is closed after what the client got by this.
+pub fn closes(part: Part<'_>, end: End) -> bool {
+    match answered(part, end) {
+        Some((kind, text)) => closes_text(kind, text),
         None => false,
     }
 }
 
-// Whether the connection is closed after this frame.
-fn closes(frame: &Frame) -> bool {
-    match frame.kind {
-        FrameKind::Error => !leaves_open(frame.body.bytes()),
+// Whether the connection is closed after a frame of this type and this text.
+fn closes_text(kind: FrameKind, text: &[u8]) -> bool {
+    match kind {
+        FrameKind::Error => !leaves_open(text),
         FrameKind::Response => false,
         FrameKind::Message => false,
     }

@@ -1,4 +1,4 @@
-use crate::parts::{Part, part_of};
+use crate::parts::{Part, part_of, put_part};
 use broker_history::{Act, Entry};
 use nsq_base::Memory;
 use nsq_outside::End;
@@ -11,12 +11,22 @@ pub fn own(
     history: &[(Entry, End)],
 ) -> Result<Vec<(Part<'_>, End)>, Memory> {
     let mut own = Vec::new(alloc);
+    put_own(&mut own, number, history)?;
+    Ok(own)
+}
+
+// Adds what the entries of a connection are in its conversation.
+fn put_own<'a>(
+    own: &mut Vec<(Part<'a>, End)>,
+    number: u64,
+    history: &'a [(Entry, End)],
+) -> Result<(), Memory> {
     for (entry, end) in history {
         if let Some(part) = own_part(number, entry) {
-            own.push((part, *end))?;
+            put_part(own, part, *end)?;
         }
     }
-    Ok(own)
+    Ok(())
 }
 
 // What the entry is in the conversation of a connection, where it is one of its own: no move, nor the daemon's Stuck, nor a Ticked, which
@@ -33,33 +43,15 @@ fn own_part(number: u64, entry: &Entry) -> Option<Part<'_>> {
 
 /// Whether a Stop stands before the Gone of the connection of this number; without a Gone none does.
 pub fn stops_before_gone(number: u64, history: &[(Entry, End)]) -> bool {
-    let Some(((first, _), rest)) = history.split_first() else {
-        return false;
-    };
-    if is_stop(&first.act) {
-        return has_gone(number, rest);
+    let mut stopped = false;
+    for (entry, _) in history {
+        if is_stop(&entry.act) {
+            stopped = true;
+        } else if entry.conn == number && is_gone(&entry.act) {
+            return stopped;
+        }
     }
-    if first.conn != number {
-        return stops_before_gone(number, rest);
-    }
-    if is_gone(&first.act) {
-        return false;
-    }
-    stops_before_gone(number, rest)
-}
-
-// Whether the connection of this number is gone in these entries.
-fn has_gone(number: u64, history: &[(Entry, End)]) -> bool {
-    let Some(((first, _), rest)) = history.split_first() else {
-        return false;
-    };
-    if first.conn != number {
-        return has_gone(number, rest);
-    }
-    if is_gone(&first.act) {
-        return true;
-    }
-    has_gone(number, rest)
+    false
 }
 
 // Whether the act is a Stop.

@@ -36,18 +36,25 @@ pub enum Part<'a> {
 /// What the act is in the conversation of its connection.
 pub fn part_of(act: &Act) -> Part<'_> {
     match act {
-        Act::Began => Part::Began,
         Act::Did(command, reply) => Part::Took(command, reply),
         Act::Refused(fault, frame) => Part::Refused(*fault, frame),
         Act::Sent(message) => Part::Sent(message),
+        Act::Stuck(_, Some(_)) => Part::Rested,
+        Act::Asked(_, _) | Act::Listed(_) => Part::Other,
+        _ => plain_part(act),
+    }
+}
+
+// The same of an act that says nothing more.
+fn plain_part(act: &Act) -> Part<'_> {
+    match act {
+        Act::Began => Part::Began,
         Act::Beat => Part::Beat,
         Act::Idle => Part::Rested,
         Act::Silent => Part::Silent,
         Act::Dropped => Part::Dropped,
         Act::Gone => Part::Gone,
-        Act::Stuck(_, Some(_)) => Part::Rested,
         Act::Stop => Part::Stop,
-        Act::Asked(_, _) | Act::Listed(_) => Part::Other,
         _ => Part::Common,
     }
 }
@@ -55,8 +62,28 @@ pub fn part_of(act: &Act) -> Part<'_> {
 /// What these entries are in the conversation of their connection, each with its end.
 pub fn parts_of(alloc: Global, entries: &[(Entry, End)]) -> Result<Vec<(Part<'_>, End)>, Memory> {
     let mut parts = Vec::new(alloc);
-    for (entry, end) in entries {
-        parts.push((part_of(&entry.act), *end))?;
-    }
+    put_parts(&mut parts, entries)?;
     Ok(parts)
+}
+
+// Adds what these entries are.
+fn put_parts<'a>(
+    parts: &mut Vec<(Part<'a>, End)>,
+    entries: &'a [(Entry, End)],
+) -> Result<(), Memory> {
+    for (entry, end) in entries {
+        put_part(parts, part_of(&entry.act), *end)?;
+    }
+    Ok(())
+}
+
+/// Adds what an entry with this end is.
+pub fn put_part<'a>(
+    parts: &mut Vec<(Part<'a>, End)>,
+    part: Part<'a>,
+    end: End,
+) -> Result<(), Memory> {
+    parts.reserve(1)?;
+    parts.push_reserved((part, end));
+    Ok(())
 }

@@ -1,10 +1,10 @@
-use crate::answers::{answered, closes_answer};
+use crate::answers::closes;
 use crate::parts::Part;
-use crate::standing::{Front, MAGIC, MOST_SENT, Round, Standing, judged, settle};
-use nsq_base::{Body, Memory};
+use crate::standing::{Front, MAGIC, MOST_SENT, Round, Standing, Stream, judged, settle};
+use nsq_base::Memory;
 use nsq_outside::End;
 use std::alloc::Global;
-use v2_frame::{Command, Fault, FaultKind, Limits};
+use v2_frame::{Fault, FaultKind};
 
 /// The place from which on faults are told as at this place.
 const LAST_PLACE: u64 = 1 << 63;
@@ -12,12 +12,11 @@ const LAST_PLACE: u64 = 1 << 63;
 /// Whether the conversation goes on behind these parts, with all pieces read.
 pub fn is_open(
     alloc: Global,
-    limits: Limits,
-    pieces: &[Body],
+    stream: Stream<'_>,
     parts: &[(Part<'_>, End)],
 ) -> Result<bool, Memory> {
-    let standings = standings(alloc, limits, pieces, parts)?;
-    Ok(has_read(&standings, pieces.len()))
+    let standings = standings(alloc, stream, parts)?;
+    Ok(has_read(&standings, stream.pieces.len()))
 }
 
 // Whether one of them read so many pieces.
@@ -33,12 +32,11 @@ fn has_read(standings: &[Standing], count: usize) -> bool {
 /// Whether the conversation is to read behind these parts, with all pieces read.
 pub fn is_waiting(
     alloc: Global,
-    limits: Limits,
-    pieces: &[Body],
+    stream: Stream<'_>,
     parts: &[(Part<'_>, End)],
 ) -> Result<bool, Memory> {
-    let standings = standings(alloc, limits, pieces, parts)?;
-    Ok(is_one_waiting(&standings, pieces.len()))
+    let standings = standings(alloc, stream, parts)?;
+    Ok(is_one_waiting(&standings, stream.pieces.len()))
 }
 
 // Whether one of them is to read, and read so many pieces.
@@ -54,29 +52,27 @@ fn is_one_waiting(standings: &[Standing], count: usize) -> bool {
 /// Whether the last of these entries ended the conversation, with all pieces read.
 pub fn is_closed(
     alloc: Global,
-    limits: Limits,
-    pieces: &[Body],
+    stream: Stream<'_>,
     parts: &[(Part<'_>, End)],
 ) -> Result<bool, Memory> {
     let Some(((last, end), before)) = parts.split_last() else {
         return Ok(false);
     };
-    let standings = standings(alloc, limits, pieces, before)?;
-    is_one_closed(alloc, limits, pieces, &standings, *last, *end)
+    let standings = standings(alloc, stream, before)?;
+    is_one_closed(alloc, stream, &standings, *last, *end)
 }
 
 // Whether the part ends the conversation that stands in one of these ways, with all pieces read.
 fn is_one_closed(
     alloc: Global,
-    limits: Limits,
-    pieces: &[Body],
+    stream: Stream<'_>,
     standings: &[Standing],
     part: Part<'_>,
     end: End,
 ) -> Result<bool, Memory> {
     for standing in standings {
-        if standing.read == pieces.len()
-            && is_closed_by(alloc, limits, pieces, *standing, part, end)?
+        if standing.read == stream.pieces.len()
+            && is_closed_by(alloc, stream, *standing, part, end)?
         {
             return Ok(true);
         }
@@ -87,8 +83,7 @@ fn is_one_closed(
 // Where the conversation may stand behind these parts, by how the pieces may have been read between them.
 fn standings(
     alloc: Global,
-    limits: Limits,
-    pieces: &[Body],
+    stream: Stream<'_>,
     parts: &[(Part<'_>, End)],
 ) -> Result<Vec<Standing>, Memory> {
     let mut standings = Vec::new(alloc);
@@ -96,10 +91,10 @@ fn standings(
         return Ok(standings);
     };
     if let Part::Began = first {
-        settle(alloc, limits, pieces, &mut standings, Standing::first())?;
+        settle(alloc, stream, &mut standings, Standing::first())?;
     }
     for (part, end) in rest {
-        standings = behind(alloc, limits, pieces, &standings, *part, *end)?;
+        standings = behind(alloc, stream, &standings, *part, *end)?;
     }
     Ok(standings)
 }
@@ -107,16 +102,15 @@ fn standings(
 // Where the conversation may stand behind one more entry.
 fn behind(
     alloc: Global,
-    limits: Limits,
-    pieces: &[Body],
+    stream: Stream<'_>,
     standings: &[Standing],
     part: Part<'_>,
     end: End,
 ) -> Result<Vec<Standing>, Memory> {
     let mut next = Vec::new(alloc);
     for standing in standings {
-        if let Some(led) = led_to(alloc, limits, pieces, *standing, part, end)? {
-            settle(alloc, limits, pieces, &mut next, led)?;
+        if let Some(led) = led_to(alloc, stream, *standing, part, end)? {
+            settle(alloc, stream, &mut next, led)?;
         }
     }
     Ok(next)
@@ -125,8 +119,7 @@ fn behind(
 // Where an entry leads a conversation that stands so, None where it can't be its next one, or ends it.
 fn led_to(
     alloc: Global,
-    limits: Limits,
-    pieces: &[Body],
+    stream: Stream<'_>,
     standing: Standing,
     part: Part<'_>,
     end: End,
@@ -135,17 +128,12 @@ fn led_to(
         Round::Sending(sent) => Ok(led_sending(standing, sent, part)),
         Round::Reading => Ok(None),
         Round::Doing => {
-            if closes(alloc, part, end)? {
+            if closes(part, end) {
                 return Ok(None);
             }
-            led_doing(alloc, limits, pieces, standing, part)
+            led_doing(alloc, stream, standing, part)
         }
     }
-}
-
-// Whether the connection is closed after what the client got by this.
-fn closes(alloc: Global, part: Part<'_>, end: End) -> Result<bool, Memory> {
-    Ok(closes_answer(&answered(alloc, part, end)?))
 }
 
 // The same where so many were sent in its round.
@@ -163,15 +151,14 @@ fn led_sending(standing: Standing, sent: u64, part: Part<'_>) -> Option<Standing
 // The same where its round does what was read, and the entry took a command.
 fn led_doing(
     alloc: Global,
-    limits: Limits,
-    pieces: &[Body],
+    stream: Stream<'_>,
     standing: Standing,
     part: Part<'_>,
 ) -> Result<Option<Standing>, Memory> {
     let Part::Took(command, _) = part else {
         return Ok(None);
     };
-    match judged(alloc, limits, pieces, standing, Some(command))? {
+    match judged(alloc, stream, standing, Some(command))? {
         Front::Whole(taken) => {
             let done = standing.done.saturating_add(taken);
             Ok(Some(Standing { done, ..standing }))
@@ -183,8 +170,7 @@ fn led_doing(
 // Whether the entry ends a conversation that stands so.
 fn is_closed_by(
     alloc: Global,
-    limits: Limits,
-    pieces: &[Body],
+    stream: Stream<'_>,
     standing: Standing,
     part: Part<'_>,
     end: End,
@@ -192,7 +178,7 @@ fn is_closed_by(
     match standing.round {
         Round::Sending(sent) => Ok(closes_sending(sent, part)),
         Round::Reading => Ok(false),
-        Round::Doing => closes_doing(alloc, limits, pieces, standing, part, end),
+        Round::Doing => closes_doing(alloc, stream, standing, part, end),
     }
 }
 
@@ -208,33 +194,27 @@ fn closes_sending(sent: u64, part: Part<'_>) -> bool {
 // Whether the entry ends a conversation whose round does what was read.
 fn closes_doing(
     alloc: Global,
-    limits: Limits,
-    pieces: &[Body],
+    stream: Stream<'_>,
     standing: Standing,
     part: Part<'_>,
     end: End,
 ) -> Result<bool, Memory> {
     match part {
         Part::Took(_, _) => {
-            if !closes(alloc, part, end)? {
+            if !closes(part, end) {
                 return Ok(false);
             }
-            Ok(led_doing(alloc, limits, pieces, standing, part)?.is_some())
+            Ok(led_doing(alloc, stream, standing, part)?.is_some())
         }
-        Part::Refused(fault, _) => has_fault(alloc, limits, pieces, standing, fault),
-        Part::Dropped => has_command(alloc, limits, pieces, standing),
+        Part::Refused(fault, _) => has_fault(alloc, stream, standing, fault),
+        Part::Dropped => has_command(alloc, stream, standing),
         _ => Ok(false),
     }
 }
 
 // Whether a whole command stands at the front of the bytes that aren't done.
-fn has_command(
-    alloc: Global,
-    limits: Limits,
-    pieces: &[Body],
-    standing: Standing,
-) -> Result<bool, Memory> {
-    match judged(alloc, limits, pieces, standing, None)? {
+fn has_command(alloc: Global, stream: Stream<'_>, standing: Standing) -> Result<bool, Memory> {
+    match judged(alloc, stream, standing, None)? {
         Front::Whole(_) => Ok(true),
         _ => Ok(false),
     }
@@ -243,17 +223,15 @@ fn has_command(
 // Whether the bytes that aren't done have this fault.
 fn has_fault(
     alloc: Global,
-    limits: Limits,
-    pieces: &[Body],
+    stream: Stream<'_>,
     standing: Standing,
     fault: Fault,
 ) -> Result<bool, Memory> {
     if !standing.greeted {
         let kind = FaultKind::BadMagic;
-        let bytes = standing.read_bytes(alloc, pieces)?;
-        return Ok(fault == Fault { kind, at: 0 } && is_bad_magic(standing.pending(&bytes)));
+        return Ok(fault == Fault { kind, at: 0 } && is_bad_magic(standing.pending(stream)));
     }
-    match judged(alloc, limits, pieces, standing, None)? {
+    match judged(alloc, stream, standing, None)? {
         Front::Faulty(kind, at) => {
             let at = (standing.done.saturating_add(at) as u64).min(LAST_PLACE);
             Ok(fault == Fault { kind, at })

@@ -23,11 +23,24 @@ pub enum Round {
     Doing,
 }
 
+/// What a client sent.
+#[derive(Clone, Copy)]
+pub struct Stream<'a> {
+    /// The greatest sizes that are taken in it.
+    pub limits: Limits,
+    /// Its pieces.
+    pub pieces: &'a [Body],
+    /// The bytes of its pieces.
+    pub bytes: &'a [u8],
+}
+
 /// Where a conversation may stand behind its entries.
 #[derive(Clone, Copy, PartialEq)]
 pub struct Standing {
     /// How many pieces were read.
     pub read: usize,
+    /// How many bytes these pieces have.
+    pub got: usize,
     /// Whether the magic was read.
     pub greeted: bool,
     /// How many bytes of the stream are done, the magic among them.
@@ -41,6 +54,7 @@ impl Standing {
     pub fn first() -> Standing {
         Standing {
             read: 0,
+            got: 0,
             greeted: false,
             done: 0,
             round: Round::Sending(0),
@@ -60,30 +74,17 @@ impl Standing {
         }
     }
 
-    /// The bytes of the pieces read.
-    pub fn read_bytes(&self, alloc: Global, pieces: &[Body]) -> Result<Vec<u8>, Memory> {
-        joined(alloc, firsts(pieces, self.read))
-    }
-
     /// Those of the bytes read that aren't done.
-    pub fn pending<'a>(&self, bytes: &'a [u8]) -> &'a [u8] {
-        match bytes.get(self.done..) {
+    pub fn pending<'a>(&self, stream: Stream<'a>) -> &'a [u8] {
+        match stream.bytes.get(self.done..self.got) {
             Some(pending) => pending,
             None => b"",
         }
     }
 }
 
-// So many of the first pieces, or all.
-fn firsts(pieces: &[Body], count: usize) -> &[Body] {
-    match pieces.get(..count) {
-        Some(firsts) => firsts,
-        None => pieces,
-    }
-}
-
-// The bytes of pieces, one behind another.
-fn joined(alloc: Global, pieces: &[Body]) -> Result<Vec<u8>, Memory> {
+/// The bytes of pieces, one behind another.
+pub fn joined(alloc: Global, pieces: &[Body]) -> Result<Vec<u8>, Memory> {
     let mut bytes = Vec::new(alloc);
     for piece in pieces {
         bytes.extend_from_slice(piece.bytes())?;
@@ -107,16 +108,14 @@ pub enum Front {
 /// What stands at the front of the bytes of a conversation that stands so.
 pub fn judged(
     alloc: Global,
-    limits: Limits,
-    pieces: &[Body],
+    stream: Stream<'_>,
     standing: Standing,
     wanted: Option<&Command>,
 ) -> Result<Front, Memory> {
     if !standing.greeted {
         return Ok(Front::Other);
     }
-    let bytes = standing.read_bytes(alloc, pieces)?;
-    let found = judge_front(alloc, limits, standing.pending(&bytes))?;
+    let found = judge_front(alloc, stream.limits, standing.pending(stream))?;
     Ok(front_of(&found, wanted))
 }
 
@@ -145,8 +144,7 @@ fn is_wanted(command: &Command, wanted: Option<&Command>) -> bool {
 /// read gives nothing or the next piece; the magic is done; and where nothing more can be done, a new round begins.
 pub fn settle(
     alloc: Global,
-    limits: Limits,
-    pieces: &[Body],
+    stream: Stream<'_>,
     standings: &mut Vec<Standing>,
     standing: Standing,
 ) -> Result<(), Memory> {
@@ -154,32 +152,25 @@ pub fn settle(
         Round::Sending(sent) => {
             add(standings, standing)?;
             if sent == MOST_SENT {
-                settle_reading(
-                    alloc,
-                    limits,
-                    pieces,
-                    standings,
-                    standing.at(Round::Reading),
-                )?;
+                settle_reading(alloc, stream, standings, standing.at(Round::Reading))?;
             }
             Ok(())
         }
-        Round::Reading => settle_reading(alloc, limits, pieces, standings, standing),
-        Round::Doing => settle_doing(alloc, limits, pieces, standings, standing),
+        Round::Reading => settle_reading(alloc, stream, standings, standing),
+        Round::Doing => settle_doing(alloc, stream, standings, standing),
     }
 }
 
 // The same of one that is to read.
 fn settle_reading(
     alloc: Global,
-    limits: Limits,
-    pieces: &[Body],
+    stream: Stream<'_>,
     standings: &mut Vec<Standing>,
     standing: Standing,
 ) -> Result<(), Memory> {
     add(standings, standing)?;
     add(standings, standing.at(Round::Sending(0)))?;
-    let Some(piece) = pieces.get(standing.read) else {
+    let Some(piece) = stream.pieces.get(standing.read) else {
         return Ok(());
     };
     let size = piece.bytes().len();
@@ -188,26 +179,25 @@ fn settle_reading(
     }
     let read = Standing {
         read: standing.read + 1,
+        got: standing.got.saturating_add(size),
         round: Round::Doing,
         ..standing
     };
-    settle_doing(alloc, limits, pieces, standings, read)
+    settle_doing(alloc, stream, standings, read)
 }
 
 // The same of one that does what was read.
 fn settle_doing(
     alloc: Global,
-    limits: Limits,
-    pieces: &[Body],
+    stream: Stream<'_>,
     standings: &mut Vec<Standing>,
     standing: Standing,
 ) -> Result<(), Memory> {
     add(standings, standing)?;
     if standing.greeted {
-        return settle_greeted(alloc, limits, pieces, standings, standing);
+        return settle_greeted(alloc, stream, standings, standing);
     }
-    let bytes = standing.read_bytes(alloc, pieces)?;
-    let pending = standing.pending(&bytes);
+    let pending = standing.pending(stream);
     if pending.len() < MAGIC.len() {
         return add(standings, standing.at(Round::Sending(0)));
     }
@@ -220,18 +210,17 @@ fn settle_doing(
         ..standing
     };
     add(standings, greeted)?;
-    settle_greeted(alloc, limits, pieces, standings, greeted)
+    settle_greeted(alloc, stream, standings, greeted)
 }
 
 // The same of one that stands among the standings, behind the magic.
 fn settle_greeted(
     alloc: Global,
-    limits: Limits,
-    pieces: &[Body],
+    stream: Stream<'_>,
     standings: &mut Vec<Standing>,
     standing: Standing,
 ) -> Result<(), Memory> {
-    match judged(alloc, limits, pieces, standing, None)? {
+    match judged(alloc, stream, standing, None)? {
         Front::Unfinished => add(standings, standing.at(Round::Sending(0))),
         _ => Ok(()),
     }

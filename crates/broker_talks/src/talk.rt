@@ -2,6 +2,7 @@ use crate::entries::{own, stops_before_gone};
 use crate::output::{frames, is_cut_short, is_given_up, same};
 use crate::parts::{Part, parts_of};
 use crate::rounds::{is_closed, is_open, is_waiting};
+use crate::standing::{Stream, joined};
 use broker_history::{Ended, Entry};
 use nsq_base::{Body, Memory};
 use nsq_outside::End;
@@ -54,61 +55,74 @@ fn is_talk_of(
     out: &[u8],
     ended: Ended,
 ) -> Result<bool, Memory> {
+    let bytes = joined(alloc, pieces)?;
+    let stream = Stream {
+        limits,
+        pieces,
+        bytes: &bytes,
+    };
+    is_talk_over(alloc, stream, stopped, wanted, own, out, ended)
+}
+
+// The same of what the client sent.
+fn is_talk_over(
+    alloc: Global,
+    stream: Stream<'_>,
+    stopped: bool,
+    wanted: u64,
+    own: &[(Part<'_>, End)],
+    out: &[u8],
+    ended: Ended,
+) -> Result<bool, Memory> {
     if let Some(parts) = without_gone(own) {
-        if finishes(alloc, limits, stopped, pieces, parts, out, ended)? {
+        if finishes(alloc, stream, stopped, parts, out, ended)? {
             return Ok(true);
         }
     }
-    if wanted > 0
-        && may_lack_gone(ended)
-        && finishes(alloc, limits, stopped, pieces, own, out, ended)?
-    {
+    if wanted > 0 && may_lack_gone(ended) && finishes(alloc, stream, stopped, own, out, ended)? {
         return Ok(true);
     }
-    never_begins(alloc, pieces, own, out, ended)
+    never_begins(alloc, stream.pieces, own, out, ended)
 }
 
 // Whether the conversation came to its end behind these parts, and this was written.
 fn finishes(
     alloc: Global,
-    limits: Limits,
+    stream: Stream<'_>,
     stopped: bool,
-    pieces: &[Body],
     parts: &[(Part<'_>, End)],
     out: &[u8],
     ended: Ended,
 ) -> Result<bool, Memory> {
-    Ok(writes(alloc, parts, out, ended)? && reaches(alloc, limits, stopped, pieces, parts, ended)?)
+    if !writes(alloc, parts, out, ended)? {
+        return Ok(false);
+    }
+    reaches(alloc, stream, stopped, parts, ended)
 }
 
 // Whether a conversation that ended so may have stood behind these entries.
 fn reaches(
     alloc: Global,
-    limits: Limits,
+    stream: Stream<'_>,
     stopped: bool,
-    pieces: &[Body],
     parts: &[(Part<'_>, End)],
     ended: Ended,
 ) -> Result<bool, Memory> {
     match ended {
-        Ended::EndOfInput | Ended::ReadFault => is_waiting(alloc, limits, pieces, parts),
-        Ended::Closed => is_reached(alloc, limits, stopped, pieces, parts),
-        Ended::WriteFault | Ended::Memory => is_reached(alloc, limits, true, pieces, parts),
+        Ended::EndOfInput | Ended::ReadFault => is_waiting(alloc, stream, parts),
+        Ended::Closed => is_reached(alloc, stream, stopped, parts),
+        Ended::WriteFault | Ended::Memory => is_reached(alloc, stream, true, parts),
     }
 }
 
 // Whether the conversation came to these entries: the last ended it, or it goes on behind them, where it may.
 fn is_reached(
     alloc: Global,
-    limits: Limits,
+    stream: Stream<'_>,
     may_go_on: bool,
-    pieces: &[Body],
     parts: &[(Part<'_>, End)],
 ) -> Result<bool, Memory> {
-    Ok(
-        is_closed(alloc, limits, pieces, parts)?
-            || may_go_on && is_open(alloc, limits, pieces, parts)?,
-    )
+    Ok(is_closed(alloc, stream, parts)? || may_go_on && is_open(alloc, stream, parts)?)
 }
 
 // Whether these bytes are what a conversation that ended so wrote for its entries.
@@ -140,9 +154,8 @@ fn may_lack_gone(ended: Ended) -> bool {
 
 // The entries before the Gone, where a Gone is the last.
 fn without_gone<'a>(own: &'a [(Part<'a>, End)]) -> Option<&'a [(Part<'a>, End)]> {
-    let ((last, _), before) = own.split_last()?;
-    match last {
-        Part::Gone => Some(before),
+    match own.split_last() {
+        Some(((Part::Gone, _), before)) => Some(before),
         _ => None,
     }
 }

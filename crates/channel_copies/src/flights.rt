@@ -3,13 +3,15 @@ ghost use Rattle.std.specs.Bool.{MatchBool};
 ghost use Rattle.backlog.specs.declared.backlog.Lent.TheVariants.{Nothing};
 ghost use Rattle.backlog.specs.Seen.{FitsLimit};
 ghost use Rattle.channel_copies.specs.Flights.{Finds, Leaves, MovesBack, Prolongs, CostsCalls, first_due, flights_of_id, flights_with, soonest};
-ghost use Rattle.channel_copies.specs.Putting.{around};
+ghost use Rattle.backlog_writing.specs.Putting.{around};
 
 use crate::flight::Flight;
-use crate::putting::{Back, put_back};
+use crate::putting::Back;
 use crate::tally::{count_down, count_up};
 use backlog::{Backlog, PutOne};
+use backlog_writing::put_back;
 use due_heap::{DueHeap, Key};
+use flight_rules::forget;
 use nsq_base::{Memory, MsgId, Steps};
 use nsq_outside::Folder;
 use std::alloc::Global;
@@ -173,7 +175,7 @@ impl Flights {
             return None;
         };
         let flight = self.heap.remove(key, steps);
-        let _ = self.keys.remove(&flight.message.id);
+        forget(&mut self.keys, &flight.message.id);
         count_down(&mut self.held, flight.client);
         Some(flight)
     }
@@ -218,7 +220,7 @@ impl Flights {
         } = self.heap.remove(key, steps);
         match put_back(backlog, folder, scratch, message) {
             PutOne::Kept | PutOne::Dropped | PutOne::Spilled => {
-                let _ = self.keys.remove(&id);
+                forget(&mut self.keys, &id);
                 count_down(&mut self.held, client);
                 Back::Done
             }

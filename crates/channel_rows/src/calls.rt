@@ -2,7 +2,7 @@
 
 ghost use Rattle.channel_rows.specs.Served.{IsOurs};
 
-use crate::words::{cut, id, id_of, letter, moment, number, same, words};
+use crate::words::{cut, id, id_of, letter, moment, number, same, unknown, words};
 use nsq_base::MsgId;
 use std::process::Abort;
 use v2_frame::Message;
@@ -260,8 +260,10 @@ pub fn call_in(rt: &impl Abort, word: &str, taken: &str) -> Option<Call> {
     for field in fields.split(' ') {
         fill(rt, &mut call, field, words.next().unwrap_or(""));
     }
-    assert!(rt; words.next().is_none(), "{} is too much", taken);
-    Some(call)
+    match words.next() {
+        Some(_) => unknown(rt, taken),
+        None => Some(call),
+    }
 }
 
 // Gives the call what a word says.
@@ -292,7 +294,7 @@ pub fn client_named(rt: &impl Abort, word: &str) -> Who {
     match word {
         "first" => Who::First,
         "second" => Who::Second,
-        _ => panic!(rt; "{} is no client", word),
+        _ => unknown(rt, word),
     }
 }
 
@@ -300,6 +302,6 @@ fn is_on(rt: &impl Abort, word: &str) -> bool {
     match word {
         "on" => true,
         "off" => false,
-        _ => panic!(rt; "{} is neither on nor off", word),
+        _ => unknown(rt, word),
     }
 }

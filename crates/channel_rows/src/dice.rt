@@ -4,7 +4,7 @@ ghost use Rattle.std.specs.Prelude.{◌≤◌, ◌<◌};
 
 use crate::calls::{Call, Who};
 use crate::stage::MINUTE;
-use crate::words::{MOST, cut, number};
+use crate::words::{MOST, cut, number, unknown};
 use nsq_base::MsgId;
 use nsq_fakes::{Failing, FolderCall};
 use std::alloc::Global;
@@ -57,7 +57,7 @@ impl Dice {
             }
             left = left.saturating_sub(weight);
         }
-        panic!(rt; "the weights are less than their sum")
+        unknown(rt, lines)
     }
 
     /// Gives the call what these words name, in their order.
@@ -94,7 +94,7 @@ impl Dice {
             "takes" => call.on = self.below(4) != 0,
             "letter" => call.letter = b'a'.wrapping_add(self.below(3) as u8),
             "" => {}
-            _ => panic!(rt; "{} is nothing to draw", name),
+            _ => unknown(rt, name),
         }
     }
 

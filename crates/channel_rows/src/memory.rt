@@ -6,7 +6,7 @@ ghost use Rattle.std.specs.Prelude.{◌≡◌, ◌<◌};
 use crate::calls::{Call, Came, Does, call_in};
 use crate::script::{begin, shows, stage, step_of};
 use crate::stage::{MINUTE, Stage, end};
-use crate::words::{cut, id_of};
+use crate::words::{check, cut, id_of};
 use channel_core::{Counts, Look};
 use nsq_base::{Memory, Steps};
 use nsq_fakes::MemFolder;
@@ -117,33 +117,30 @@ fn holds<L: Ledger>(rt: &impl Abort, stage: &mut Stage<L>, begun: &str) -> Resul
     Ok(true)
 }
 
-// The first channel of which something doesn't hold, if any. What wants memory before the calls or between them ends those of a channel.
-fn first_wrong<L: Ledger>(rt: &impl Abort, stage: &mut Stage<L>) -> Option<&'static str> {
+// Checks each channel. What wants memory before the calls or between them ends those of a channel.
+fn check_all<L: Ledger>(rt: &impl Abort, stage: &mut Stage<L>) {
     for begun in &BEGUN {
-        match holds(rt, stage, begun) {
-            Ok(true) | Err(Memory) => {}
-            Ok(false) => return Some(begun),
-        }
+        let holds = match holds(rt, stage, begun) {
+            Ok(holds) => holds,
+            Err(Memory) => true,
+        };
+        check(rt, holds, begun);
     }
-    None
 }
 
-fn wrong_channel<R: Abort, L: Ledger>(rt: &R, alloc: Global, blank: Blank) -> Option<&'static str>
+fn check_channels<R: Abort, L: Ledger>(rt: &R, alloc: Global, blank: Blank)
     requires name { blank.name ≡ L.name }
     requires parts { blank.parts ≡ L.parts }
     requires some { 0 < L.parts }
 {
     let steps: Steps<L> = Steps::new(blank);
-    let Ok(mut stage) = stage(rt, alloc, steps) else {
-        return None;
-    };
-    let wrong = first_wrong(rt, &mut stage);
-    end(stage);
-    wrong
+    if let Ok(mut stage) = stage(rt, alloc, steps) {
+        check_all(rt, &mut stage);
+        end(stage);
+    }
 }
 
 #[test]
 fn a_refused_call_leaves_all_as_it_was(rt: HostRuntime) {
-    let wrong = wrong_channel::<_, Brand>(&rt, rt.alloc(), Blank::new(1));
-    assert_eq!(rt; wrong, None);
+    check_channels::<_, Brand>(&rt, rt.alloc(), Blank::new(1));
 }

@@ -8,7 +8,7 @@ use crate::broker::channels;
 use crate::calls::{Answer, Call, Came, Does, call_of, kind_of};
 use crate::dice::Dice;
 use crate::plain::Plain;
-use crate::runs::{SEEDS, all_runs, folder_of, options_of, run_of};
+use crate::runs::{SEEDS, all_runs, check_seed, folder_of, options_of, run_of};
 use crate::script::stage;
 use crate::stage::{Stage, end, setup_of};
 use crate::words::cut;
@@ -115,13 +115,14 @@ impl<L: Ledger> Pair<L> {
         let (times, calls) = if is_listed { (80, 8_000) } else { (32, 400) };
         let folder = folder_of(rt, alloc, &run, &mut dice, times, calls);
         let setup = setup_of(rt, alloc, run.channel(), options_of(rt, alloc, &run));
-        self.side = if is_listed {
+        let side = if is_listed {
             Side::Listed(Plain::new(alloc, &run))
         } else {
             Side::Possible(channels::beside(rt, &setup, run.fails))
         };
         self.stage.renew(setup, folder).expect(rt, "memory");
         self.dice = dice;
+        let_go(std::mem::replace(&mut self.side, side));
     }
 
     // One random call. Whether it answers, and the channel tells afterwards, what is right.
@@ -217,23 +218,17 @@ fn holds<L: Ledger>(rt: &impl Abort, pair: &mut Pair<L>, calls: u64) -> bool {
     true
 }
 
-// The first of these runs that doesn't hold with this seed, if any: of 170 calls beside the whole broker, which makes a little over 2,000 of each seed,
-// and of 2,000 beside a list.
-fn wrong_in<L: Ledger>(
+// Checks a run with this seed: of 170 calls beside the whole broker, which makes a little over 2,000 of each seed, and of 2,000 beside a list.
+fn check_run<L: Ledger>(
     rt: &impl Abort,
     pair: &mut Pair<L>,
-    rows: &[&'static str],
+    row: &'static str,
     seed: u64,
     is_listed: bool,
-) -> Option<&'static str> {
+) {
     let calls = if is_listed { 2_000 } else { 170 };
-    for row in rows {
-        pair.begin(rt, row, seed, is_listed);
-        if !holds(rt, pair, calls) {
-            return Some(row);
-        }
-    }
-    None
+    pair.begin(rt, row, seed, is_listed);
+    check_seed(rt, holds(rt, pair, calls), row, seed);
 }
 
 // The run of a seed beside a list.
@@ -241,47 +236,39 @@ fn listed_run(seed: u64) -> &'static str {
     LISTED_RUNS[seed as usize % LISTED_RUNS.len()]
 }
 
-// The seed and the first run that doesn't hold, if any.
-fn first_wrong<L: Ledger>(
-    rt: &impl Abort,
-    pair: &mut Pair<L>,
-    is_listed: bool,
-) -> Option<(u64, &'static str)> {
+// Checks the runs of all seeds.
+fn check_all<L: Ledger>(rt: &impl Abort, pair: &mut Pair<L>, is_listed: bool) {
     for i in 0..SEEDS {
         let seed = i + 1;
-        let wrong = if is_listed {
-            wrong_in(rt, pair, &[listed_run(seed)], seed, true)
+        if is_listed {
+            check_run(rt, pair, listed_run(seed), seed, true);
         } else {
-            wrong_in(rt, pair, all_runs(), seed, false)
-        };
-        if let Some(row) = wrong {
-            return Some((seed, row));
+            for row in all_runs() {
+                check_run(rt, pair, row, seed, false);
+            }
         }
     }
-    None
 }
 
-fn wrong_run<R: Abort, L: Ledger>(
-    rt: &R,
-    alloc: Global,
-    is_listed: bool,
-    blank: Blank,
-) -> Option<(u64, &'static str)>
+fn check_runs<R: Abort, L: Ledger>(rt: &R, alloc: Global, is_listed: bool, blank: Blank)
     requires name { blank.name ≡ L.name }
     requires parts { blank.parts ≡ L.parts }
     requires some { 0 < L.parts }
 {
     let steps: Steps<L> = Steps::new(blank);
     let mut pair = pair_of(rt, alloc, steps);
-    let wrong = first_wrong(rt, &mut pair, is_listed);
+    check_all(rt, &mut pair, is_listed);
     let Pair {
         stage,
-        side: _side,
+        side,
         dice: _,
     } = pair;
+    let_go(side);
     end(stage);
-    wrong
 }
+
+// Takes what stands beside a channel apart, once for all that held it.
+fn let_go(_side: Side) {}
 
 // A pair for whatever begins.
 fn pair_of<L: Ledger>(rt: &impl Abort, alloc: Global, steps: Steps<L>) -> Pair<L> {
@@ -294,12 +281,10 @@ fn pair_of<L: Ledger>(rt: &impl Abort, alloc: Global, steps: Steps<L>) -> Pair<L
 
 #[test]
 fn listed(rt: HostRuntime) {
-    let wrong = wrong_run::<_, Brand>(&rt, rt.alloc(), true, Blank::new(1));
-    assert_eq!(rt; wrong, None);
+    check_runs::<_, Brand>(&rt, rt.alloc(), true, Blank::new(1));
 }
 
 #[test]
 fn possible(rt: HostRuntime) {
-    let wrong = wrong_run::<_, Brand>(&rt, rt.alloc(), false, Blank::new(1));
-    assert_eq!(rt; wrong, None);
+    check_runs::<_, Brand>(&rt, rt.alloc(), false, Blank::new(1));
 }

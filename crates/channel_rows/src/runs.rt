@@ -3,7 +3,7 @@
 ghost use Rattle.channel_core.specs.Made.{FitsRun};
 
 use crate::dice::Dice;
-use crate::words::{number, part, same, words};
+use crate::words::{number, part, same, unknown, words};
 use nsq_base::{Body, Options};
 use nsq_fakes::MemFolder;
 use std::alloc::Global;
@@ -44,6 +44,11 @@ static ALL_RUNS: [&'static str; 12] = [
     "ephemeral, with room for 3 and a disk that fails: ephemeral 3 fails",
 ];
 
+/// Stops the run where one of this seed doesn't hold, and names both.
+pub fn check_seed(rt: &impl Abort, holds: bool, row: &str, seed: u64) {
+    assert!(rt; holds, "{}, with the seed {}", row, seed);
+}
+
 /// The run that a row tells.
 pub fn run_of(rt: &impl Abort, row: &str) -> Run {
     let (_, told) = part(rt, row, ": ");
@@ -57,9 +62,13 @@ pub fn run_of(rt: &impl Abort, row: &str) -> Run {
 
 // Whether it is the one word; else it is the other.
 fn is_word(rt: &impl Abort, word: &str, one: &str, other: &str) -> bool {
-    let is = same(word, one);
-    assert!(rt; is || same(word, other), "{} is no word of a run", word);
-    is
+    if same(word, one) {
+        true
+    } else if same(word, other) {
+        false
+    } else {
+        unknown(rt, word)
+    }
 }
 
 impl Run {

@@ -24,7 +24,7 @@ ghost use Rattle.channel_core.specs.Made.{FitsRun};
 
 use crate::calls::{call_in, client_named};
 use crate::stage::{Scratch, Stage, defaults, end, setup_of};
-use crate::words::{cut, halves, id, moment, number, part, same, words};
+use crate::words::{check, cut, halves, id, moment, number, part, same, unknown, words};
 use crate::{sending, storing};
 use channel_core::{Channel, Look};
 use nsq_base::{Memory, Steps};
@@ -82,7 +82,7 @@ fn fails_of(rt: &impl Abort, alloc: Global, call: &str, from: &str, to: &str) ->
         "write" => FolderCall::WriteAt,
         "read" => FolderCall::ReadAt,
         "any" => FolderCall::Any,
-        _ => panic!(rt; "{} is no call of a folder", call),
+        _ => unknown(rt, call),
     };
     let failing = Failing {
         call,
@@ -145,7 +145,7 @@ pub fn shows<L: Ledger>(rt: &impl Abort, stage: &Stage<L>, what: &str, wanted: &
         "has" => has_file(&stage.folder, rest, b""),
         "has-lines" => has_file(&stage.folder, rest, b"\n"),
         "absent" => stage.folder.file(rest).is_none(),
-        _ => panic!(rt; "{} is no step", word),
+        _ => unknown(rt, word),
     }
 }
 
@@ -212,42 +212,26 @@ fn behind<'a>(bytes: &'a [u8], piece: &[u8], end: &[u8]) -> Option<&'a [u8]> {
     bytes.strip_prefix(piece)?.strip_prefix(end)
 }
 
-// The first of these scripts that doesn't hold, if any.
-fn first_wrong<L: Ledger>(
-    rt: &impl Abort,
-    stage: &mut Stage<L>,
-    tables: &[&'static [&'static str]],
-) -> Option<&'static str> {
-    for scripts in tables {
-        for script in *scripts {
-            if !holds(rt, stage, script) {
-                return Some(script);
-            }
-        }
+// Checks these scripts.
+fn check_all<L: Ledger>(rt: &impl Abort, stage: &mut Stage<L>, scripts: &'static str) {
+    for script in scripts.trim().split("\n\n") {
+        check(rt, holds(rt, stage, script), script);
     }
-    None
 }
 
-fn wrong_script<R: Abort, L: Ledger>(
-    rt: &R,
-    alloc: Global,
-    tables: &[&'static [&'static str]],
-    blank: Blank,
-) -> Option<&'static str>
+fn check_scripts<R: Abort, L: Ledger>(rt: &R, alloc: Global, blank: Blank)
     requires name { blank.name ≡ L.name }
     requires parts { blank.parts ≡ L.parts }
     requires some { 0 < L.parts }
 {
     let steps: Steps<L> = Steps::new(blank);
     let mut stage = stage(rt, alloc, steps).expect(rt, "memory");
-    let wrong = first_wrong(rt, &mut stage, tables);
+    check_all(rt, &mut stage, sending::ROWS);
+    check_all(rt, &mut stage, storing::ROWS);
     end(stage);
-    wrong
 }
 
 #[test]
 fn rows(rt: HostRuntime) {
-    let tables = [sending::rows(), storing::rows()];
-    let wrong = wrong_script::<_, Brand>(&rt, rt.alloc(), &tables, Blank::new(1));
-    assert_eq!(rt; wrong, None);
+    check_scripts::<_, Brand>(&rt, rt.alloc(), Blank::new(1));
 }

@@ -136,14 +136,21 @@ fn let_go(_channel: Channel) {}
 /// Ends all calls.
 pub fn end<L: Ledger>(stage: Stage<L>) {
     let Stage {
-        setup: _setup,
+        setup,
         channel,
-        folder: _folder,
+        folder,
         scratch: _scratch,
         steps: _steps,
     } = stage;
     let_go(channel);
+    let_setup_go(setup);
+    let_folder_go(folder);
 }
+
+fn let_setup_go(_setup: Setup) {}
+
+/// Takes a folder apart, once for all that held one.
+pub fn let_folder_go(_folder: MemFolder) {}
 
 /// How it begins.
 impl<L: Ledger> Stage<L> {
@@ -168,8 +175,8 @@ impl<L: Ledger> Stage<L> {
 
     /// Such a channel takes the place of this one.
     pub fn renew(&mut self, setup: Setup, folder: MemFolder) -> Result<(), Memory> {
-        self.setup = setup;
-        self.folder = folder;
+        let_setup_go(std::mem::replace(&mut self.setup, setup));
+        let_folder_go(std::mem::replace(&mut self.folder, folder));
         match served(&self.setup) {
             Ok(fresh) => {
                 put(&mut self.channel, fresh);

@@ -66,8 +66,18 @@ fn time(rt: &impl Abort, word: &str) -> u64 {
 pub fn letter(rt: &impl Abort, word: &str) -> u8 {
     match word.as_bytes() {
         [letter] => *letter,
-        _ => panic!(rt; "{} is no letter", word),
+        _ => unknown(rt, word),
     }
+}
+
+/// Stops the run: nobody knows this word.
+pub fn unknown<T>(rt: &impl Abort, word: &str) -> T {
+    panic!(rt; "{} is no word of a row", word)
+}
+
+/// Stops the run where a row doesn't hold, and names it.
+pub fn check(rt: &impl Abort, holds: bool, name: &str) {
+    assert!(rt; holds, "{}", name);
 }
 
 /// The id of the number that a word says.

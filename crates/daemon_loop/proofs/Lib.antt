@@ -1,7 +1,5 @@
 pub mod Going
-pub mod Others
-pub mod Exchanges
-pub mod Handing
-pub mod Halting
-pub mod Staying
 pub mod Rounding
+pub use Rattle.daemon_callers.proofs.Handing
+pub use Rattle.daemon_callers.proofs.Halting
+pub use Rattle.daemon_callers.proofs.Others

@@ -1,75 +1,28 @@
 -- Rounds of the loop over the callers, one step at a time.
-use Rattle.std.proofs.Common.{inl, inr, ℕ, ◌≡◌, ◌≤◌, ◌+◌, ◌++◌, ◌∷◌, [], List, Bool, true, false, refl, sym, ◌∙◌, ap, subst, arith}
+use Rattle.std.proofs.Common.{ℕ, ◌≡◌, ◌≤◌, ◌+◌, ◌++◌, ◌∷◌, [], List, Bool, true, refl, sym, ◌∙◌, ap, subst, arith}
 use Rattle.std.specs.Prelude.{IsTrue}
-use Rattle.std.proofs.lemmas.Bool.{false≢true}
 use Rattle.nsq_base.specs.declared.options.Options.{Options}
 use Rattle.nsq_outside.specs.Causes.{Rose}
 use Rattle.nsq_outside.specs.Hosts.{HostContent, Accepts}
 use Rattle.nsq_outside.specs.declared.host.Kind.{Kind}
 use Rattle.nsq_outside.specs.declared.host.Accept.TheVariants.{Caller}
-use Rattle.broker_history.specs.Entries.{History, is_common, is_tick, own}
+use Rattle.broker_history.specs.Entries.{History, own}
 use Rattle.broker_history.proofs.Own.{own-append}
-use Rattle.desk.specs.Answers.{Adds, Answers, StopsSeen}
-use Rattle.desk.specs.declared.call.Call.TheVariants as call
-use Rattle.desk.specs.declared.turned.Turned.{Turned}
-use Rattle.desk.specs.declared.turned.Turned.TheVariants as turned
-use Rattle.turn_laws.specs.Laid.{AreActsFor, IsLaid}
 use Rattle.turn_laws.proofs.Laying.{turns_of}
 use Rattle.path_closing.specs.Scenes.{Scene}
 use Rattle.path_closing.specs.Leads.{Leads}
-use Rattle.path_closing.specs.Turns.{IsTurn}
-use Rattle.path_closing.proofs.Leading.{turn_leads}
 use Rattle.daemon_loop.specs.Going.{Went}
-use Rattle.daemon_loop.specs.Rounds.{IsTicked, Rounds, Ticks, ticked_of}
-use Rattle.daemon_loop.specs.Served.{HasServed, IsServed, OnlyCallersChange, UpTo, Views, ticks_of}
-use Rattle.daemon_loop.specs.declared.ticking.Ticked.{Ticked}
-use Rattle.daemon_loop.specs.declared.ticking.Ticked.TheVariants as ticked
+use Rattle.daemon_loop.specs.Rounds.{Rounds, Ticks, ticks_of}
+use Rattle.daemon_callers.specs.Served.{HasServed, IsServed, OnlyCallersChange, UpTo, Views}
+use Rattle.daemon_tick.specs.declared.ticking.Ticked.{Ticked}
+use Rattle.daemon_tick.specs.declared.ticking.Ticked.TheVariants as ticked
+pub use Rattle.daemon_tick.proofs.TickLaws.{ticks-append}
 use Rattle.daemon_loop.proofs.Going.{went_by, went_nowhere, went_then}
-use Rattle.daemon_loop.proofs.Others.{none_of, nothing_yet, one_tick, ticks-append, up_to_more}
-use Rattle.daemon_loop.proofs.Handing.{at_first, caller_changes, daemon_served, next_served, still_served}
+use Rattle.daemon_callers.proofs.Others.{none_of, nothing_yet, up_to_more}
+use Rattle.daemon_callers.proofs.Handing.{at_first, caller_changes, daemon_served, next_served, still_served}
 
 pub rose_wider : (a0 a a' a2 : ℕ) → a0 ≤ a → a' ≤ a2 → Rose a a' → Rose a0 a2
 rose_wider a0 a a' a2 l m r = omega (arith, l, m, r)
-
--- a tick that was answered Quiet was noted
-ticked_acts : (at : ℕ) (acts : History) → AreActsFor at 0 call.Tick turned.Quiet acts → ticks_of acts ≡ 1
-ticked_acts at [] a = absurd a
-ticked_acts at (e ∷ []) a = one_tick e (ap is_tick a.answers)
-ticked_acts at (e ∷ f ∷ h) a = absurd a
-
-ticked_laid : (at : ℕ) (h h' added : History) → h' ≡ h ++ added → IsLaid at 0 call.Tick turned.Quiet added → ticks_of h + 1 ≤ ticks_of h'
-ticked_laid at h h' added whole laid =
-    let front = laid.moves ++ laid.stuck in
-    let act : ticks_of laid.acts ≡ 1 = ticked_acts at laid.acts laid.act in
-    let parts : ticks_of added ≡ ticks_of front + (ticks_of laid.held + ticks_of laid.acts) = ap ticks_of laid.whole ∙ ticks-append front (laid.held ++ laid.acts) ∙ ap (λ x. ticks_of front + x) (ticks-append laid.held laid.acts) in
-    let both : ticks_of h' ≡ ticks_of h + ticks_of added = ap ticks_of whole ∙ ticks-append h added in
-    omega (arith, act, parts, both)
-
-tick_noted : (tells_notes tells_files tells_readings : Bool) (old new : Scene) → IsTrue tells_notes → IsTurn tells_notes tells_files tells_readings 0 call.Tick turned.Quiet old new → ticks_of old.notes + 1 ≤ ticks_of new.notes
-tick_noted tells_notes tells_files tells_readings old new told turn = let t = turn.takes in ticked_laid new.hall.moment old.notes new.notes t.added (t.noted told) t.laid
-
--- a tick brings no entry of the daemon's own
-tick_adds : (own own' : History) (t : Turned) → Adds 0 own own' call.Tick t → own' ≡ own
-tick_adds own own' t (inl a) = a.0
-tick_adds own own' t (inr j) = go t j.answers j.apart
-  where
-    go : (t : Turned) → Answers call.Tick j.entry t → is_common j.entry.0.act ≡ false → own' ≡ own
-    go turned.Quiet a apart = absurd (false≢true (sym apart ∙ ap is_common a))
-    go t a apart = absurd a
-
-tick_seen : (tells_notes tells_files tells_readings : Bool) (old new : Scene) (t : Turned) → IsTrue tells_notes → IsTurn tells_notes tells_files tells_readings 0 call.Tick t old new → StopsSeen new.notes t → IsTicked (ticked_of t) old new
-tick_seen tells_notes tells_files tells_readings old new turned.Quiet told turn seen = tick_noted tells_notes tells_files tells_readings old new told turn
-tick_seen tells_notes tells_files tells_readings old new turned.Stopping told turn seen = seen
-tick_seen tells_notes tells_files tells_readings old new t told turn seen = tt
-
--- a turn of the daemon that ticks
-pub ticks_so : (tells_notes tells_files tells_readings : Bool) (old new : Scene) (t : Turned) (answer : Ticked) → answer ≡ ticked_of t → IsTurn tells_notes tells_files tells_readings 0 call.Tick t old new
-    → (IsTrue tells_notes → Adds 0 (own 0 old.notes) (own 0 new.notes) call.Tick t) → (IsTrue tells_notes → StopsSeen new.notes t) → Ticks tells_notes tells_files tells_readings old new answer
-ticks_so tells_notes tells_files tells_readings old new t answer is turn adds seen = record {
-  leads = turn_leads tells_notes tells_files tells_readings 0 call.Tick t old new (λ told. tt) turn;
-  nothing = λ told. tick_adds (own 0 old.notes) (own 0 new.notes) t (adds told);
-  noted = λ told. subst (λ a. IsTicked a old new) (sym is) (tick_seen tells_notes tells_files tells_readings old new t told turn (seen told));
-}
 
 -- a history that grew has no fewer ticks
 ticks_grow : (h h' added : History) → h' ≡ h ++ added → ticks_of h ≤ ticks_of h'

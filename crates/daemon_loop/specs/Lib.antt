@@ -1,11 +1,10 @@
 pub mod Going
-pub mod Desks
-pub mod Served
 pub mod Rounds
-pub mod Stops
 pub use Rattle.path_closing.specs.Closings
 pub use Rattle.path_closing.specs.Floors
 pub use Rattle.path_closing.specs.declared.shutting.ShutEnd
 pub use Rattle.path_closing.specs.Scenes
 pub use Rattle.path_closing.specs.Leads
 pub use Rattle.path_closing.specs.Standing
+pub use Rattle.daemon_callers.specs.Served
+pub use Rattle.daemon_callers.specs.Stops

@@ -4,34 +4,12 @@ use Rattle.nsq_base.specs.declared.options.Options.{Options}
 use Rattle.nsq_outside.specs.Causes.{Rose}
 use Rattle.nsq_outside.specs.Hosts.{HostContent}
 use Rattle.broker_history.specs.Entries.{History, has_stop, own}
-use Rattle.desk.specs.declared.turned.Turned.{Turned}
-use Rattle.desk.specs.declared.turned.Turned.TheVariants as turned
 use Rattle.path_closing.specs.Scenes.{Scene}
-use Rattle.path_closing.specs.Leads.{Leads}
+pub use Rattle.daemon_tick.specs.Ticks.{IsTicked, Ticks, ticked_of, ticks_of}
 use Rattle.daemon_loop.specs.Going.{Went}
-use Rattle.daemon_loop.specs.Served.{HasServed, OnlyCallersChange, UpTo, Views, ticks_of}
+use Rattle.daemon_callers.specs.Served.{HasServed, OnlyCallersChange, UpTo, Views}
 use Rattle.daemon_loop.specs.declared.callers.LoopEnd.{LoopEnd}
 use Rattle.daemon_loop.specs.declared.callers.LoopEnd.TheVariants as loop
-use Rattle.daemon_loop.specs.declared.ticking.Ticked.{Ticked}
-use Rattle.daemon_loop.specs.declared.ticking.Ticked.TheVariants as ticked
-
--- how a tick was answered
-abbrev pub ticked_of : Turned → Ticked
-ticked_of turned.Quiet = ticked.Quiet
-ticked_of turned.Stopping = ticked.Stopping
-ticked_of answer = ticked.Memory
-
--- the tick was noted; or a Stop stands in the history; or memory was wanting
-abbrev pub IsTicked : Ticked → (old new : Scene) → Type 0
-IsTicked ticked.Quiet old new = ticks_of old.notes + 1 ≤ ticks_of new.notes
-IsTicked ticked.Stopping old new = has_stop new.notes ≡ true
-IsTicked ticked.Memory old new = Unit {0}
-
--- a turn of the daemon that ticks
-pub record Ticks (tells_notes tells_files tells_readings : Bool) (old new : Scene) (answer : Ticked) : Type 0 where
-  pub leads : Leads tells_notes tells_files tells_readings 0 old new
-  pub nothing : IsTrue tells_notes → own 0 new.notes ≡ own 0 old.notes
-  pub noted : IsTrue tells_notes → IsTicked answer old new
 
 -- what is true of a run between two rounds: what the floor was led to; no entry names a number above the callers'; none is the daemon's own, so a Stop there is one
 -- that a caller asked for; the daemon ticked once for each caller at least; each caller was served

@@ -5,12 +5,12 @@ ghost use Rattle.nsq_outside.specs.Hosts.{OnlyAcceptFaults};
 ghost use Rattle.path_closing.specs.Floors.{flushed_of, kit_of, notes_of, scene_of};
 ghost use Rattle.daemon_loop.specs.Going.{Went};
 ghost use Rattle.daemon_loop.specs.Rounds.{LoopsOver};
-ghost use Rattle.daemon_loop.specs.Served.{views, AllTell, ListenersFailedLast};
+ghost use Rattle.daemon_callers.specs.Served.{views, AllTell, ListenersFailedLast};
 ghost use Rattle.daemon_loop.specs.declared.callers.LoopEnd.TheVariants.{Failed};
 
-use crate::serving::serve_caller;
-use crate::ticking::{Ticked, tick};
 use broker_history::Entry;
+use daemon_callers::serve_caller;
+use daemon_tick::{Ticked, tick};
 use nsq_base::Options;
 use nsq_outside::{Accept, Clock, Folder, Host, Journal};
 use path_closing::{Floor, save};

@@ -24,12 +24,13 @@ use Rattle.daemon_loop.specs.Scenes.{Scene, Stands}
 use Rattle.path_opening.specs.Opening.{HaveBytes, OnlyOpeningFiles}
 use Rattle.daemon_loop.specs.Closings.{Leaves}
 use Rattle.daemon_loop.specs.Going.{Went}
-use Rattle.daemon_loop.specs.Rounds.{IsHalted, WhyOver}
-use Rattle.daemon_loop.specs.Served.{HasServed, UpTo, Views, ticks_of}
+use Rattle.daemon_loop.specs.Rounds.{IsHalted, WhyOver, ticks_of}
+use Rattle.daemon_loop.specs.Served.{HasServed, UpTo, Views}
 use Rattle.daemon_loop.specs.declared.callers.LoopEnd.{LoopEnd}
 use Rattle.daemon_loop.specs.declared.callers.LoopEnd.TheVariants as loop
 use Rattle.daemon_loop.proofs.Going.{went_by, went_then}
-use Rattle.daemon_loop.proofs.Others.{stops-append, stops_own, ticks-append, up_to_more}
+use Rattle.daemon_loop.proofs.Others.{stops-append, stops_own, up_to_more}
+use Rattle.daemon_loop.proofs.Rounding.{ticks-append}
 use Rattle.daemon_loop.proofs.Handing.{daemon_served}
 use Rattle.daemon_run.specs.Callers.{DaemonStops, HasCallersStop, ServesAll, failed, halted, one_to, wants}
 use Rattle.daemon_run.specs.Endings.{FindsNames, IsCaused}

@@ -19,8 +19,8 @@ use Rattle.turn_laws.specs.Laws.{RoseBy}
 use Rattle.turn_laws.proofs.Laying.{all_so}
 use Rattle.daemon_loop.specs.Closings.{Leaves}
 use Rattle.path_opening.specs.Opening.{FindsAgain, HaveBytes}
-use Rattle.daemon_loop.specs.Rounds.{IsHalted}
-use Rattle.daemon_loop.specs.Served.{UpTo, Views, ticks_of}
+use Rattle.daemon_loop.specs.Rounds.{IsHalted, ticks_of}
+use Rattle.daemon_loop.specs.Served.{UpTo, Views}
 use Rattle.daemon_run.specs.Asked.{StartsOnce}
 use Rattle.daemon_run.specs.Callers.{DaemonStops, HasCallersStop, HasStopCause, IsHandedBack, StopsAreCaused, StopsLast, failed, halted, wants}
 use Rattle.daemon_run.specs.Endings.{IsCaused}

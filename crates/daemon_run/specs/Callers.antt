@@ -15,8 +15,8 @@ use Rattle.http_wire.specs.declared.request.Request.{Request}
 use Rattle.http_wire.specs.Request.{IsRequest, Whole}
 use Rattle.http_calls.specs.declared.call.HttpCall.TheVariants as call
 use Rattle.http_calls.specs.Calls.{call_for}
-use Rattle.daemon_loop.specs.Rounds.{IsHalted}
-use Rattle.daemon_loop.specs.Served.{IsServed, UpTo, Views, ticks_of}
+use Rattle.daemon_loop.specs.Rounds.{IsHalted, ticks_of}
+use Rattle.daemon_loop.specs.Served.{IsServed, UpTo, Views}
 use Rattle.daemon_run.specs.declared.ending.ServeEnd.{ServeEnd}
 use Rattle.daemon_run.specs.declared.ending.ServeEnd.TheVariants as end
 

@@ -1,6 +1,9 @@
 -- What two parts of a call do together.
 use Rattle.std.proofs.Common.{◌≡◌, ◌∙◌, ℕ, ◌≤◌, ap, arith, subst}
 use Rattle.nsq_outside.specs.Files.{Files}
+use Rattle.nsq_outside.specs.Causes.{DidFails}
+use Rattle.nsq_outside.specs.declared.did.Did.{Did}
+use Rattle.nsq_outside.specs.declared.did.Did.TheVariants as did
 use Rattle.queue_image.specs.FileNames.{meta_file, meta_temp}
 use Rattle.queue_opening.specs.Replaced.{OnlyTwoChange}
 use Rattle.queue_opening.specs.FileCalls.{OnlyNumbersChange}
@@ -24,6 +27,10 @@ pub sync_later : (before mid now : ℕ) (sync : Sync) → before ≤ mid → Syn
 sync_later before mid now NotDue low fails = tt
 sync_later before mid now Done low fails = tt
 sync_later before mid now Failed low fails = omega (arith, low, fails)
+
+pub did_later : (before mid now : ℕ) (answer : Did) → before ≤ mid → DidFails mid now answer → DidFails before now answer
+did_later before mid now did.Done low fails = tt
+did_later before mid now did.Failed low fails = omega (arith, low, fails)
 
 -- the record that was taken is the one that the peek gave
 pub taken_seen : (q p r : Seen) (n : ℕ) (sync : Sync) → PeekSeen q p (Got n) → r ≡ after_save (advanced p) sync → NotDueWhere (IsEarly (advanced p)) sync → IsTaken q r n sync

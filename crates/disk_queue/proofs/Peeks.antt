@@ -95,6 +95,19 @@ finds_few bytes p same some few = record {
   few = omega (arith, left_before p (bytes p.read_file) same, few);
 }
 
+-- what stands at the end of the list, and before it, in the write file
+pub finds_end : (p : Positions) → IsOrdered p → p.write_file ≤ p.read_file → p.write_at - p.read_at ≡ 0 → IsAtEnd p
+finds_end p (inl lt) le none = absurd (omega (arith, lt, le))
+finds_end p (inr same) le none = (same.0, omega (arith, same.1, none))
+
+pub finds_little : (bytes : ℕ → List ℕ) (p : Positions) → IsOrdered p → p.write_file ≤ p.read_file → 0 < p.write_at - p.read_at → p.write_at - p.read_at < 4 → IsShort bytes p
+finds_little bytes p (inl lt) le some few = absurd (omega (arith, lt, le))
+finds_little bytes p (inr same) le some few = finds_few bytes p same.0 (omega (arith, some)) (omega (arith, same.1, few))
+
+pub finds_head : (bytes : ℕ → List ℕ) (p : Positions) (head : Head) → IsOrdered p → p.write_file ≤ p.read_file → 4 ≤ p.write_at - p.read_at → HeadIs (drop p.read_at (bytes p.read_file)) head → FileFinds bytes p head
+finds_head bytes p head (inl lt) le room is = absurd (omega (arith, lt, le))
+finds_head bytes p head (inr same) le room is = finds_last bytes p head same.0 (omega (arith, room)) is
+
 pub short_is_damage : (least limit : ℕ) (bytes : ℕ → List ℕ) (p : Positions) → IsShort bytes p → IsDamage least limit bytes p 0
 short_is_damage least limit bytes p s = record { not_out = s.not_out; not_end = s.not_end; unreadable = short s.few refl }
 

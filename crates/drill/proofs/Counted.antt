@@ -16,21 +16,21 @@ use Rattle.broker_history.specs.Entries.{History, faults_of}
 use Rattle.daemon_run.specs.Served.{IsServedTcp}
 use Rattle.daemon_run.specs.Callers.{IsHandedBack, numbers_of}
 use Rattle.daemon_run.specs.declared.ending.ServeEnd.TheVariants as end
-use Rattle.drill_laws.specs.Counts.{published}
-use Rattle.drill_laws.specs.Publishing.{IsQuiet, PublishesAlone}
-use Rattle.drill_laws.proofs.Closing.{within}
-use Rattle.drill_laws.proofs.Publishing.{publishers_publish}
-use Rattle.drill.specs.Callers.{publisher}
-use Rattle.drill.specs.Counting.{published_in}
-use Rattle.drill.specs.Draws.{behind, publish_from, publishes}
+use Rattle.drill_parts.specs.Counts.{published}
+use Rattle.drill_parts.specs.Publishing.{IsQuiet, PublishesAlone}
+use Rattle.drill_parts.proofs.Closing.{within}
+use Rattle.drill_parts.proofs.Publishing.{publishers_publish}
+use Rattle.drill_parts.specs.Callers.{publisher}
+use Rattle.drill_parts.specs.Counting.{published_in}
+use Rattle.drill_parts.specs.Draws.{behind, publish_from, publishes}
 use Rattle.drill.specs.Drills.{AcceptsAll, HasRunDrill, NeverFailed, PublisherWants, seen}
-use Rattle.drill.specs.Hosts.{drill_options, stream_of}
-use Rattle.drill.specs.declared.draws.Publish.{Publish}
+use Rattle.drill_parts.specs.Hosts.{drill_options, stream_of}
+use Rattle.drill_parts.specs.declared.draws.Publish.{Publish}
 use Rattle.drill.proofs.Entering.{among, drill_limits, numbered, publisher_sends, spell_of}
 use Rattle.drill.proofs.Publishing.{Stands, all_calm, all_pubs, all_stand, at_zero, ends_well, first_served, no_callers_stop, nobody_left, publishes_alone, some_came, unstopped}
 use Rattle.drill.proofs.Running.{all_came, begun, moment, notes, notes_entered, notes_tallied, ones_begun}
-use Rattle.drill.proofs.Spelling.{IsShort, pub_of}
-use Rattle.drill.proofs.Tallying.{entries_keep, only_c}
+use Rattle.drill_parts.proofs.Spelling.{IsShort, pub_of}
+use Rattle.drill_parts.proofs.Tallying.{entries_keep, only_c}
 
 pub length-publishes : (seed count : ℕ) → length (publishes seed count) ≡ count
 length-publishes seed zero = refl

@@ -13,18 +13,18 @@ use Rattle.path_image.specs.Found.{Found, IsFound, Names}
 use Rattle.broker_history.specs.declared.entry.Entry.{Entry}
 use Rattle.broker_history.specs.Entries.{History}
 use Rattle.broker_history.specs.State.{State}
-use Rattle.drill_laws.specs.Counts.{left_in, left_of}
-use Rattle.drill_laws.proofs.Conserved.{conserved, ones_stay}
-use Rattle.drill_laws.proofs.Replying.{stays}
+use Rattle.drill_parts.specs.Counts.{left_in, left_of}
+use Rattle.drill_parts.proofs.Conserved.{conserved, ones_stay}
+use Rattle.drill_parts.proofs.Replying.{stays}
 use Rattle.drill.specs.Drills.{AcceptsAll, HasCounted, HasDrilled, HasNames, HasRunDrill, PublisherWants}
-use Rattle.drill.specs.Draws.{publishes}
-use Rattle.drill.specs.declared.draws.Publish.{Publish}
+use Rattle.drill_parts.specs.Draws.{publishes}
+use Rattle.drill_parts.specs.declared.draws.Publish.{Publish}
 use Rattle.drill.specs.declared.run.Drilled.{Drilled}
-use Rattle.drill.specs.Counting.{finished_in, published_in}
-use Rattle.drill.specs.Left.{messages_in}
-use Rattle.drill.proofs.Leaving.{all_found}
-use Rattle.drill.proofs.Spelling.{IsShort, publishes_short}
-use Rattle.drill.proofs.Tallying.{entries_keep, only_c}
+use Rattle.drill_parts.specs.Counting.{finished_in, published_in}
+use Rattle.drill_parts.specs.Left.{messages_in}
+use Rattle.drill_parts.proofs.Leaving.{all_found}
+use Rattle.drill_parts.proofs.Spelling.{IsShort, publishes_short}
+use Rattle.drill_parts.proofs.Tallying.{entries_keep, only_c}
 use Rattle.drill.proofs.Running.{begun, found_nothing, no_topics_begun, notes, notes_entered, notes_tallied, ones_begun}
 use Rattle.drill.proofs.Counted.{accepts_all, all_accepted, length-publishes, nobody_to_serve}
 

@@ -19,14 +19,14 @@ use Rattle.broker_history.specs.Talk.{bytes_of, commands_of, stops_before_gone}
 use Rattle.broker_history.proofs.Own.{own-append}
 use Rattle.daemon_run.specs.Served.{IsServed, IsServedTcp, UpTo, Views, limits_of}
 use Rattle.daemon_run.specs.Callers.{IsHandedBack, IsOfStop, StopsLast, numbers_of, one_to}
-use Rattle.drill_laws.specs.Talking.{Spell}
-use Rattle.drill_laws.proofs.Owning.{Takes, all_front, all_own, of_owners, takes_all}
-use Rattle.drill_laws.proofs.Talking.{gives_commands, talk_talks}
-use Rattle.drill.specs.Callers.{consumer, publisher, senders, those_to}
-use Rattle.drill.specs.Hosts.{drill_options, stream_of}
-use Rattle.drill.specs.declared.draws.Publish.{Publish}
-use Rattle.drill.proofs.Spelling.{IsShort, IsSome, consumer_some, consumer_spells, consumer_writable, consumes, fin_of, pub_of, publisher_some, publisher_spells, publisher_writable, topic_durable}
-use Rattle.drill.proofs.Tallying.{IsActed, IsEntered, Sends}
+use Rattle.drill_parts.specs.Talking.{Spell}
+use Rattle.drill_parts.proofs.Owning.{Takes, all_front, all_own, of_owners, takes_all}
+use Rattle.drill_parts.proofs.Talking.{gives_commands, talk_talks}
+use Rattle.drill_parts.specs.Callers.{consumer, publisher, senders, those_to}
+use Rattle.drill_parts.specs.Hosts.{drill_options, stream_of}
+use Rattle.drill_parts.specs.declared.draws.Publish.{Publish}
+use Rattle.drill_parts.proofs.Spelling.{IsShort, IsSome, consumer_some, consumer_spells, consumer_writable, consumes, fin_of, pub_of, publisher_some, publisher_spells, publisher_writable, topic_durable}
+use Rattle.drill_parts.proofs.Tallying.{IsActed, IsEntered, Sends}
 
 -- the limits of a drill
 abbrev pub drill_limits : Limits

@@ -22,20 +22,20 @@ use Rattle.daemon_run.specs.Rounds.{IsHalted}
 use Rattle.daemon_run.specs.Served.{IsServed, IsServedTcp, UpTo, Views}
 use Rattle.daemon_run.specs.Callers.{HasCallersStop, HasStopCause, IsHandedBack, IsOfStop, StopsAreCaused, StopsLast, numbers_of, one_to}
 use Rattle.daemon_run.specs.declared.ending.ServeEnd.{ServeEnd}
-use Rattle.drill_laws.specs.Conserving.{KeepAll}
-use Rattle.drill_laws.specs.Counts.{messages_in}
-use Rattle.drill_laws.specs.Publishing.{EndsWell, IsPub, PublishesAs}
-use Rattle.drill_laws.specs.Replying.{tried_as}
-use Rattle.drill_laws.specs.Staying.{IsCalm, SaysNoMore}
-use Rattle.drill_laws.proofs.Closing.{within}
-use Rattle.drill_laws.proofs.Owning.{IsNoGone, Takes, all_front, no_stops, of_owners, own_are, stops_last}
-use Rattle.drill_laws.proofs.Talking.{all_push}
-use Rattle.drill.specs.Callers.{consumer, publisher, senders, those_to}
-use Rattle.drill.specs.Hosts.{drill_options, stream_of}
-use Rattle.drill.specs.declared.draws.Publish.{Publish}
+use Rattle.drill_parts.specs.Conserving.{KeepAll}
+use Rattle.drill_parts.specs.Counts.{messages_in}
+use Rattle.drill_parts.specs.Publishing.{EndsWell, IsPub, PublishesAs}
+use Rattle.drill_parts.specs.Replying.{tried_as}
+use Rattle.drill_parts.specs.Staying.{IsCalm, SaysNoMore}
+use Rattle.drill_parts.proofs.Closing.{within}
+use Rattle.drill_parts.proofs.Owning.{IsNoGone, Takes, all_front, no_stops, of_owners, own_are, stops_last}
+use Rattle.drill_parts.proofs.Talking.{all_push}
+use Rattle.drill_parts.specs.Callers.{consumer, publisher, senders, those_to}
+use Rattle.drill_parts.specs.Hosts.{drill_options, stream_of}
+use Rattle.drill_parts.specs.declared.draws.Publish.{Publish}
 use Rattle.drill.proofs.Entering.{IsSender, all_so, among, at_place, calls, consumer_sends, daemon_so, drill_limits, numbered, takes_of}
-use Rattle.drill.proofs.Spelling.{fin_of, pub_of}
-use Rattle.drill.proofs.Tallying.{IsActed, IsEntered, Sends, only_c}
+use Rattle.drill_parts.proofs.Spelling.{fin_of, pub_of}
+use Rattle.drill_parts.proofs.Tallying.{IsActed, IsEntered, Sends, only_c}
 
 -- a consumer sends nothing that publishes
 abbrev PublishesNone : Command → Type 0

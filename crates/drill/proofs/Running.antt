@@ -29,17 +29,17 @@ use Rattle.daemon_run.specs.Runs.{HasRun, HasWorked, Runs, StayedHome}
 use Rattle.daemon_run.specs.Sights.{Both, Sight, sight, sight_of}
 use Rattle.daemon_run.specs.declared.ending.ServeEnd.{ServeEnd}
 use Rattle.daemon_run.specs.declared.ending.ServeEnd.TheVariants as end
-use Rattle.drill_laws.specs.Conserving.{HaveOnes}
-use Rattle.drill_laws.specs.Replying.{tried}
-use Rattle.drill_laws.proofs.Conserved.{no_topics}
-use Rattle.drill_laws.proofs.Replying.{replied}
+use Rattle.drill_parts.specs.Conserving.{HaveOnes}
+use Rattle.drill_parts.specs.Replying.{tried}
+use Rattle.drill_parts.proofs.Conserved.{no_topics}
+use Rattle.drill_parts.proofs.Replying.{replied}
 use Rattle.drill.specs.Drills.{HasRunDrill, NeverFailed, seen, seen_with}
-use Rattle.drill.specs.Hosts.{IsDrillHost, MemKit, drill_options}
-use Rattle.drill.specs.declared.draws.Publish.{Publish}
-use Rattle.drill.specs.Callers.{senders}
+use Rattle.drill_parts.specs.Hosts.{IsDrillHost, MemKit, drill_options}
+use Rattle.drill_parts.specs.declared.draws.Publish.{Publish}
+use Rattle.drill_parts.specs.Callers.{senders}
 use Rattle.drill.proofs.Entering.{all_entered, all_send, calls}
-use Rattle.drill.proofs.Spelling.{IsShort}
-use Rattle.drill.proofs.Tallying.{AreTallied, IsEntered, only_c, tallied}
+use Rattle.drill_parts.proofs.Spelling.{IsShort}
+use Rattle.drill_parts.proofs.Tallying.{AreTallied, IsEntered, only_c, tallied}
 
 -- what is seen where both kits are at home
 abbrev seen_of : HostState MemFolder MemClock (MemJournal Entry) → HostContent MemConn → Option (Sight MemConn)

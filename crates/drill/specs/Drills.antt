@@ -17,12 +17,12 @@ use Rattle.daemon_run.specs.Asked.{StartsOnce}
 use Rattle.daemon_run.specs.Runs.{HasRun}
 use Rattle.daemon_run.specs.Sights.{Sight, sight}
 use Rattle.daemon_run.specs.declared.ending.ServeEnd.TheVariants as end
-use Rattle.drill.specs.Callers.{publisher}
-use Rattle.drill.specs.Counting.{finished_in, published_in, sent_in}
-use Rattle.drill.specs.Draws.{publishes}
-use Rattle.drill.specs.Hosts.{IsDrillHost, MemKit, drill_options, stream_of}
-use Rattle.drill.specs.Left.{CountsAll, FindsMessages}
-use Rattle.drill.specs.declared.draws.Publish.{Publish}
+use Rattle.drill_parts.specs.Callers.{publisher}
+use Rattle.drill_parts.specs.Counting.{finished_in, published_in, sent_in}
+use Rattle.drill_parts.specs.Draws.{publishes}
+use Rattle.drill_parts.specs.Hosts.{IsDrillHost, MemKit, drill_options, stream_of}
+use Rattle.drill_parts.specs.Left.{CountsAll, FindsMessages}
+use Rattle.drill_parts.specs.declared.draws.Publish.{Publish}
 use Rattle.drill.specs.declared.run.Drilled.{Drilled}
 
 -- what is seen of a connection in memory

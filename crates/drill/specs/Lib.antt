@@ -1,8 +1,3 @@
-pub mod Draws
-pub mod Callers
-pub mod Counting
-pub mod Left
-pub mod Hosts
 pub mod Drills
 pub use Rattle.daemon_run.specs.Asked
 pub use Rattle.daemon_run.specs.Endings

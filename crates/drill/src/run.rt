@@ -3,15 +3,14 @@ ghost use Rattle.std.specs.Prelude.{◌≡◌, ◌≤◌, ◌^◌, ◌↔◌, If
 ghost use Rattle.nsq_fakes.specs.MemHosts.{content_of, state_of};
 ghost use Rattle.daemon_run.specs.declared.ending.ServeEnd.TheVariants.{Clean};
 ghost use Rattle.drill.specs.Drills.{HasCounted, HasDrilled, HasNames, HasRunDrill, NeverFailed};
-ghost use Rattle.drill.specs.Left.{CountsAll};
+ghost use Rattle.drill_parts.specs.Left.{CountsAll};
 ghost use Rattle.nsq_fakes.specs.MemFolders.{faults_of, files_in};
 
-use crate::counting::{finished_in, published_in, sent_in};
-use crate::draws::{Publish, draw};
-use crate::host::{drill_options, host_of};
-use crate::left::left_in;
 use broker_history::Entry;
 use daemon_run::{ServeEnd, serve};
+use drill_parts::{
+    Publish, draw, drill_options, finished_in, host_of, left_in, published_in, sent_in,
+};
 use nsq_base::Memory;
 use nsq_fakes::{MemConn, MemHost};
 use std::alloc::Global;

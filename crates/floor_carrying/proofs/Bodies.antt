@@ -1,6 +1,6 @@
 -- What a client publishes.
-use Rattle.std.proofs.Common.{◌≡◌, ◌<◌, ◌≤◌, ℕ, ℤ, Bool, true, codes, List, [], ◌∷◌, length, get_or, Some, Ok, Err, refl, sym, ap, ◌∙◌, subst}
-use Rattle.std.specs.Prelude.{IsTrue}
+use Rattle.std.proofs.Common.{◌≡◌, ◌^◌, ◌<◌, ◌≤◌, ℕ, ℤ, Bool, true, false, codes, List, [], ◌∷◌, length, get_or, Option, None, Some, Ok, Err, refl, sym, ap, ◌∙◌, subst}
+use Rattle.std.specs.Prelude.{IsTrue, MatchBool, MatchOption}
 use Rattle.nsq_outside.specs.Causes.{Rose}
 use Rattle.nsq_outside.specs.Files.{Files}
 use Rattle.v2_frame.specs.declared.command.Command.{Command}
@@ -17,6 +17,8 @@ use Rattle.floor_rooms.specs.Sound.{IsSound}
 use Rattle.floor_rooms.specs.Standing.{Carries}
 use Rattle.floor_turns.specs.Replies.{IsShortFrame}
 use Rattle.floor_members.specs.Acts.{ChangesAt, DoesAt}
+use Rattle.floor_members.specs.Published.{Published}
+use Rattle.floor_members.specs.Published.TheVariants as published_so
 use Rattle.floor_turns.specs.Acting.{SameClients, StaysSet}
 use Rattle.floor_carrying.specs.declared.commanded.Commanded.TheVariants as commanded
 use Rattle.floor_carrying.specs.Carrying.{Around, basis}
@@ -96,3 +98,17 @@ dpub_is topic delay body word is = record { carries = λ s at d t e. e; says = a
 -- memory was wanting before anything was done
 pub unpublished : (tells : Bool) (k : ℕ) (c : Command) (h : Hall) (f : Files) (n : ℕ) {E : Type 0} (e : E) → IsSound h → CarriesCommand {E = E} tells k c (basis h f n) (basis h f n) (Err e)
 unpublished tells k c h f n e sound = record { around = around_same tells h f n sound; same = same_hall h; ends = λ told s holds. (s, refl, holds) }
+
+-- what a publish's refusal tells of whether its messages were put
+pub not_refused : (refusal : Option Frame) (put : Bool) (word : List ℕ) → MatchOption refusal (put ≡ true) (λ frame. (put ≡ false) × (frame ≡ disk_fault word) × (length frame.body < 2 ^ 31)) → refusal ≡ None → put ≡ true
+not_refused refusal put word tells is = subst (λ (o : Option Frame). MatchOption o (put ≡ true) (λ frame. (put ≡ false) × (frame ≡ disk_fault word) × (length frame.body < 2 ^ 31))) is tells
+
+pub refused_with : (refusal : Option Frame) (frame : Frame) (put : Bool) (word : List ℕ) → MatchOption refusal (put ≡ true) (λ frame. (put ≡ false) × (frame ≡ disk_fault word) × (length frame.body < 2 ^ 31)) → refusal ≡ Some frame
+    → (put ≡ false) × (frame ≡ disk_fault word) × (length frame.body < 2 ^ 31)
+refused_with refusal frame put word tells is = subst (λ (o : Option Frame). MatchOption o (put ≡ true) (λ frame. (put ≡ false) × (frame ≡ disk_fault word) × (length frame.body < 2 ^ 31))) is tells
+
+pub was_put : (p : Published) (put : Bool) → MatchBool put (p ≡ published_so.Done) (p ≡ published_so.Fault) → put ≡ true → p ≡ published_so.Done
+was_put p put tells is = subst (λ (b : Bool). MatchBool b (p ≡ published_so.Done) (p ≡ published_so.Fault)) is tells
+
+pub was_kept_off : (p : Published) (put : Bool) → MatchBool put (p ≡ published_so.Done) (p ≡ published_so.Fault) → put ≡ false → p ≡ published_so.Fault
+was_kept_off p put tells is = subst (λ (b : Bool). MatchBool b (p ≡ published_so.Done) (p ≡ published_so.Fault)) is tells

@@ -8,9 +8,9 @@ ghost use Rattle.floor_carrying.specs.Carrying.{basis};
 ghost use Rattle.floor_carrying.specs.Commands.{CarriesCommand, IsAccepted};
 
 use crate::commanded::Commanded;
-use crate::replied::disk_fault;
 use crate::spans::span_of;
 use channel_core::Requeue;
+use disk_refusals::disk_fault;
 use floor_members::{finish, requeue, touch};
 use floor_rooms::Hall;
 use nsq_base::{Memory, MsgId, Steps};

@@ -1,15 +1,16 @@
-ghost use Rattle.std.specs.Prelude.{◌≡◌, ◌∷◌, [], ◌+◌, ◌≤◌, ◌<◌, ◌^◌, All, IfOk, IsTrue, length};
+ghost use Rattle.std.specs.Prelude.{◌≡◌, ◌∷◌, [], ◌+◌, ◌≤◌, ◌<◌, ◌^◌, All, IfOk, IsTrue, length, MatchBool};
 ghost use Rattle.v2_frame.specs.declared.command.Command.{Command};
 ghost use Rattle.v2_frame.specs.declared.command.Command.TheVariants as command;
 ghost use Rattle.broker_history.specs.Reply.{span_of};
+ghost use Rattle.floor_members.specs.Published.TheVariants as published_so;
 ghost use Rattle.floor_rooms.specs.Sound.{IsSound};
 ghost use Rattle.floor_rooms.specs.Standing.{longest_delay};
 ghost use Rattle.floor_carrying.specs.Carrying.{basis};
 ghost use Rattle.floor_carrying.specs.Commands.{CarriesCommand, IsAccepted, IsPublish};
 
 use crate::commanded::Commanded;
-use crate::replied::disk_fault;
 use crate::spans::span_of;
+use disk_refusals::publish_refusal;
 use floor_members::{Published, publish, speak};
 use floor_rooms::Hall;
 use nsq_base::{Bodies, Body, Memory, Topic};
@@ -115,18 +116,22 @@ fn publish_as<F: Folder>(
     requires scratch { 16777242 ≤ length scratch.old }
     ensures { (c : Command) → IsPublish c topic delay bodies.items word.now → CarriesCommand F.tells_files k c (basis hall.old (F.files folder.old) (F.folder_faults folder.old)) (basis hall.new (F.files folder.new) (F.folder_faults folder.new)) result }
 {
-    match publish(hall, topic, delay, bodies, folder, scratch) {
-        Ok(Published::Done) => {
-            speak(hall, k);
-            Ok(Commanded::Done)
-        }
-        Ok(Published::Fault) => {
-            let Ok(frame) = disk_fault(hall.alloc, word) else {
-                return Err(Memory);
-            };
-            speak(hall, k);
-            Ok(Commanded::Fault(frame))
-        }
-        Err(_) => Err(Memory),
+    let Ok(published) = publish(hall, topic, delay, bodies, folder, scratch) else {
+        return Err(Memory);
+    };
+    let Ok(refusal) = publish_refusal(hall.alloc, word, is_put(published)) else {
+        return Err(Memory);
+    };
+    speak(hall, k);
+    match refusal {
+        None => Ok(Commanded::Done),
+        Some(frame) => Ok(Commanded::Fault(frame)),
     }
+}
+
+// Whether the messages were put.
+fn is_put(published: Published) -> bool
+    ensures { MatchBool result (published ≡ published_so.Done) (published ≡ published_so.Fault) }
+{
+    matches!(published, Published::Done)
 }

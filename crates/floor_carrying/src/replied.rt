@@ -1,17 +1,13 @@
-ghost use Rattle.std.specs.Prelude.{◌≡◌, ◌++◌, ◌≤◌, codes, length, IfOk, Some};
+ghost use Rattle.std.specs.Prelude.{◌≡◌, Some};
 ghost use Rattle.nsq_outside.specs.declared.journal.End.TheVariants as end;
-ghost use Rattle.broker_history.specs.Reply.{disk_fault};
 ghost use Rattle.broker_history.specs.Step.{is_done, is_error};
-ghost use Rattle.floor_turns.specs.Replies.{IsShortFrame};
 ghost use Rattle.floor_turns.specs.Acting.{answer_to};
 
 use crate::Carried;
 use broker_history::Said;
 use desk::Turned;
 use floor_turns::closes;
-use nsq_base::{Body, Memory};
 use nsq_outside::End;
-use std::alloc::Global;
 use v2_frame::{Frame, FrameKind};
 
 // Whether a reply is an error.
@@ -62,18 +58,4 @@ pub(crate) fn kept_off(frame: Frame) -> Carried
         end: End::Faulted(0),
         answer: answer_to(Some(frame)),
     }
-}
-
-// The error that a disk fault kept off what a command of this word does. Want of memory is the only error.
-pub(crate) fn disk_fault(alloc: Global, word: &[u8]) -> Result<Frame, Memory>
-    requires { length word.now ≤ 100 }
-    ensures value { IfOk result (λ frame. frame ≡ disk_fault word.now) }
-    ensures short { IfOk result IsShortFrame }
-{
-    let mut bytes = Vec::from_slice(alloc, word)?;
-    bytes.extend_from_slice(b" disk fault")?;
-    Ok(Frame {
-        kind: FrameKind::Error,
-        body: Body::of(bytes),
-    })
 }

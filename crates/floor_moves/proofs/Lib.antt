@@ -6,3 +6,12 @@ pub mod Searching
 pub mod Joining
 pub mod HoldingBack
 pub mod Unlisting
+pub mod Around
+pub mod Placed
+pub mod Naming
+pub mod Twice
+pub mod Heads
+pub mod Owing
+pub mod Clearing
+pub mod Offering
+pub mod Copies

@@ -1,6 +1,6 @@
 //! Answers as text, as a turn gives them, and as the act that it noted tells them.
 
-use crate::entries::words_of;
+use crate::entries::told_by;
 use crate::stats::put_stats;
 use crate::texts::{put, put_names, put_number, put_sent};
 use broker_history::{Act, Said};
@@ -91,7 +91,7 @@ fn put_said(rt: &impl Abort, out: &mut Vec<u8>, said: &Said, full: bool) {
 
 /// What the client is answered, or is told over HTTP, of an act with this end at a moment; nothing of a move.
 pub fn put_told(rt: &impl Abort, out: &mut Vec<u8>, act: &Act, at: u64, end: End) {
-    put(rt, out, words_of(act).told.as_bytes());
+    put(rt, out, told_by(act).as_bytes());
     match act {
         Act::Did(command, reply) => put_done(rt, out, command, reply, end),
         Act::Refused(_, frame) => put_frame(rt, out, frame),

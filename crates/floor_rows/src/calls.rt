@@ -108,13 +108,21 @@ fn sent(rt: &impl Abort, alloc: Global, text: &str) -> Option<Call>
     read(rt, alloc, &bytes)
 }
 
+// Takes a reader apart.
+fn let_reader_go(_reader: Reader) {}
+
+/// Takes a call apart.
+pub fn let_call_go(_call: Call) {}
+
 // The call of a client's bytes from its first one on.
 fn read(rt: &impl Abort, alloc: Global, bytes: &[u8]) -> Option<Call>
     ensures { IfSome result CanCall }
 {
     let mut reader = Reader::new(alloc, LIMITS).expect(rt, "memory");
     reader.feed(bytes).expect(rt, "memory");
-    match reader.next() {
+    let got = reader.next();
+    let_reader_go(reader);
+    match got {
         Got::Whole(command) => Some(Call::Command(command)),
         Got::Fault(fault) => Some(Call::Bad(fault)),
         Got::More => None,

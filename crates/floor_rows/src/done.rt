@@ -1,7 +1,7 @@
 //! Calls that were made: what each answered, the entries of a turn, and whether these are in order.
 
 use crate::answers::put_told;
-use crate::calls::call_of;
+use crate::calls::{call_of, let_call_go};
 use crate::entries::{is_move, is_of, put_entry};
 use crate::texts::{halves, parted, put, put_count, same};
 use broker_history::Entry;
@@ -51,10 +51,12 @@ fn are_of_call(
     number: u64,
     text: &str,
 ) -> bool {
-    match call_of(rt, alloc, text) {
-        Some(call) => are_of(entries, at, number, &call),
-        None => false,
-    }
+    let Some(call) = call_of(rt, alloc, text) else {
+        return false;
+    };
+    let are_of_call = are_of(entries, at, number, &call);
+    let_call_go(call);
+    are_of_call
 }
 
 fn are_moves(entries: &[(Entry, End)]) -> bool {

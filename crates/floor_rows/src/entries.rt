@@ -8,68 +8,70 @@ use nsq_outside::End;
 use std::process::Abort;
 use v2_frame::{Command, Message};
 
-/// The words of an act.
-#[derive(Clone, Copy)]
-pub struct Words {
-    // The word of its entry.
-    entry: &'static str,
-    /// What the turn that notes it answers, as far as that is always the same.
-    pub told: &'static str,
-    // The calls that it may be for.
-    calls: &'static str,
+// Which of an act's words is that of its entry, which is what the turn that notes it answers, as far as that is always the same, and which are the calls
+// that it may be for.
+const ENTRY: usize = 0;
+
+const TOLD: usize = 1;
+
+const CALLS: usize = 2;
+
+// One of an act's words.
+fn word_of(act: &Act, place: usize) -> &'static str {
+    words_of(act).split('|').nth(place).unwrap_or("")
 }
 
-fn make_words(entry: &'static str, told: &'static str, calls: &'static str) -> Words {
-    Words { entry, told, calls }
+/// What the turn that notes an act answers, as far as that is always the same.
+pub fn told_by(act: &Act) -> &'static str {
+    word_of(act, TOLD)
 }
 
-/// The words of an act.
-pub fn words_of(act: &Act) -> Words {
+fn words_of(act: &Act) -> &'static str {
     match act {
-        Act::Began => make_words("began", "begun", "begin"),
-        Act::Beat => make_words("beat", "sends _heartbeat_", "next"),
-        Act::Idle => make_words("idle", "idle", "next"),
-        Act::Silent => make_words("silent", "silent", "next"),
-        Act::Dropped => make_words("dropped", "deleted", "next command"),
-        Act::Gone => make_words("gone", "ended", "gone"),
-        Act::Ticked => make_words("ticked", "quiet", "tick"),
-        Act::Stop => make_words("stop", "stopping", "stop"),
+        Act::Began => "began|begun|begin",
+        Act::Beat => "beat|sends _heartbeat_|next",
+        Act::Idle => "idle|idle|next",
+        Act::Silent => "silent|silent|next",
+        Act::Dropped => "dropped|deleted|next command",
+        Act::Gone => "gone|ended|gone",
+        Act::Ticked => "ticked|quiet|tick",
+        Act::Stop => "stop|stopping|stop",
         _ => other_words(act),
     }
 }
 
-fn other_words(act: &Act) -> Words {
+fn other_words(act: &Act) -> &'static str {
     match act {
-        Act::Did(_, _) => make_words("did", "", "command"),
-        Act::Refused(_, _) => make_words("refused", "", "bad"),
-        Act::Sent(_) => make_words("sent", "sends ", "next"),
-        Act::Asked(_, _) => make_words("asked", "", "ask"),
-        Act::Listed(_) => make_words("listed", "", "names"),
-        Act::Stuck(_, Some(_)) => make_words("stuck", "idle", "next"),
-        _ => make_words(move_word(act), "", ""),
+        Act::Did(_, _) => "did||command",
+        Act::Refused(_, _) => "refused||bad",
+        Act::Sent(_) => "sent|sends |next",
+        Act::Asked(_, _) => "asked||ask",
+        Act::Listed(_) => "listed||names",
+        Act::Stuck(_, Some(_)) => "stuck|idle|next",
+        _ => words_of_move(act),
     }
 }
 
-// The word of a move, or of the daemon's Stuck.
-fn move_word(act: &Act) -> &'static str {
+// The words of a move, or of the daemon's Stuck.
+fn words_of_move(act: &Act) -> &'static str {
     match act {
-        Act::Took(_, _, _) => "took",
-        Act::Copied(_, _, _) => "copied",
-        Act::TimedOut(_, _, _) => "timed-out",
-        Act::CameDue(_, _, _) => "came-due",
-        Act::HeldBack(_, _, _) => "held-back",
-        _ => "stuck",
+        Act::Took(_, _, _) => "took||",
+        Act::Copied(_, _, _) => "copied||",
+        Act::TimedOut(_, _, _) => "timed-out||",
+        Act::CameDue(_, _, _) => "came-due||",
+        Act::HeldBack(_, _, _) => "held-back||",
+        _ => "stuck||",
     }
 }
 
 /// Whether an act is a move, or the daemon's Stuck.
 pub fn is_move(act: &Act) -> bool {
-    words_of(act).calls.is_empty()
+    word_of(act, CALLS).is_empty()
 }
 
 /// An act and how it ended. Of a command, of what is asked and of a fault neither what it says nor what is answered stands here.
 pub fn put_entry(rt: &impl Abort, out: &mut Vec<u8>, act: &Act, end: End) {
-    put(rt, out, words_of(act).entry.as_bytes());
+    put(rt, out, word_of(act, ENTRY).as_bytes());
     put_parts(rt, out, act);
     match end {
         End::Done => {}
@@ -139,7 +141,7 @@ fn is_for(act: &Act, call: &Call) -> bool {
         (Act::Did(did, _), Call::Command(command)) => is_command(did, command),
         (Act::Refused(fault, _), Call::Bad(bad)) => fault == bad,
         (Act::Asked(asked, _), Call::Ask(ask)) => is_ask(asked, ask),
-        _ => words_of(act).calls.contains(call_word(call)),
+        _ => word_of(act, CALLS).contains(call_word(call)),
     }
 }
 

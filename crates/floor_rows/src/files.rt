@@ -20,12 +20,22 @@ pub fn folder_of(
 ) -> MemFolder {
     let mut given = Vec::new(alloc);
     for file in files {
-        let name = String::from_utf8_lossy(alloc, file.name.bytes()).expect(rt, "memory");
-        let bytes = Vec::from_slice(alloc, file.bytes.bytes()).expect(rt, "memory");
-        given.push((name, bytes)).expect(rt, "memory");
+        push_given(rt, alloc, &mut given, file);
     }
     let fails = Vec::from_slice(alloc, fails).expect(rt, "memory");
     MemFolder::new(alloc, given, fails).expect(rt, "memory")
+}
+
+// Adds a file as a folder in memory is given it.
+fn push_given(
+    rt: &impl Abort,
+    alloc: Global,
+    given: &mut Vec<(String, Vec<u8>)>,
+    file: &NamedFile,
+) {
+    let name = String::from_utf8_lossy(alloc, file.name.bytes()).expect(rt, "memory");
+    let bytes = Vec::from_slice(alloc, file.bytes.bytes()).expect(rt, "memory");
+    given.push((name, bytes)).expect(rt, "memory");
 }
 
 /// One more file, whose bytes a text stands for. Behind them stand so many spaces that it has `padded` bytes, if it has fewer.

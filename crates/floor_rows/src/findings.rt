@@ -1,7 +1,8 @@
 //! What is found in files, as text.
 
-use crate::judged::names_found;
+use crate::judged::{finding_of, let_go};
 use crate::texts::{put, put_count, put_flag, put_sent, put_word, same};
+use broker_files::{Finding, FoundNames, FoundTopic};
 use queue_plain::NamedFile;
 use std::alloc::Global;
 use std::process::Abort;
@@ -23,28 +24,35 @@ pub fn listing_of(rt: &impl Abort, alloc: Global, files: &[NamedFile]) -> Listin
         queues: Vec::new(alloc),
         stats: Vec::new(alloc),
     };
-    if let Some(names) = names_found(rt, alloc, files) {
-        listing.epoch = names.epoch;
-        put(rt, &mut listing.stats, b"stats");
-        for topic in &names.topics {
-            listing.put(rt, alloc, topic.name.bytes(), &topic.messages, topic.paused);
-            put(rt, &mut listing.stats, b" [");
-            for channel in &topic.channels {
-                listing.put(
-                    rt,
-                    alloc,
-                    channel.name.bytes(),
-                    &channel.messages,
-                    channel.paused,
-                );
-            }
-            put(rt, &mut listing.stats, b" ]");
-        }
+    let finding = finding_of(rt, alloc, files);
+    if let Finding::Names(names) = &finding {
+        listing.put_names(rt, alloc, names);
     }
+    let_go(finding);
     listing
 }
 
 impl Listing {
+    // What was found.
+    fn put_names(&mut self, rt: &impl Abort, alloc: Global, names: &FoundNames) {
+        self.epoch = names.epoch;
+        put(rt, &mut self.stats, b"stats");
+        for topic in &names.topics {
+            self.put_topic(rt, alloc, topic);
+        }
+    }
+
+    // A topic with its channels.
+    fn put_topic(&mut self, rt: &impl Abort, alloc: Global, topic: &FoundTopic) {
+        self.put(rt, alloc, topic.name.bytes(), &topic.messages, topic.paused);
+        put(rt, &mut self.stats, b" [");
+        for channel in &topic.channels {
+            let name = channel.name.bytes();
+            self.put(rt, alloc, name, &channel.messages, channel.paused);
+        }
+        put(rt, &mut self.stats, b" ]");
+    }
+
     // The queue of a topic or a channel, whose messages wait, all on disk.
     fn put(
         &mut self,

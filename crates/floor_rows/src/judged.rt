@@ -24,21 +24,28 @@ pub struct Run<'a> {
     pub opened: bool,
 }
 
+/// What an opening of these files finds.
+pub fn finding_of(rt: &impl Abort, alloc: Global, files: &[NamedFile]) -> Finding {
+    found(alloc, files).expect(rt, "memory")
+}
+
+/// Takes what was found apart.
+pub fn let_go(_finding: Finding) {}
+
 /// Whether an opening of these files may be refused for this.
 pub fn may_refuse(rt: &impl Abort, alloc: Global, files: &[NamedFile], why: &str) -> bool {
-    let why = why.as_bytes();
-    match found(alloc, files).expect(rt, "memory") {
+    let finding = finding_of(rt, alloc, files);
+    let may = refuses(&finding, why.as_bytes());
+    let_go(finding);
+    may
+}
+
+// Whether what was found may be refused for this.
+fn refuses(finding: &Finding, why: &[u8]) -> bool {
+    match finding {
         Finding::BadData => !same(why, b"epoch-spent"),
         Finding::EpochSpent => !same(why, b"bad-data"),
         Finding::Names(_) => same(why, b"fault") || same(why, b"memory"),
-    }
-}
-
-/// The names that are found in these files; none where an opening is refused.
-pub fn names_found(rt: &impl Abort, alloc: Global, files: &[NamedFile]) -> Option<FoundNames> {
-    match found(alloc, files).expect(rt, "memory") {
-        Finding::Names(names) => Some(names),
-        Finding::BadData | Finding::EpochSpent => None,
     }
 }
 
@@ -51,31 +58,66 @@ pub fn wrong_in(
     left: Option<&[NamedFile]>,
 ) -> &'static [u8] {
     let states = states_of(rt, alloc, options, run);
-    match left {
+    let wrong: &'static [u8] = match left {
         _ if states.is_empty() => b"isn't legal",
         Some(left) if !is_kept(rt, alloc, &states, left) => b"keeps something else",
         _ => b"",
-    }
+    };
+    drop(states);
+    wrong
 }
 
 // The states to which a run's entries lead from the start that its files give; none where they aren't legal.
 fn states_of(rt: &impl Abort, alloc: Global, options: &Options, run: Run<'_>) -> Vec<State> {
-    let Some(names) = names_found(rt, alloc, run.files) else {
-        return Vec::new(alloc);
-    };
-    let epoch = if run.opened { names.epoch } else { 0 };
-    if epoch >= LAST_EPOCH {
-        return Vec::new(alloc);
+    match begun(rt, alloc, options, run) {
+        Some(state) => {
+            let states = led_to(alloc, &state, run.entries).expect(rt, "memory");
+            drop(state);
+            states
+        }
+        None => Vec::new(alloc),
     }
-    let names = FoundNames { epoch, ..names };
-    let start = start(alloc, &names, options, run.began).expect(rt, "memory");
-    led_to(alloc, &start, run.entries).expect(rt, "memory")
+}
+
+// The start that a run's files give.
+fn begun(rt: &impl Abort, alloc: Global, options: &Options, run: Run<'_>) -> Option<State> {
+    let finding = finding_of(rt, alloc, run.files);
+    let state = begun_by(rt, alloc, options, &finding, run);
+    let_go(finding);
+    state
+}
+
+fn begun_by(
+    rt: &impl Abort,
+    alloc: Global,
+    options: &Options,
+    finding: &Finding,
+    run: Run<'_>,
+) -> Option<State> {
+    match finding {
+        Finding::Names(names) if names.epoch < LAST_EPOCH => {
+            let mut state = start(alloc, names, options, run.began).expect(rt, "memory");
+            if !run.opened {
+                state.epoch = 1;
+            }
+            Some(state)
+        }
+        _ => None,
+    }
 }
 
 // Whether an opening of these files finds all that one of the states leaves, and nothing else. Behind the last epoch it finds that none is left.
 fn is_kept(rt: &impl Abort, alloc: Global, states: &[State], files: &[NamedFile]) -> bool {
-    match found(alloc, files).expect(rt, "memory") {
-        Finding::Names(names) => one_leaves(rt, alloc, states, &names),
+    let finding = finding_of(rt, alloc, files);
+    let kept = keeps(rt, alloc, states, &finding);
+    let_go(finding);
+    kept
+}
+
+// Whether this finds all that one of the states leaves, and nothing else.
+fn keeps(rt: &impl Abort, alloc: Global, states: &[State], finding: &Finding) -> bool {
+    match finding {
+        Finding::Names(names) => one_leaves(rt, alloc, states, names),
         Finding::EpochSpent => are_last(states),
         Finding::BadData => false,
     }

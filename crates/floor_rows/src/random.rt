@@ -8,7 +8,7 @@ use crate::done::{Done, is_in_order, put_done};
 use crate::judged::wrong_in;
 use crate::outside::Dials;
 use crate::stage::Stage;
-use crate::texts::{put, put_number, same};
+use crate::texts::{check, put, put_number, same};
 use broker_history::Entry;
 use nsq_base::Options;
 use nsq_outside::End;
@@ -241,16 +241,24 @@ fn make_turns(rt: &impl Abort, stage: &mut Stage, seed: u64) {
     stage.fails = clients.dice.faults(rt, stage.alloc);
     stage.begin(rt, &options);
     let right = turns_are_right(rt, stage, &mut clients);
+    drop(clients);
     stage.end("leave");
-    if !right {
-        tell(rt, stage, b"the last is answered wrongly", 0);
-    } else if let Some(place) = out_of_order(rt, stage) {
-        tell(rt, stage, b"not in order", place);
+    if right {
+        judge(rt, stage, &options);
     } else {
-        let wrong = wrong_in(rt, stage.alloc, &options, stage.run(), None);
-        if !wrong.is_empty() {
-            tell(rt, stage, wrong, 0);
-        }
+        tell(rt, stage, b"the last is answered wrongly", 0);
+    }
+    drop(options);
+}
+
+// Tells what is wrong with the turns that were answered rightly.
+fn judge(rt: &impl Abort, stage: &mut Stage, options: &Options) {
+    if let Some(place) = out_of_order(rt, stage) {
+        return tell(rt, stage, b"not in order", place);
+    }
+    let wrong = wrong_in(rt, stage.alloc, options, stage.run(), None);
+    if !wrong.is_empty() {
+        tell(rt, stage, wrong, 0);
     }
 }
 
@@ -289,8 +297,11 @@ fn put_turn(rt: &impl Abort, text: &mut Vec<u8>, done: &Done, entries: &[(Entry,
 // Stops the run where a seed's turns aren't right.
 fn try_seed(rt: &impl Abort, stage: &mut Stage, seed: u64) {
     make_turns(rt, stage, seed);
-    let text = String::from_utf8_lossy(stage.alloc, &stage.wrong).expect(rt, "memory");
-    assert!(rt; stage.wrong.is_empty(), "{text}\nseed {seed}");
+    if !stage.wrong.is_empty() {
+        put(rt, &mut stage.wrong, b"\nseed ");
+        put_number(rt, &mut stage.wrong, u128::from(seed));
+    }
+    check(rt, stage.alloc, "random turns", &stage.wrong);
 }
 
 #[test]
@@ -300,5 +311,5 @@ fn random_turns(rt: HostRuntime) {
     for seed in 1..SEEDS + 1 {
         try_seed(&rt, &mut stage, seed);
     }
-    drop(stage);
+    stage.close();
 }

@@ -22,7 +22,7 @@ use crate::outside::Dials;
 use crate::settings::options_of;
 use crate::stage::Stage;
 use crate::texts::{
-    halves, moment, number, parted, put, put_bytes, put_id, put_line, put_word, same,
+    check, halves, moment, number, parted, put, put_bytes, put_id, put_line, put_word, same,
 };
 use crate::{restarts, tables};
 use broker_history::Act;
@@ -202,6 +202,7 @@ fn judge(rt: &impl Abort, stage: &mut Stage, is_clean: bool) {
         None
     };
     let wrong = wrong_in(rt, stage.alloc, &options, stage.run(), left);
+    drop(options);
     if !wrong.is_empty() {
         stage.tell(rt, "the run", wrong);
     }
@@ -239,8 +240,7 @@ fn try_row(rt: &impl Abort, stage: &mut Stage, row: &str) {
         stage.clear();
         run(rt, stage, lines);
     }
-    let text = String::from_utf8_lossy(stage.alloc, &stage.wrong).expect(rt, "memory");
-    assert!(rt; stage.wrong.is_empty(), "{name}\n  {text}");
+    check(rt, stage.alloc, name, &stage.wrong);
 }
 
 fn try_table(rt: &impl Abort, stage: &mut Stage, table: &str) {
@@ -255,7 +255,7 @@ fn try_tables(rt: &impl Abort, alloc: Global, tables: &[&str]) {
     for table in tables {
         try_table(rt, &mut stage, table);
     }
-    drop(stage);
+    stage.close();
 }
 
 #[test]

@@ -39,8 +39,7 @@ const LATEST: u64 = 1 << 62;
 // A floor in memory.
 type MemFloor<'a> = Floor<MemFolder, Shown<'a>, Counted<'a>>;
 
-// A floor that takes turns.
-#[derive(Drop)]
+// A floor that takes turns. It's ended and not dropped: a floor's drop is that of all its parts, each proved here once more.
 struct Bench<'a> {
     floor: MemFloor<'a>,
     ghost open: { flushed_of floor ≡ false },
@@ -62,16 +61,24 @@ impl<'a> Bench<'a> {
                 self.floor.saved();
                 put(rt, told, b"done");
             }
-            "kept" => put_kept(rt, told, &self.floor.kept(alloc).expect(rt, "memory")),
-            "names" => {
-                put(rt, told, b"names");
-                put_names(rt, told, &self.floor.names(alloc).expect(rt, "memory"));
-            }
+            "kept" => self.put_kept(rt, alloc, told),
+            "names" => self.put_names(rt, alloc, told),
             "epoch" => put_number(rt, told, u128::from(self.floor.epoch())),
             "began" => put_number(rt, told, u128::from(self.floor.began())),
             _ => return false,
         }
         true
+    }
+
+    fn put_kept(&self, rt: &impl Abort, alloc: Global, told: &mut Vec<u8>) {
+        let kept = self.floor.kept(alloc).expect(rt, "memory");
+        put_kept(rt, told, &kept);
+    }
+
+    fn put_names(&self, rt: &impl Abort, alloc: Global, told: &mut Vec<u8>) {
+        let names = self.floor.names(alloc).expect(rt, "memory");
+        put(rt, told, b"names");
+        put_names(rt, told, &names);
     }
 
     // Ends it so; how that ended, and what it left.
@@ -83,20 +90,36 @@ impl<'a> Bench<'a> {
                 (shut_word(end), kit)
             }
             "flush" => flush(floor),
-            _ => (b"left", floor.end()),
+            _ => (b"left", kit_left(floor)),
         }
     }
+}
+
+// Lets go of a floor.
+fn let_bench_go(bench: Option<Bench<'_>>) {
+    if let Some(Bench { floor }) = bench {
+        drop(kit_left(floor));
+    }
+}
+
+// What a floor leaves.
+fn kit_left<'a>(floor: MemFloor<'a>) -> MemKit<'a> {
+    floor.end()
 }
 
 // Writes what is in memory.
 fn flush<'a>(mut floor: MemFloor<'a>) -> (&'static [u8], MemKit<'a>)
     requires { flushed_of floor ≡ false }
 {
-    match floor.flush() {
-        Flushed::Done => (b"done", floor.end()),
-        Flushed::Fault => (b"fault", floor.end()),
-    }
+    let flushed: &'static [u8] = match floor.flush() {
+        Flushed::Done => b"done",
+        Flushed::Fault => b"fault",
+    };
+    (flushed, kit_left(floor))
 }
+
+// Takes a turn's answer apart.
+fn let_turned_go(_turned: Turned) {}
 
 fn yes_or_no(flag: bool) -> &'static [u8] {
     if flag { b"yes" } else { b"no" }
@@ -146,8 +169,7 @@ fn put_kept_channels(rt: &impl Abort, out: &mut Vec<u8>, channels: &[KeptChannel
     }
 }
 
-/// Where runs are made, one after another.
-#[derive(Drop)]
+/// Where runs are made, one after another. It's closed and not dropped.
 pub struct Stage<'a> {
     pub alloc: Global,
     pub dials: &'a Dials,
@@ -193,14 +215,38 @@ impl<'a> Stage<'a> {
     /// All is as it was at first.
     pub fn clear(&mut self) {
         let fresh = Stage::new(self.alloc, self.dials);
-        drop(mem::replace(self, fresh));
+        mem::replace(self, fresh).close();
+    }
+
+    /// Lets go of all of it.
+    pub fn close(self) {
+        let Stage {
+            alloc: _,
+            dials: _,
+            setting: _,
+            fails,
+            files,
+            done,
+            opened: _,
+            wrong,
+            bench,
+            left,
+            began: _,
+            moment: _,
+        } = self;
+        drop(fails);
+        drop(files);
+        drop(done);
+        drop(wrong);
+        let_bench_go(bench);
+        drop(left);
     }
 
     // A run is made at this floor.
     fn run_at(&mut self, floor: MemFloor<'a>)
         requires { flushed_of floor ≡ false }
     {
-        drop(mem::replace(&mut self.bench, Some(Bench { floor })));
+        let_bench_go(mem::replace(&mut self.bench, Some(Bench { floor })));
     }
 
     // A run left this.
@@ -231,7 +277,9 @@ impl<'a> Stage<'a> {
         self.opened = true;
         self.done.clear();
         self.moment = 0;
-        match open(self.alloc, kit, &options) {
+        let opened = open(self.alloc, kit, &options);
+        drop(options);
+        match opened {
             Ok(floor) => {
                 self.began = floor.began();
                 self.run_at(floor);
@@ -283,6 +331,7 @@ impl<'a> Stage<'a> {
         if !self.is_open() && self.left.is_none() {
             let options = options_of(rt, self.alloc, &self.setting);
             self.begin(rt, &options);
+            drop(options);
         }
     }
 
@@ -308,6 +357,7 @@ impl<'a> Stage<'a> {
         self.moment = self.moment.max(self.dials.reading().min(LATEST));
         let answer = bench.turn(self.alloc, number, call);
         put_answer(rt, self.alloc, told, &answer, !self.opened);
+        let_turned_go(answer);
         true
     }
 

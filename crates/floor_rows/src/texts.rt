@@ -2,6 +2,7 @@
 
 use itoa::Buffer;
 use nsq_base::{Chan, MsgId, Names};
+use std::alloc::Global;
 use std::process::Abort;
 use v2_frame::Message;
 
@@ -16,6 +17,12 @@ pub fn put(rt: &impl Abort, out: &mut Vec<u8>, text: &[u8]) {
 
 pub fn same(one: &[u8], other: &[u8]) -> bool {
     one == other
+}
+
+/// Ends the run where something differs in the row of this name.
+pub fn check(rt: &impl Abort, alloc: Global, name: &str, differs: &[u8]) {
+    let text = String::from_utf8_lossy(alloc, differs).expect(rt, "memory");
+    assert!(rt; differs.is_empty(), "{name}\n  {text}");
 }
 
 /// The parts of a text before and behind a mark; nothing behind it where it doesn't stand there.

@@ -5,7 +5,7 @@ use crate::files::{NAMES, bytes_of, put_copies, put_copy, same_file};
 use crate::findings::{Listing, listing_of};
 use crate::outside::Dials;
 use crate::stage::Stage;
-use crate::texts::{number, parted, put, put_number, put_word, same};
+use crate::texts::{check, number, parted, put, put_number, put_word, same};
 use nsq_fakes::{Failing, FolderCall};
 use queue_plain::NamedFile;
 use std::alloc::Global;
@@ -200,12 +200,32 @@ fn opening(rt: &impl Abort, stage: &mut Stage, base: &Base, call: u64) -> &'stat
         return "it is refused for another cause";
     }
     let files = stage.files_left(rt);
-    let listing = listing_of(rt, stage.alloc, &files);
-    let raised = listing.epoch.wrapping_sub(base.listing.epoch);
-    if raised > 1 || listing.differences(&base.listing) != 0 {
-        return OTHERS;
-    }
-    reopened(rt, stage, &files, &listing)
+    let what = found_again(rt, stage, base, &files, true);
+    drop(files);
+    what
+}
+
+// Whether a second opening finds what is listed of these files, which have to be all that was filled in where that is said.
+fn found_again(
+    rt: &impl Abort,
+    stage: &mut Stage,
+    base: &Base,
+    files: &[NamedFile],
+    are_all: bool,
+) -> &'static str {
+    let listing = listing_of(rt, stage.alloc, files);
+    let what = if are_all && !is_base(&listing, &base.listing) {
+        OTHERS
+    } else {
+        reopened(rt, stage, files, &listing)
+    };
+    drop(listing);
+    what
+}
+
+// Whether the same is listed as at first, with the same epoch or the next.
+fn is_base(listing: &Listing, base: &Listing) -> bool {
+    listing.epoch.wrapping_sub(base.epoch) <= 1 && listing.differences(base) == 0
 }
 
 // Saving of which this call fails: once it is left then, and once it is tried again.
@@ -280,15 +300,27 @@ fn shutting(
         return "it ends for want of memory";
     }
     let files = stage.files_left(rt);
-    if !has_names(base, bytes_of(&files, NAMES)) {
-        return "the file of names is another";
+    let what = shut_wrongly(rt, stage, base, &files, count);
+    drop(files);
+    what
+}
+
+// What is wrong with these files, which shutting left of which so many calls failed.
+fn shut_wrongly(
+    rt: &impl Abort,
+    stage: &mut Stage,
+    base: &Base,
+    files: &[NamedFile],
+    count: u64,
+) -> &'static str {
+    if !has_names(base, bytes_of(files, NAMES)) {
+        "the file of names is another"
+    } else if missed(rt, stage.alloc, base, files) > most_missed(base, files, count) {
+        "too many queues were missed"
+    } else {
+        // By the file of names that is there, a second opening finds what was kept.
+        found_again(rt, stage, base, files, false)
     }
-    if missed(rt, stage.alloc, base, &files) > most_missed(base, &files, count) {
-        return "too many queues were missed";
-    }
-    // By the file of names that is there, a second opening finds what was kept.
-    let listing = listing_of(rt, stage.alloc, &files);
-    reopened(rt, stage, &files, &listing)
 }
 
 // How many queues may be missed at most behind shutting of which so many calls failed, and which left these files.
@@ -346,24 +378,30 @@ fn counted(rt: &impl Abort, stage: &mut Stage, base: &Base, trial: &str) -> (u64
 // What differs in a trial of so many calls at least, as text; nothing where it holds.
 fn differs(rt: &impl Abort, stage: &mut Stage, trial: &str, least: u64) -> Vec<u8> {
     let alloc = stage.alloc;
-    let mut text = Vec::new(alloc);
     let mut base = Base {
         calls: 0,
         names: Vec::new(alloc),
         files: Vec::new(alloc),
         listing: listing_of(rt, alloc, &[]),
     };
-    if !put_base(rt, stage, &mut base) {
+    let mut text = Vec::new(alloc);
+    if put_base(rt, stage, &mut base) {
+        let (count, what) = counted(rt, stage, &base, trial);
+        put_counted(rt, &mut text, least, count, what);
+    } else {
         put(rt, &mut text, b"the topics aren't filled");
-        return text;
     }
-    let (count, what) = counted(rt, stage, &base, trial);
-    if !what.is_empty() || count < least {
-        put(rt, &mut text, b"at call ");
-        put_number(rt, &mut text, u128::from(count));
-        put_word(rt, &mut text, what.as_bytes());
-    }
+    drop(base);
     text
+}
+
+// What is wrong at the call of this number, if something is, or if a trial has fewer calls than this.
+fn put_counted(rt: &impl Abort, text: &mut Vec<u8>, least: u64, count: u64, what: &str) {
+    if !what.is_empty() || count < least {
+        put(rt, text, b"at call ");
+        put_number(rt, text, u128::from(count));
+        put_word(rt, text, what.as_bytes());
+    }
 }
 
 // Stops the run where a trial doesn't hold, with its name and what differs in it. One that differs begins once more: a call of the path may have found
@@ -376,8 +414,7 @@ fn try_row(rt: &impl Abort, stage: &mut Stage, row: &str) {
     if !wrong.is_empty() {
         wrong = differs(rt, stage, trial, least);
     }
-    let text = String::from_utf8_lossy(stage.alloc, &wrong).expect(rt, "memory");
-    assert!(rt; wrong.is_empty(), "{name}: {text}");
+    check(rt, stage.alloc, name, &wrong);
 }
 
 fn try_rows(rt: &impl Abort, stage: &mut Stage) {
@@ -391,5 +428,5 @@ fn failing_calls(rt: HostRuntime) {
     let dials = Dials::new();
     let mut stage = Stage::new(rt.alloc(), &dials);
     try_rows(&rt, &mut stage);
-    drop(stage);
+    stage.close();
 }

@@ -9,5 +9,5 @@ pub mod Tying
 pub use Rattle.floor_words.proofs.Saying
 pub use Rattle.floor_words.proofs.Found
 pub use Rattle.floor_words.proofs.Keeping as KeptNames
-pub use Rattle.floor_payments.proofs.Keeping
+pub use Rattle.floor_moves.proofs.Keeping
 pub use Rattle.floor_files.proofs.Raising

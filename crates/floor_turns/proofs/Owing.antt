@@ -16,16 +16,16 @@ use Rattle.broker_history.specs.Before.{IsPaid, is_stuck_at}
 use Rattle.floor_rooms.specs.declared.hall.Hall.{Hall}
 use Rattle.floor_rooms.specs.Standing.{HoldsFor}
 use Rattle.floor_rooms.specs.declared.room.Room.{Room}
-use Rattle.floor_payments.specs.Pending.{IsBusyAt}
-use Rattle.floor_payments.specs.Taking.{HasRoomAt, TakesNext}
-use Rattle.floor_payments.specs.Copying.{OwesNext}
-use Rattle.floor_payments.specs.Made.{Made}
-use Rattle.floor_payments.specs.Made.TheVariants as made
-use Rattle.floor_payments.specs.Moves.{IsKeptOff, IsMade, Keeps, Moves, NothingNoted, Notes, RoseBy, Sight, sight}
+use Rattle.floor_moves.specs.Pending.{IsBusyAt}
+use Rattle.floor_moves.specs.Taking.{HasRoomAt, TakesNext}
+use Rattle.floor_moves.specs.Copying.{OwesNext}
+use Rattle.floor_moves.specs.declared.made.Made.{Made}
+use Rattle.floor_moves.specs.declared.made.Made.TheVariants as made
+use Rattle.floor_moves.specs.Moves.{IsKeptOff, IsMade, Keeps, Moves, NothingNoted, Notes, RoseBy, Sight, sight}
 use Rattle.floor_rooms.specs.Changes.{OnlyQueueFiles}
 use Rattle.floor_rooms.specs.Sound.{IsSound}
-use Rattle.floor_payments.proofs.Keeping.{keeps_on, keeps_same}
-use Rattle.floor_payments.proofs.Stepping.{rose_none}
+use Rattle.floor_moves.proofs.Keeping.{keeps_on, keeps_same}
+use Rattle.floor_moves.proofs.Stepping.{rose_none}
 use Rattle.floor_laws.proofs.Counting.{parts}
 use Rattle.turn_laws.specs.Laid.{EndsStuck, IsHeld, IsMoved}
 use Rattle.turn_laws.proofs.Laying.{all_both, holds_free, moved_free, sticks_free}

@@ -39,7 +39,7 @@ use Rattle.floor_rooms.proofs.Dating.{since_kept, since_kept_then}
 use Rattle.floor_rooms.proofs.Naming.{names_kept, names_then}
 use Rattle.floor_rooms.specs.Standing.{HoldsFor}
 use Rattle.floor_words.specs.Plans.{MayBegin, Serves, is_strange}
-use Rattle.floor_payments.specs.Moves.{Keeps, RoseBy, Sight}
+use Rattle.floor_moves.specs.Moves.{Keeps, RoseBy, Sight}
 use Rattle.turn_laws.specs.Laid.{AreActsFor, AreHeldBack, AreMoved, AreStuck, EndsStuck, IsLaid, IsMoved}
 use Rattle.turn_laws.proofs.Allowing.{moves_allow}
 use Rattle.turn_laws.proofs.Beginning.{legal_begins}
@@ -55,7 +55,7 @@ use Rattle.floor_turns.specs.Timely.{TicksTimely}
 use Rattle.floor_turns.specs.Turning.{IsAnswered, IsStuckStop, PaysFor, Settles, StaysOn, TakesTurn, ends_at_stop, is_enough, is_stopping, is_stuck_stop, most_for, stops_stuck}
 use Rattle.floor_turns.proofs.Clearing.{paid_may_act, paid_may_stop}
 use Rattle.floor_turns.proofs.Marking.{marks_kept, marks_same, marks_then}
-use Rattle.floor_payments.proofs.Stepping.{rose_none}
+use Rattle.floor_moves.proofs.Stepping.{rose_none}
 
 -- behind a Stop nothing is due
 stopped_calm : (h : Hall) (files : Files) (t : State) (at : ℕ) → h.stopped ≡ true → HoldsFor h files t → is_any_due t at ≡ false

@@ -27,7 +27,7 @@ use Rattle.floor_rooms.specs.Kept.{NamesTold}
 use Rattle.floor_rooms.specs.Standing.{HoldsFor}
 use Rattle.floor_words.specs.Plans.{IsAllowedPlan, IsCallsAct, IsShortAct, KnowsAct, MayBegin, Serves, number_of}
 use Rattle.floor_words.specs.declared.plan.Plan.TheVariants as plan
-use Rattle.floor_payments.specs.Moves.{Sight, RoseBy}
+use Rattle.floor_moves.specs.Moves.{Sight, RoseBy}
 use Rattle.turn_laws.specs.Laid.{AreHeldBack, IsActFor}
 
 -- a call of this number leads to this act in this hall

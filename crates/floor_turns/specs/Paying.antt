@@ -8,9 +8,9 @@ use Rattle.broker_history.specs.Legal.{Legal}
 use Rattle.floor_rooms.specs.declared.hall.Hall.{Hall}
 use Rattle.floor_rooms.specs.Sound.{IsSound}
 use Rattle.floor_rooms.specs.Standing.{HoldsFor}
-use Rattle.floor_payments.specs.Moves.{Sight, Notes, NothingNoted, RoseBy}
-use Rattle.floor_payments.specs.Made.{Made}
-use Rattle.floor_payments.specs.Made.TheVariants as made
+use Rattle.floor_moves.specs.Moves.{Sight, Notes, NothingNoted, RoseBy}
+use Rattle.floor_moves.specs.declared.made.Made.{Made}
+use Rattle.floor_moves.specs.declared.made.Made.TheVariants as made
 use Rattle.turn_laws.specs.Laid.{AreMoved, AreHeldBack, EndsStuck, IsMoved}
 use Rattle.floor_turns.specs.declared.paying.Paid.{Paid}
 use Rattle.floor_turns.specs.declared.paying.Paid.TheVariants.{Clear, Most, Stuck, Wants}

@@ -9,7 +9,7 @@ use Rattle.desk.specs.Calls.{MayCall}
 use Rattle.floor_rooms.specs.declared.hall.Hall.{Hall}
 use Rattle.floor_rooms.specs.Changes.{OnlyQueueFiles}
 use Rattle.floor_rooms.specs.Standing.{HoldsFor}
-use Rattle.floor_payments.specs.Moves.{Sight, sight}
+use Rattle.floor_moves.specs.Moves.{Sight, sight}
 use Rattle.floor_turns.specs.Turning.{TakesTurn}
 use Rattle.floor_turns.specs.Scenes.{IsTied, Scene}
 use Rattle.floor_turns.specs.Leads.{Leads}

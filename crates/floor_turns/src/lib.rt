@@ -2,7 +2,7 @@
 //!
 //! `specs/Paying.antt` says what is paid before an act, `specs/Turns.antt` what one turn does as a whole, `specs/Leads.antt` what turns of a number lead to.
 //!
-//! It hands on what the parts of a turn are made of: the plans and replies of `floor_words`, the moves of `floor_payments`, and
+//! It hands on what the parts of a turn are made of: the plans and replies of `floor_words`, the moves of `floor_moves`, and
 //! what `floor_files` saves.
 #![tactic(auto)]
 
@@ -10,7 +10,7 @@ mod laws;
 mod paying;
 
 pub use floor_files::{flush_all, sync_all};
-pub use floor_payments::{Place, hold_back};
+pub use floor_moves::{Place, hold_back};
 pub use floor_words::{
     Plan, Planned, are_left, beat_frame, closes, is_strange, kept, message_frame, names, plan_call,
 };

@@ -4,12 +4,12 @@ ghost use Rattle.broker_history.specs.State.{State};
 ghost use Rattle.floor_rooms.specs.Changes.{OnlyQueueFiles};
 ghost use Rattle.floor_rooms.specs.Sound.{IsSound};
 ghost use Rattle.floor_rooms.specs.Standing.{HoldsFor};
-ghost use Rattle.floor_payments.specs.Due.{DueFound};
-ghost use Rattle.floor_payments.specs.Moves.{sight, Keeps};
+ghost use Rattle.floor_moves.specs.Due.{DueFound};
+ghost use Rattle.floor_moves.specs.Moves.{sight, Keeps};
 ghost use Rattle.floor_turns.specs.Paying.{MovesNext, Pays, ended};
 
 use broker_history::Entry;
-use floor_payments::{Made, Place, copy_message, find_due, find_pending, move_due, take_message};
+use floor_moves::{Made, Place, copy_message, find_due, find_pending, move_due, take_message};
 use floor_rooms::{Hall, Room};
 use nsq_base::Steps;
 use nsq_outside::{Folder, Journal};

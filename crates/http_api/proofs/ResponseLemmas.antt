@@ -15,8 +15,8 @@ use Rattle.http_calls.specs.declared.call.HttpCall.TheVariants as call
 use Rattle.http_calls.specs.Answers.{publishes, answer_for, stop_answer}
 use Rattle.http_calls.specs.Calls.{call_for}
 use Rattle.http_api.specs.Exchange.{Answers, alone, told, stopping, stopped, answer_alone, ListsBehindStop}
-use Rattle.http_api.specs.declared.turns.Asked.{Asked}
-use Rattle.http_api.specs.declared.turns.Asked.TheVariants as asked
+use Rattle.http_asked.specs.declared.asked.Asked.{Asked}
+use Rattle.http_asked.specs.declared.asked.Asked.TheVariants as asked
 use Rattle.http_api.specs.Noted.{AsksTo, IsStopped}
 use Rattle.http_api.specs.Responses.{told_answer, AnswersCall, IsWanting, RespondsTo}
 use Rattle.http_api.proofs.ListLemmas.{lists_none}

@@ -10,8 +10,8 @@ use Rattle.desk.specs.declared.turned.Turned.TheVariants.{Listed, Stopping}
 use Rattle.http_api.specs.Exchange.{IsStop, IsListed, IsListing, IsStopping, IsAsking, ListsBehindStop}
 use Rattle.http_api.specs.declared.turns.Ticked.{Ticked}
 use Rattle.http_api.specs.declared.turns.Ticked.TheVariants.{Goes, Closed, Memory}
-use Rattle.http_api.specs.declared.turns.Asked.{Asked}
-use Rattle.http_api.specs.declared.turns.Asked.TheVariants as asked
+use Rattle.http_asked.specs.declared.asked.Asked.{Asked}
+use Rattle.http_asked.specs.declared.asked.Asked.TheVariants as asked
 
 -- whether a turn answers that the names were listed
 abbrev pub lists_names : Turned → Bool

@@ -1,5 +1,5 @@
 -- How a call is answered, by what was noted for it.
-use Rattle.std.specs.Prelude.{◌≡◌, ◌⊎◌, ℕ, Bool, [], ◌∷◌, ◌++◌, Result, Ok, Err}
+use Rattle.std.specs.Prelude.{◌≡◌, ◌⊎◌, ℕ, [], ◌∷◌, ◌++◌, Result, Ok, Err}
 use Rattle.nsq_base.specs.declared.memory.Memory.{Memory as NoMemory}
 use Rattle.nsq_outside.specs.declared.journal.End.{End}
 use Rattle.broker_history.specs.declared.ask.Ask.{Ask}
@@ -12,14 +12,8 @@ use Rattle.http_calls.specs.declared.call.HttpCall.TheVariants as call
 use Rattle.http_calls.specs.declared.refusal.Refusal.TheVariants as refusal
 use Rattle.http_calls.specs.Refusals.{refused_answer}
 use Rattle.http_calls.specs.Answers.{publishes, answer_for, stop_answer}
-use Rattle.http_api.specs.declared.turns.Asked.{Asked}
-use Rattle.http_api.specs.declared.turns.Asked.TheVariants as asked
+pub use Rattle.http_asked.specs.Told.{told_answer}
 use Rattle.http_api.specs.Exchange.{IsListing, IsStopping, IsAsking, ListsBehindStop}
-
--- how it is answered by what came of what was asked
-abbrev pub told_answer : (publish : Bool) → (began : ℕ) → Asked → HttpAnswer
-told_answer publish began (asked.Said said) = answer_for publish began said
-told_answer publish began asked.Stopping = refused_answer refusal.Stopping
 
 -- what was asked was noted, and is answered by what is said
 pub record IsTold (began : ℕ) (a : Ask) (own : History) (answer : HttpAnswer) : Type 0 where

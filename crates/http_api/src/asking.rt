@@ -5,12 +5,13 @@ ghost use Rattle.desk.specs.Calls.{CanAsk};
 ghost use Rattle.http_wire.specs.Answer.{IsStatus};
 ghost use Rattle.http_calls.specs.declared.call.HttpCall.TheVariants as call;
 ghost use Rattle.http_calls.specs.Calls.{call_for};
-ghost use Rattle.http_api.specs.Responses.{told_answer, RespondsTo};
+ghost use Rattle.http_api.specs.Responses.{RespondsTo};
 
-use crate::turns::{Asked, ask, stop};
+use crate::turns::{ask, stop};
 use broker_history::Ask;
 use desk::Desk;
-use http_calls::{HttpAnswer, HttpCall, Refusal, answer_to, call_of, publishes, stop_answer};
+use http_asked::told_answer;
+use http_calls::{HttpAnswer, HttpCall, call_of, publishes, stop_answer};
 use http_wire::Request;
 use nsq_base::{Memory, Options};
 use std::alloc::Global;
@@ -63,17 +64,6 @@ fn respond_to_ask<R: Wait, D: Desk>(
     let publish = publishes(&asked);
     let told = ask(rt, alloc, number, desk, asked)?;
     told_answer(alloc, publish, began, told)
-}
-
-/// The answer by what came of what was asked: by what is said, or that the daemon stops.
-fn told_answer(alloc: Global, publish: bool, began: u64, told: Asked) -> Result<HttpAnswer, Memory>
-    ensures value { IfOk result (λ answer. answer ≡ told_answer publish began told) }
-    ensures status { IfOk result (λ answer. IsStatus answer.status) }
-{
-    match told {
-        Asked::Said(said) => answer_to(alloc, publish, began, &said),
-        Asked::Stopping => Refusal::Stopping.answer(alloc),
-    }
 }
 
 /// The answer of a stop.

@@ -5,8 +5,9 @@ ghost use Rattle.desk.specs.Answers.{wants_memory};
 ghost use Rattle.http_api.specs.Exchange.{ListsBehindStop};
 ghost use Rattle.http_api.specs.Noted.{lists_names, says_stopping, ListsNames, TicksTo, AsksTo, StopsTo};
 
-use broker_history::{Ask, Said};
+use broker_history::Ask;
 use desk::{Call, Desk, Turned};
+use http_asked::Asked;
 use nsq_base::Memory;
 use std::alloc::Global;
 use std::sync::Wait;
@@ -20,15 +21,6 @@ pub(crate) enum Ticked {
     Closed,
     /// Want of memory.
     Memory,
-}
-
-/// What came of what was asked.
-#[derive(Drop)]
-pub(crate) enum Asked {
-    /// This was said to it.
-    Said(Said),
-    /// The daemon stops, and the names were listed.
-    Stopping,
 }
 
 /// Lists the names of all topics and channels. Want of memory is the only error: then nothing was noted.

@@ -1,7 +1,7 @@
 -- Names need no escape in JSON, and the parts of the file of names make its text.
-use Rattle.std.proofs.Common.{◌≡◌, ℕ, suc, ◌-◌, ◌<◌, ◌≤◌, ◌+◌, Bool, true, false, nat_lt, cond, ◌||◌, decimal, Result, Ok, Err, OnOk, OnErr, List, [], ◌∷◌, ◌++◌, length, take, drop, get_or, map, codes, refl, sym, ap, ap₂, ◌∙◌, subst, arith, append_assoc, append-nil, take-append-drop}
+use Rattle.std.proofs.Common.{◌≡◌, ℕ, suc, ◌-◌, ◌<◌, ◌≤◌, ◌+◌, Bool, true, false, nat_lt, cond, if◌then◌else◌, flat_map, ◌||◌, decimal, Result, Ok, Err, OnOk, OnErr, List, [], ◌∷◌, ◌++◌, length, take, drop, get_or, map, codes, refl, sym, ap, ap₂, ◌∙◌, subst, arith, append_assoc, append-nil, take-append-drop}
 use Rattle.std.specs.List.{AllPass, AllByRecursion}
-use Rattle.std.specs.Result.{is_err}
+use Rattle.std.specs.Result.{is_err, is_ok}
 use Rattle.std.proofs.lemmas.Bool.Decides.{nat_tests}
 use Rattle.std.proofs.lemmas.List.{take_more, length-take-le, take_all, take_at}
 use Rattle.std.proofs.lemmas.List.Elements.{recursion_from_All}
@@ -154,9 +154,24 @@ pub refused : {T E P : Type 0} (r : Result T E) → is_err r ≡ true → OnErr 
 refused (Ok x) e p = cc
 refused (Err x) e p = p
 
+-- a refused one leaves what was
+pub not_more : {T E : Type 0} (r : Result T E) (more now new : List ℕ) → is_err r ≡ true → new ≡ (if is_ok r then more else now) → new ≡ now
+not_more (Ok x) more now new e is = cc
+not_more (Err x) more now new e is = is
+
 -- what was appended is cut off
 pub cut_back : (old now more : List ℕ) (n : ℕ) → length old ≡ n → now ≡ old ++ more → take n now ≡ old
 cut_back old now more n len is = ap (take n) is ∙ take_at old more n len
+
+-- parts, one behind the other
+module _ {X : Type 0} (f : X → List ℕ) (xs : List X) (i : ℕ) (old mid now : List ℕ) (same : mid ≡ old) (so_far : now ≡ mid ++ flat_map f (take i xs)) where
+  -- all of them were appended
+  pub all_appended : length xs ≤ i → now ≡ old ++ flat_map f xs
+  all_appended all = so_far ∙ ap (λ ys. mid ++ flat_map f ys) (take_all i xs all) ∙ ap (λ (o : List ℕ). o ++ flat_map f xs) same
+
+  -- the next one wasn't, and the others are cut off
+  pub parts_cut : {T E : Type 0} (r : Result T E) (more new : List ℕ) (n : ℕ) → length old ≡ n → is_err r ≡ true → new ≡ (if is_ok r then more else now) → take n new ≡ old
+  parts_cut r more new n long e is = cut_back old new (flat_map f (take i xs)) n long (not_more r more now new e is ∙ so_far ∙ ap (λ (o : List ℕ). o ++ flat_map f (take i xs)) same)
 
 -- a list behind what was there
 pub list_whole : {X : Type 0} (text : X → List ℕ) (xs : List X) (i : ℕ) (old mid now new start : List ℕ) → length xs ≤ i → mid ≡ old ++ (start ++ 91 ∷ []) → now ≡ mid ++ items_text text false (take i xs) → new ≡ now ++ 93 ∷ []

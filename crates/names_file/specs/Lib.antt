@@ -1,4 +1,2 @@
 pub mod Kept
 pub mod Texts
-pub mod Durable
-pub mod Reading

@@ -1,22 +1,13 @@
 //! The file of a daemon's durable names, `nsqd.dat`: its entries, and the text that is written.
 //!
 //! `path_image`'s `specs/Data.antt` says what a text keeps.
-//!
-//! The text of a daemon's file of durable names, `nsqd.dat`, is read.
-//!
-//! `path_image`'s `specs/Data.antt` says what a text keeps, and which text is bad.
 #![tactic(auto)]
 
 mod append;
-mod items;
 mod kept;
-mod listed;
-mod members;
 mod names;
-mod sorted;
 
 pub use kept::{KeptChannel, KeptTopic};
-pub use listed::{ListedNames, Unread, read_names};
 pub use names::write_names;
 
 /// The file of the durable names.

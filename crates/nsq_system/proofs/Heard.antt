@@ -28,7 +28,7 @@ in_turn old new Http stream conn turns = turns
 pub end_not_failed : End ≢ NotRead
 end_not_failed same = cc
 
-failed_not_done : Failed ≢ Done
+pub failed_not_done : Failed ≢ Done
 failed_not_done same = cc
 
 -- what a call that sends first tells of its faults, and of whether it broke

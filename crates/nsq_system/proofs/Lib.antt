@@ -4,3 +4,4 @@ pub mod Deliveries
 pub mod ErrorFrames
 pub mod Noted
 pub mod Heard
+pub mod Outgoing

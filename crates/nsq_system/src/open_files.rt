@@ -138,7 +138,8 @@ impl<R: Files> OpenFiles<R> {
         ensures known { self.new.known ≡ self.old.known }
     {
         let ready = self.open(name, false);
-        length_if(&mut self.opened, name, ready)
+        let length = opened_length(&mut self.opened, name, ready);
+        settled(&mut self.opened, name, length)
     }
 }
 
@@ -155,7 +156,8 @@ where
         ensures known { self.new.known ≡ self.old.known }
     {
         let ready = self.open(name, false);
-        read_if(&mut self.opened, name, ready, at, into)
+        let count = read_opened(&mut self.opened, name, ready, at, into);
+        settled(&mut self.opened, name, count)
     }
 
     /// Writes bytes at a place, all of them. The file reaches up to the place, also where there are none.
@@ -193,10 +195,10 @@ impl<R: Files> OpenFiles<R> {
         ensures others { OnlyChanges self.old.known.names self.new.known.names name.now }
     {
         let ready = self.open(name, true);
-        if opened_length(&mut self.opened, name, ready)? < to {
-            self.cut(name, to)
-        } else {
-            Ok(())
+        match opened_length(&mut self.opened, name, ready) {
+            Ok(length) if length < to => self.cut(name, to),
+            Ok(_) => Ok(()),
+            Err(error) => Err(error),
         }
     }
 
@@ -466,35 +468,6 @@ fn opened_length<F: OpenFile>(
     Ok(length)
 }
 
-/// The number of bytes of a file that was opened. It is closed after an error.
-fn length_if<F: OpenFile + Drop>(
-    opened: &mut LruCache<String, F>,
-    name: &str,
-    ready: io::Result<()>,
-) -> io::Result<u64>
-    ensures limit { IfOk result (λ n. n ≤ 2 ^ 62) }
-    ensures closed { OnErr result (IsClosed opened.new.entries name.now) }
-{
-    let length = opened_length(opened, name, ready);
-    settled(opened, name, length)
-}
-
-/// Reads from a file that was opened. It is closed after an error.
-fn read_if<F: FileExt + Drop>(
-    opened: &mut LruCache<String, F>,
-    name: &str,
-    ready: io::Result<()>,
-    at: u64,
-    into: &mut [u8],
-) -> io::Result<usize>
-    ensures amount { IfOk result (λ n. n ≤ length into.old) }
-    ensures limit { IfOk result (λ n. (n ≡ 0) ⊎ (at + n ≤ 2 ^ 62)) }
-    ensures closed { OnErr result (IsClosed opened.new.entries name.now) }
-{
-    let count = read_opened(opened, name, ready, at, into);
-    settled(opened, name, count)
-}
-
 /// Reads from a file that was opened. It is an error where the bytes end past 2^62.
 fn read_opened<F: FileExt>(
     opened: &mut LruCache<String, F>,
@@ -506,7 +479,10 @@ fn read_opened<F: FileExt>(
     ensures amount { IfOk result (λ n. n ≤ length into.old) }
     ensures limit { IfOk result (λ n. (n ≡ 0) ⊎ (at + n ≤ 2 ^ 62)) }
 {
-    read_whole(opened_file(opened, name, ready)?, at, into)
+    match opened_file(opened, name, ready) {
+        Ok(file) => read_whole(file, at, into),
+        Err(error) => Err(error),
+    }
 }
 
 /// Writes bytes at a place of a file that was opened, all of them.
@@ -517,7 +493,10 @@ fn write_if<F: FileExt>(
     from: &[u8],
     at: u64,
 ) -> io::Result<()> {
-    opened_file(opened, name, ready)?.write_all_at(from, at)
+    match opened_file(opened, name, ready) {
+        Ok(file) => file.write_all_at(from, at),
+        Err(error) => Err(error),
+    }
 }
 
 /// Gives a file that was opened a number of bytes.
@@ -527,7 +506,10 @@ fn set_len_if<F: OpenFile>(
     ready: io::Result<()>,
     to: u64,
 ) -> io::Result<()> {
-    opened_file(opened, name, ready)?.set_len(to)
+    match opened_file(opened, name, ready) {
+        Ok(file) => file.set_len(to),
+        Err(error) => Err(error),
+    }
 }
 
 /// Makes the bytes of a file that was opened durable. It is closed after an error.

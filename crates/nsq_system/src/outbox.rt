@@ -93,7 +93,7 @@ impl<W: io::Write + Drop> Outbox<W> {
         if self.gathered.is_empty() {
             return Did::Done;
         }
-        if !self.broken && send_all(&mut self.writer, self.gathered.as_slice()) {
+        if send_all_unless(self.broken, &mut self.writer, self.gathered.as_slice()) {
             self.gathered.clear();
             return Did::Done;
         }
@@ -124,10 +124,11 @@ impl<W: io::Write + Drop> Outbox<W> {
         if MOST_GATHERED < from.len() {
             return self.send_through(from);
         }
-        if self.make_room(from.len()) == Did::Failed {
-            return Write::Failed;
+        match self.make_room(from.len()) {
+            Did::Done => {}
+            Did::Failed => return Write::Failed,
         }
-        if self.broken || self.gathered.extend_from_slice(from).is_err() {
+        if !gather_unless(self.broken, &mut self.gathered, from) {
             self.faults.add();
             return Write::Failed;
         }
@@ -152,13 +153,12 @@ impl<W: io::Write + Drop> Outbox<W> {
         ensures failed { is_broken self.old ≡ true → result ≡ Write.Failed }
         ensures breaks { TakesOrBreaks self.new result }
     {
-        if self.flush() == Did::Failed {
-            return Write::Failed;
+        match self.flush() {
+            Did::Done => {}
+            Did::Failed => return Write::Failed,
         }
-        if !self.broken {
-            if let Some(sent) = send(&mut self.writer, from) {
-                return Write::Took(sent);
-            }
+        if let Some(sent) = send_unless(self.broken, &mut self.writer, from) {
+            return Write::Took(sent);
         }
         self.broken = true;
         self.faults.add();
@@ -187,6 +187,31 @@ impl<W: io::Write + Drop> Outbox<W> {
     }
 }
 
+/// Gathers these bytes behind others, for which there is room. A broken outbox gathers none.
+fn gather_unless(broken: bool, gathered: &mut Vec<u8>, from: &[u8]) -> bool
+    requires { length gathered.old.items + length from.now ≤ vec_capacity gathered.old }
+    ensures gathers { IsTrue result → (broken ≡ false) × (gathered.new.items ≡ gathered.old.items ++ from.now) }
+    ensures refuses { result ≡ false → (broken ≡ true) × (gathered.new.items ≡ gathered.old.items) }
+    ensures capacity { vec_capacity gathered.old ≤ vec_capacity gathered.new }
+{
+    if broken {
+        return false;
+    }
+    gathered.extend_from_slice(from).is_ok()
+}
+
+/// Sends all these bytes, as `send_all`. A broken outbox sends none.
+fn send_all_unless<W: io::Write>(broken: bool, writer: &mut W, bytes: &[u8]) -> bool
+    ensures all { IsTrue result → (broken ≡ false) × Appends (W.contents writer.old) (W.contents writer.new) bytes.now }
+    ensures some { broken ≡ false → SendsSome (W.contents writer.old) (W.contents writer.new) bytes.now }
+    ensures kept { broken ≡ true → writer.new ≡ writer.old }
+{
+    if broken {
+        return false;
+    }
+    send_all(writer, bytes)
+}
+
 /// Sends all these bytes, or tells that a part of them can't be sent.
 fn send_all<W: io::Write>(writer: &mut W, bytes: &[u8]) -> bool
     ensures all { IsTrue result → Appends (W.contents writer.old) (W.contents writer.new) bytes.now }
@@ -200,6 +225,21 @@ fn send_all<W: io::Write>(writer: &mut W, bytes: &[u8]) -> bool
         rest = &rest[sent..];
     }
     true
+}
+
+/// Sends bytes from the front of these, as `send`. A broken outbox sends none.
+fn send_unless<W: io::Write>(broken: bool, writer: &mut W, bytes: &[u8]) -> Option<usize>
+    ensures some { IfSome result (λ n. 0 < n) }
+    ensures bound { IfSome result (λ n. n ≤ length bytes.now) }
+    ensures sent { IfSome result (λ n. Appends (W.contents writer.old) (W.contents writer.new) (take n bytes.now)) }
+    ensures whole { IfSome result (λ _. broken ≡ false) }
+    ensures none { IfNone result (Keeps (W.contents writer.old) (W.contents writer.new)) }
+    ensures kept { broken ≡ true → writer.new ≡ writer.old }
+{
+    if broken {
+        return None;
+    }
+    send(writer, bytes)
 }
 
 /// Sends bytes from the front of these, and returns how many. It is `None` where the writer fails, or takes no byte.

@@ -2,8 +2,8 @@
 
 ghost use Rattle.std.specs.Prelude.{◌≤◌, ◌<◌};
 
+use crate::hosts::push_piece;
 use crate::texts::{part, put, put_text};
-use nsq_base::Body;
 use nsq_fakes::{Failing, FolderCall, Piece};
 use std::alloc::Global;
 use std::process::Abort;
@@ -153,15 +153,8 @@ impl Dice {
         let digit = self.below(8) as usize;
         let handling = HANDLINGS.split('\n').nth(at).unwrap_or("");
         let (before, behind) = part(rt, handling, "@");
-        let run: &[u8] = if epoch == 1 {
-            b"000001000000000"
-        } else {
-            b"000002000000000"
-        };
         put_text(rt, bytes, before);
-        put(rt, bytes, run);
-        let digits: &[u8] = b"01234567";
-        put(rt, bytes, digits.get(digit..digit + 1).unwrap_or(b"0"));
+        put_id(rt, bytes, epoch, digit);
         put_text(rt, bytes, behind);
     }
 
@@ -178,8 +171,7 @@ impl Dice {
             }
             let length = 1 + self.below(60) as usize;
             let (piece, after) = rest.split_at(length.min(rest.len()));
-            let piece = Body::copy(alloc, piece).expect(rt, "memory");
-            pieces.push(Piece::Bytes(piece)).expect(rt, "memory");
+            push_piece(rt, alloc, &mut pieces, piece);
             rest = after;
         }
         pieces
@@ -221,4 +213,16 @@ impl Dice {
             readings.push(moment).expect(rt, "memory");
         }
     }
+}
+
+// Adds the id of a message of the run of this epoch, one of its first ones.
+fn put_id(rt: &impl Abort, bytes: &mut Vec<u8>, epoch: u64, digit: usize) {
+    if epoch == 1 {
+        put(rt, bytes, b"000001000000000");
+    } else {
+        put(rt, bytes, b"000002000000000");
+    }
+    let digits: &[u8] = b"01234567";
+    let end = digit.saturating_add(1);
+    put(rt, bytes, digits.get(digit..end).unwrap_or(b"0"));
 }

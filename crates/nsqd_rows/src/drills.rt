@@ -4,7 +4,7 @@
 
 use crate::files::add_file;
 use crate::judged::{is_kept, is_talk, states_of};
-use crate::texts::{cut, number};
+use crate::texts::{check_none, cut, number};
 use broker_history::{Ended, Entry};
 use daemon_main::{Drilled, drill, drill_options};
 use nsq_fakes::{MemConn, MemFolder};
@@ -133,7 +133,6 @@ fn drilled_wrong(
 #[test]
 fn judged_drills(rt: HostRuntime) {
     for row in ROWS.split('\n') {
-        let wrong = row_wrong(&rt, rt.alloc(), row);
-        assert!(rt; wrong.is_none(), "drill {}: {}", row, wrong.unwrap_or(""));
+        check_none(&rt, row, row_wrong(&rt, rt.alloc(), row));
     }
 }

@@ -58,9 +58,9 @@ fn is_handled(
 {
     match read {
         Plain::Unfinished => own.is_none() && out.is_empty(),
-        Plain::BadHead => is_refused(rt, alloc, Refusal::BadRequest, own, out),
-        Plain::NoLength => is_refused(rt, alloc, Refusal::LengthRequired, own, out),
-        Plain::TooBig => is_refused(rt, alloc, Refusal::BodyTooBig, own, out),
+        Plain::BadHead => own.is_none() && is_refusal(rt, alloc, Refusal::BadRequest, out),
+        Plain::NoLength => own.is_none() && is_refusal(rt, alloc, Refusal::LengthRequired, out),
+        Plain::TooBig => own.is_none() && is_refusal(rt, alloc, Refusal::BodyTooBig, out),
         Plain::Whole(request) => {
             let call = call_of(alloc, options, began, request).expect(rt, "memory");
             is_call(rt, alloc, began, call, own, out)
@@ -116,10 +116,10 @@ fn letter_of(act: &Act, stopped: bool) -> u8 {
     }
 }
 
-// Whether there is no entry, and the answer is that of a refusal.
-fn is_refused(rt: &impl Abort, alloc: Global, refusal: Refusal, own: &Own<'_>, out: &[u8]) -> bool {
+// Whether the answer is that of a refusal.
+fn is_refusal(rt: &impl Abort, alloc: Global, refusal: Refusal, out: &[u8]) -> bool {
     let answer = refusal.answer(alloc).expect(rt, "memory");
-    own.is_none() && is_answer(rt, alloc, &answer, out)
+    is_answer(rt, alloc, &answer, out)
 }
 
 // Whether a call has these entries, and is answered so.
@@ -134,7 +134,7 @@ fn is_call(
     requires { HasStatus call }
 {
     match call {
-        HttpCall::Refused(refusal) => is_refused(rt, alloc, refusal, own, out),
+        HttpCall::Refused(refusal) => own.is_none() && is_refusal(rt, alloc, refusal, out),
         HttpCall::Answered(answer) => own.is_none() && is_answer(rt, alloc, &answer, out),
         HttpCall::Asks(ask) => is_asking(rt, alloc, began, &ask, own, out),
         HttpCall::Stops => is_stopped(rt, alloc, own, out),
@@ -157,8 +157,7 @@ fn is_asking(
     out: &[u8],
 ) -> bool {
     if own.are(b"l") {
-        let answer = Refusal::Stopping.answer(alloc).expect(rt, "memory");
-        return is_answer(rt, alloc, &answer, out);
+        return is_refusal(rt, alloc, Refusal::Stopping, out);
     }
     match own.last {
         Some(entry) if own.are(b"a") => is_told(rt, alloc, began, ask, entry, out),

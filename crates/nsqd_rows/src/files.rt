@@ -22,11 +22,21 @@ pub fn folder_of(
 fn given_as(rt: &impl Abort, alloc: Global, files: &[NamedFile]) -> Vec<(String, Vec<u8>)> {
     let mut given = Vec::new(alloc);
     for file in files {
-        let name = String::from_utf8_lossy(alloc, file.name.bytes()).expect(rt, "memory");
-        let bytes = Vec::from_slice(alloc, file.bytes.bytes()).expect(rt, "memory");
-        given.push((name, bytes)).expect(rt, "memory");
+        push_given(rt, alloc, &mut given, file);
     }
     given
+}
+
+// Adds a file as a folder in memory is given it.
+fn push_given(
+    rt: &impl Abort,
+    alloc: Global,
+    given: &mut Vec<(String, Vec<u8>)>,
+    file: &NamedFile,
+) {
+    let name = String::from_utf8_lossy(alloc, file.name.bytes()).expect(rt, "memory");
+    let bytes = Vec::from_slice(alloc, file.bytes.bytes()).expect(rt, "memory");
+    given.push((name, bytes)).expect(rt, "memory");
 }
 
 /// Adds a file to a list.

@@ -7,7 +7,8 @@ use crate::files::{folder_of, list_files};
 use crate::setting::push_word;
 use broker_history::Entry;
 use daemon_main::nsqd_run;
-use nsq_fakes::{Failing, MemClock, MemConn, MemFolder, MemHost, MemJournal};
+use nsq_base::Body;
+use nsq_fakes::{Failing, MemClock, MemConn, MemFolder, MemHost, MemJournal, Piece};
 use nsq_outside::{End, Host, Kind, Kit};
 use queue_plain::NamedFile;
 use std::alloc::Global;
@@ -21,11 +22,16 @@ type MemKit = Kit<MemFolder, MemClock, MemJournal<Entry>>;
 pub struct Given {
     pub words: Vec<String>,
     pub callers: Vec<(Kind, MemConn)>,
-    /// Which calls of the folder fail.
-    pub fails: Vec<Failing>,
     /// The readings of the clock.
     pub readings: Vec<u64>,
-    /// Which calls of the host fail, by their numbers from 0: starts and accepts, counted together, prints, and tells.
+    pub fails: Fails,
+}
+
+/// Which calls fail. It's used up and not dropped.
+pub struct Fails {
+    /// Those of the folder.
+    pub folder: Vec<Failing>,
+    /// Those of the host, by their numbers from 0: starts and accepts, counted together, prints, and tells.
     pub accepts: Vec<u64>,
     pub prints: Vec<u64>,
     pub tells: Vec<u64>,
@@ -38,15 +44,40 @@ pub fn nothing(rt: &impl Abort, alloc: Global) -> Given {
     Given {
         words,
         callers: Vec::new(alloc),
-        fails: Vec::new(alloc),
         readings: Vec::new(alloc),
+        fails: no_fails(alloc),
+    }
+}
+
+fn no_fails(alloc: Global) -> Fails {
+    Fails {
+        folder: Vec::new(alloc),
         accepts: Vec::new(alloc),
         prints: Vec::new(alloc),
         tells: Vec::new(alloc),
     }
 }
 
-/// What a run came to. Its files are left, and it isn't dropped.
+/// Adds a piece of what comes.
+pub fn push_piece(rt: &impl Abort, alloc: Global, pieces: &mut Vec<Piece>, bytes: &[u8]) {
+    let piece = Body::copy(alloc, bytes).expect(rt, "memory");
+    pieces.push(Piece::Bytes(piece)).expect(rt, "memory");
+}
+
+/// Adds a caller of this kind from whom this comes, and whose reads and writes of these numbers fail.
+pub fn push_caller(
+    rt: &impl Abort,
+    alloc: Global,
+    callers: &mut Vec<(Kind, MemConn)>,
+    kind: Kind,
+    pieces: Vec<Piece>,
+    (reads, writes): (Vec<u64>, Vec<u64>),
+) {
+    let conn = MemConn::new(alloc, pieces, reads, writes).expect(rt, "memory");
+    callers.push((kind, conn)).expect(rt, "memory");
+}
+
+/// What a run came to. It's ended and not dropped.
 pub struct Outcome {
     pub status: u8,
     host: MemHost<Entry>,
@@ -63,18 +94,21 @@ pub fn run_with<R: Abort + Wait>(
     let Given {
         words,
         callers,
-        fails,
         readings,
-        accepts,
-        prints,
-        tells,
+        fails,
     } = given;
-    let kit = kit_of(rt, alloc, folder_of(rt, alloc, files, fails), readings);
-    let mut host = host_of(rt, alloc, callers, kit);
-    host.fail_at(accepts, prints, tells);
-    let status = nsqd_run(rt, alloc, &words, &mut host);
+    let mut host = host_of(rt, alloc, callers, readings, fails, files);
+    let status = run(rt, alloc, &words, &mut host);
     drop(words);
     Outcome { status, host }
+}
+
+// The program over any host, of which nothing is said but that its kit comes home.
+fn run<R: Wait, H: Host<Entry>>(rt: &R, alloc: Global, words: &[String], host: &mut H) -> u8
+    requires { IsSome (H.state host.old).kit }
+    ensures { IsSome (H.state host.new).kit }
+{
+    nsqd_run(rt, alloc, words, host)
 }
 
 fn kit_of(rt: &impl Abort, alloc: Global, folder: MemFolder, readings: Vec<u64>) -> MemKit {
@@ -86,8 +120,31 @@ fn kit_of(rt: &impl Abort, alloc: Global, folder: MemFolder, readings: Vec<u64>)
     }
 }
 
-// A host over this kit.
+// A host over a folder with these files, of which and of whose these calls fail.
 fn host_of(
+    rt: &impl Abort,
+    alloc: Global,
+    callers: Vec<(Kind, MemConn)>,
+    readings: Vec<u64>,
+    fails: Fails,
+    files: &[NamedFile],
+) -> MemHost<Entry>
+    ensures { IsSome (state_of result).kit }
+{
+    let Fails {
+        folder,
+        accepts,
+        prints,
+        tells,
+    } = fails;
+    let kit = kit_of(rt, alloc, folder_of(rt, alloc, files, folder), readings);
+    let mut host = host_over(rt, alloc, callers, kit);
+    host.fail_at(accepts, prints, tells);
+    host
+}
+
+// A host over this kit.
+fn host_over(
     rt: &impl Abort,
     alloc: Global,
     callers: Vec<(Kind, MemConn)>,
@@ -148,12 +205,13 @@ impl Outcome {
     }
 
     /// Puts the files that are left in the place of these.
-    pub fn leave(self, rt: &impl Abort, alloc: Global, files: &mut Vec<NamedFile>) {
-        let Outcome {
-            status: _,
-            mut host,
-        } = self;
-        leave_files(rt, alloc, &mut host, files);
+    pub fn leave(&mut self, rt: &impl Abort, alloc: Global, files: &mut Vec<NamedFile>) {
+        leave_files(rt, alloc, &mut self.host, files);
+    }
+
+    /// Lets go of all of it.
+    pub fn end(self) {
+        let Outcome { status: _, host } = self;
         drop(host);
     }
 }
@@ -166,6 +224,7 @@ fn leave_files(
     files: &mut Vec<NamedFile>,
 )
     requires { IsSome (state_of host.old).kit }
+    ensures { IsSome (state_of host.new).kit }
 {
     let mut home = host.lend();
     list_files(rt, alloc, &mut home.folder, files);

@@ -39,24 +39,37 @@ pub fn noted_wrong(
     options: &Options,
     began: u64,
     files: &mut Vec<NamedFile>,
-    outcome: Outcome,
+    outcome: &mut Outcome,
 ) -> Option<&'static str> {
-    let rightly_shut = is_rightly_shut(rt, alloc, files, &outcome);
+    let rightly_shut = is_rightly_shut(rt, alloc, files, outcome);
     let states = states_of(rt, alloc, options, files, began, outcome.entries());
-    let has_opened = outcome.has_opened();
-    let clean = has_opened && outcome.status == 0;
     outcome.leave(rt, alloc, files);
-    let wrong = if !rightly_shut {
+    let wrong = states_wrong(rt, alloc, &states, files, outcome);
+    drop(states);
+    if rightly_shut {
+        wrong
+    } else {
         Some("the refusal")
-    } else if has_opened && states.is_empty() {
+    }
+}
+
+// What is wrong with the states to which the entries of a run lead, or with the files that it left.
+fn states_wrong(
+    rt: &impl Abort,
+    alloc: Global,
+    states: &[State],
+    files: &[NamedFile],
+    outcome: &Outcome,
+) -> Option<&'static str> {
+    if !outcome.has_opened() {
+        None
+    } else if states.is_empty() {
         Some("the history isn't legal")
-    } else if clean && !is_kept(rt, alloc, &states, files) {
+    } else if outcome.status == 0 && !is_kept(rt, alloc, states, files) {
         Some("something else is kept")
     } else {
         None
-    };
-    drop(states);
-    wrong
+    }
 }
 
 // Whether a run over these files that didn't open them noted nothing, and was refused with a line that fits what is found there, if it was.

@@ -5,7 +5,7 @@
 ghost use Rattle.nsq_base.specs.Options.{IsInRange};
 
 use crate::dice::Dice;
-use crate::hosts::{Given, Outcome, nothing, run_with};
+use crate::hosts::{Given, Outcome, nothing, push_caller, run_with};
 use crate::judged::{is_served, noted_wrong};
 use crate::setting::{add_words, options_of};
 use crate::texts::{cut, part};
@@ -55,7 +55,13 @@ fn seed_of(number: u64) -> Seed {
     }
 }
 
-fn caller_of(rt: &impl Abort, alloc: Global, dice: &mut Dice, epoch: u64) -> (Kind, MemConn) {
+fn add_caller(
+    rt: &impl Abort,
+    alloc: Global,
+    dice: &mut Dice,
+    epoch: u64,
+    callers: &mut Vec<(Kind, MemConn)>,
+) {
     let kind = if dice.below(5) < 2 {
         Kind::Http
     } else {
@@ -66,8 +72,7 @@ fn caller_of(rt: &impl Abort, alloc: Global, dice: &mut Dice, epoch: u64) -> (Ki
     drop(bytes);
     let reads = dice.failing(rt, alloc);
     let writes = dice.failing(rt, alloc);
-    let conn = MemConn::new(alloc, pieces, reads, writes).expect(rt, "memory");
-    (kind, conn)
+    push_caller(rt, alloc, callers, kind, pieces, (reads, writes));
 }
 
 // What a caller of this kind sends.
@@ -86,8 +91,7 @@ fn add_callers(
     callers: &mut Vec<(Kind, MemConn)>,
 ) {
     for _ in 0..CALLERS {
-        let caller = caller_of(rt, alloc, dice, epoch);
-        callers.push(caller).expect(rt, "memory");
+        add_caller(rt, alloc, dice, epoch, callers);
     }
 }
 
@@ -95,7 +99,7 @@ fn given_by(rt: &impl Abort, alloc: Global, seed: &mut Seed, epoch: u64) -> Give
     let mut given = nothing(rt, alloc);
     add_callers(rt, alloc, &mut seed.dice, epoch, &mut given.callers);
     if seed.fails {
-        seed.dice.add_faults(rt, &mut given.fails);
+        seed.dice.add_faults(rt, &mut given.fails.folder);
     }
     seed.dice.add_readings(rt, &mut given.readings);
     let (line, _) = part(rt, seed.setting, "\n");
@@ -114,8 +118,10 @@ fn run_wrong<R: Abort + Wait>(
 ) -> Option<&'static str> {
     let given = given_by(rt, alloc, seed, epoch);
     let began = given.readings.first().copied().unwrap_or(0);
-    let outcome = run_with(rt, alloc, given, files);
-    outcome_wrong(rt, alloc, seed, began, files, outcome)
+    let mut outcome = run_with(rt, alloc, given, files);
+    let wrong = outcome_wrong(rt, alloc, seed, began, files, &mut outcome);
+    outcome.end();
+    wrong
 }
 
 // What is wrong with what a run of a seed over these files came to. Then they are those that it left.
@@ -125,10 +131,10 @@ fn outcome_wrong(
     seed: &Seed,
     began: u64,
     files: &mut Vec<NamedFile>,
-    outcome: Outcome,
+    outcome: &mut Outcome,
 ) -> Option<&'static str> {
     let options = options_of(rt, alloc, seed.setting);
-    let shown = shown_wrong(rt, alloc, &options, seed, began, &outcome);
+    let shown = shown_wrong(rt, alloc, &options, seed, began, outcome);
     let noted = noted_wrong(rt, alloc, &options, began, files, outcome);
     drop(options);
     shown.or(noted)

@@ -19,13 +19,13 @@
 ghost use Rattle.nsq_base.specs.Options.{IsInRange};
 
 use crate::files::{add_file, found_in};
-use crate::hosts::{Given, Outcome, nothing, run_with};
+use crate::hosts::{Fails, Given, Outcome, nothing, push_caller, push_piece, run_with};
 use crate::judged::{is_served, noted_wrong};
 use crate::setting::{add_words, options_of};
 use crate::tables::{client_rows, drill_rows, host_rows, http_rows};
-use crate::texts::{bytes_of, cut, number, part, put_answer, put_got, same, unknown};
+use crate::texts::{bytes_of, check_none, cut, number, part, put_answer, put_got, same, unknown};
 use broker_history::Ended;
-use nsq_base::{Body, Options};
+use nsq_base::Options;
 use nsq_fakes::{Failing, FolderCall, MemConn, Piece};
 use nsq_outside::Kind;
 use queue_plain::NamedFile;
@@ -80,24 +80,30 @@ fn add_moments(rt: &impl Abort, readings: &mut Vec<u64>, words: &str) {
 fn add_caller(
     rt: &impl Abort,
     alloc: Global,
-    given: &mut Given,
-    (word, words): (&str, &str),
+    callers: &mut Vec<(Kind, MemConn)>,
+    word: &str,
+    words: &str,
     size: usize,
 ) {
-    let kind = match word {
-        "tcp" | "tcp-closed" => Kind::Tcp,
-        "http" => Kind::Http,
-        _ => unknown(rt, word),
+    let kind = match ended_by(word) {
+        Some((kind, _)) => kind,
+        None => unknown(rt, word),
     };
     let mut pieces = Vec::new(alloc);
     if !words.is_empty() {
         let (sends, _) = part(rt, words, " =>");
-        for text in sends.split('|') {
-            add_pieces(rt, alloc, &mut pieces, &bytes_of(rt, alloc, text), size);
-        }
+        add_sent(rt, alloc, &mut pieces, sends, size);
     }
-    let conn = MemConn::new(alloc, pieces, Vec::new(alloc), Vec::new(alloc)).expect(rt, "memory");
-    given.callers.push((kind, conn)).expect(rt, "memory");
+    let faults = (Vec::new(alloc), Vec::new(alloc));
+    push_caller(rt, alloc, callers, kind, pieces, faults);
+}
+
+// Adds what comes at each read, so many bytes at a time.
+fn add_sent(rt: &impl Abort, alloc: Global, pieces: &mut Vec<Piece>, sends: &str, size: usize) {
+    for text in sends.split('|') {
+        let bytes = bytes_of(rt, alloc, text);
+        add_pieces(rt, alloc, pieces, &bytes, size);
+    }
 }
 
 fn add_pieces(rt: &impl Abort, alloc: Global, pieces: &mut Vec<Piece>, bytes: &[u8], size: usize) {
@@ -110,19 +116,18 @@ fn add_pieces(rt: &impl Abort, alloc: Global, pieces: &mut Vec<Piece>, bytes: &[
             break;
         }
         let (piece, after) = rest.split_at(size.max(1).min(rest.len()));
-        let piece = Body::copy(alloc, piece).expect(rt, "memory");
-        pieces.push(Piece::Bytes(piece)).expect(rt, "memory");
+        push_piece(rt, alloc, pieces, piece);
         rest = after;
     }
 }
 
 // These calls fail.
-fn fail(rt: &impl Abort, given: &mut Given, words: &str) {
+fn fail(rt: &impl Abort, fails: &mut Fails, words: &str) {
     let (name, numbers) = cut(words);
     let call = match name {
-        "accept" => return push(rt, &mut given.accepts, number(rt, numbers)),
-        "print" => return push(rt, &mut given.prints, number(rt, numbers)),
-        "tell" => return push(rt, &mut given.tells, number(rt, numbers)),
+        "accept" => return push(rt, &mut fails.accepts, number(rt, numbers)),
+        "print" => return push(rt, &mut fails.prints, number(rt, numbers)),
+        "tell" => return push(rt, &mut fails.tells, number(rt, numbers)),
         "WriteAt" => FolderCall::WriteAt,
         "Rename" => FolderCall::Rename,
         "Any" => FolderCall::Any,
@@ -134,7 +139,7 @@ fn fail(rt: &impl Abort, given: &mut Given, words: &str) {
         from: number(rt, from),
         to: number(rt, to),
     };
-    given.fails.push(calls).expect(rt, "memory");
+    fails.folder.push(calls).expect(rt, "memory");
 }
 
 fn push(rt: &impl Abort, numbers: &mut Vec<u64>, number: u64) {
@@ -153,26 +158,23 @@ fn end<'a>(rt: &impl Abort, ends: &mut Ends<'a>, line: &'a str) {
     }
 }
 
-// Takes up what a line gives to a run over these files.
-fn give(
-    rt: &impl Abort,
-    alloc: Global,
-    given: &mut Given,
-    files: &mut Vec<NamedFile>,
-    (word, words): (&str, &str),
-    size: usize,
-) {
+// Takes up what a line gives to a run.
+fn give(rt: &impl Abort, alloc: Global, given: &mut Given, word: &str, words: &str, size: usize) {
     match word {
         "words" => add_words(rt, alloc, &mut given.words, words),
-        "file" => {
-            let (name, bytes) = cut(words);
-            add_file(rt, alloc, files, name, &bytes_of(rt, alloc, bytes));
-        }
-        "fails" => fail(rt, given, words),
+        "fails" => fail(rt, &mut given.fails, words),
         "clock" => add_moments(rt, &mut given.readings, words),
         "rises" => add_readings(rt, &mut given.readings, 0, number(rt, words), READINGS),
-        _ => add_caller(rt, alloc, given, (word, words), size),
+        "option" | "leaves" | "lacks" | "//" => {}
+        _ => add_caller(rt, alloc, &mut given.callers, word, words, size),
     }
+}
+
+// Adds a file, by its name and its bytes.
+fn put_file(rt: &impl Abort, alloc: Global, files: &mut Vec<NamedFile>, file: &str) {
+    let (name, bytes) = cut(file);
+    let bytes = bytes_of(rt, alloc, bytes);
+    add_file(rt, alloc, files, name, &bytes);
 }
 
 // Takes up what the lines of a run over these files say.
@@ -186,11 +188,12 @@ fn read<'a>(
 ) {
     let mut size = WHOLE;
     for line in lines.split('\n') {
-        match cut(line) {
-            ("ends", words) => end(rt, ends, words),
-            ("size", words) => size = words.parse::<usize>().expect(rt, "a number"),
-            ("option" | "leaves" | "lacks" | "//", _) => {}
-            words => give(rt, alloc, given, files, words, size),
+        let (word, words) = cut(line);
+        match word {
+            "ends" => end(rt, ends, words),
+            "file" => put_file(rt, alloc, files, words),
+            "size" => size = words.parse::<usize>().expect(rt, "a number"),
+            _ => give(rt, alloc, given, word, words, size),
         }
     }
 }
@@ -206,8 +209,10 @@ fn run_differs<'a, R: Abort + Wait>(
     let mut ends = ENDS;
     read(rt, alloc, &mut given, &mut ends, files, lines);
     let began = given.readings.first().copied().unwrap_or(0);
-    let outcome = run_with(rt, alloc, given, files);
-    outcome_differs(rt, alloc, lines, ends, began, files, outcome)
+    let mut outcome = run_with(rt, alloc, given, files);
+    let wrong = outcome_differs(rt, alloc, lines, ends, began, files, &mut outcome);
+    outcome.end();
+    wrong
 }
 
 // What differs in what a run over these files came to. Then they are those that it left.
@@ -218,11 +223,11 @@ fn outcome_differs<'a>(
     ends: Ends<'a>,
     began: u64,
     files: &mut Vec<NamedFile>,
-    outcome: Outcome,
+    outcome: &mut Outcome,
 ) -> Option<&'a str> {
     let options = options_of(rt, alloc, lines);
-    let shown = shown_differs(rt, alloc, ends, &outcome);
-    let got = callers_differ(rt, alloc, &options, began, lines, ends.behind, &outcome);
+    let shown = shown_differs(rt, alloc, ends, outcome);
+    let got = callers_differ(rt, alloc, &options, began, lines, ends.behind, outcome);
     let noted = noted_wrong(rt, alloc, &options, began, files, outcome);
     drop(options);
     shown
@@ -255,11 +260,12 @@ fn shown_differs(
     None
 }
 
-// How the caller of a line with this word must end; none where it has no caller.
-fn ended_by(word: &str) -> Option<Ended> {
+// The kind of the caller of a line with this word, and how it must end; none where it has no caller.
+fn ended_by(word: &str) -> Option<(Kind, Ended)> {
     match word {
-        "tcp" | "http" => Some(Ended::EndOfInput),
-        "tcp-closed" => Some(Ended::Closed),
+        "tcp" => Some((Kind::Tcp, Ended::EndOfInput)),
+        "tcp-closed" => Some((Kind::Tcp, Ended::Closed)),
+        "http" => Some((Kind::Http, Ended::EndOfInput)),
         _ => None,
     }
 }
@@ -278,11 +284,10 @@ fn callers_differ<'a>(
 {
     let mut place = 0usize;
     for line in lines.split('\n') {
-        let (word, words) = cut(line);
-        if let Some(ended) = ended_by(word) {
+        let (word, _) = cut(line);
+        if let Some((_, ended)) = ended_by(word) {
             if place < outcome.count()
-                && !(has_got(rt, alloc, outcome, place, word, words)
-                    && is_served(rt, alloc, options, began, outcome, place, &[ended]))
+                && !goes_so(rt, alloc, options, began, outcome, place, line, ended)
             {
                 return Some(line);
             }
@@ -294,6 +299,24 @@ fn callers_differ<'a>(
     } else {
         Some("how many are handed back")
     }
+}
+
+// Whether the caller at this place was served, ended so, and got what a line says.
+fn goes_so(
+    rt: &impl Abort,
+    alloc: Global,
+    options: &Options,
+    began: u64,
+    outcome: &Outcome,
+    place: usize,
+    line: &str,
+    ended: Ended,
+) -> bool
+    requires { IsInRange options.now }
+{
+    let (word, words) = cut(line);
+    has_got(rt, alloc, outcome, place, word, words)
+        && is_served(rt, alloc, options, began, outcome, place, &[ended])
 }
 
 // Whether the caller at this place got what a line says.
@@ -309,16 +332,23 @@ fn has_got(
         return false;
     };
     let mut got = Vec::new(alloc);
-    if let Some((_, gets)) = words.split_once(" => ") {
-        if matches!(word, "http") {
-            put_answer(rt, &mut got, gets);
-        } else {
-            for frame in gets.split(", ") {
-                put_got(rt, &mut got, frame);
-            }
-        }
+    put_all(rt, &mut got, word, words);
+    let has_got = same(conn.bytes_written(), &got);
+    drop(got);
+    has_got
+}
+
+// Adds all that a line says that its caller gets.
+fn put_all(rt: &impl Abort, out: &mut Vec<u8>, word: &str, words: &str) {
+    let Some((_, gets)) = words.split_once(" => ") else {
+        return;
+    };
+    if same(word.as_bytes(), b"http") {
+        return put_answer(rt, out, gets);
     }
-    same(conn.bytes_written(), &got)
+    for frame in gets.split(", ") {
+        put_got(rt, out, frame);
+    }
 }
 
 // What differs in the files that were left.
@@ -369,9 +399,7 @@ fn check<R: Abort + Wait>(rt: &R, alloc: Global, row: &str) {
     if wrong.is_some() {
         wrong = differs(rt, alloc, runs);
     }
-    if let Some(wrong) = wrong {
-        panic!(rt; "{name}: {wrong}");
-    }
+    check_none(rt, name, wrong);
 }
 
 // The same of each row of these tables.

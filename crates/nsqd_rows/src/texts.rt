@@ -16,6 +16,13 @@ pub fn check(rt: &impl Abort, holds: bool, name: &str) {
     assert!(rt; holds, "{name}");
 }
 
+/// Ends the run where something differs in the row of this name.
+pub fn check_none(rt: &impl Abort, name: &str, differs: Option<&str>) {
+    if let Some(differs) = differs {
+        panic!(rt; "{name}: {differs}");
+    }
+}
+
 /// Ends the run: no row says this.
 pub fn unknown<T>(rt: &impl Abort, words: &str) -> T {
     panic!(rt; "{words} is nothing that a row says")
@@ -56,7 +63,7 @@ pub fn put_text(rt: &impl Abort, out: &mut Vec<u8>, text: &str) {
     let mut is_escape = false;
     for part in text.split('\\') {
         if is_escape {
-            put_escape(rt, out, part.as_bytes());
+            put_escape(rt, out, part);
         } else {
             put(rt, out, part.as_bytes());
         }
@@ -65,28 +72,29 @@ pub fn put_text(rt: &impl Abort, out: &mut Vec<u8>, text: &str) {
 }
 
 // Adds the byte that stands behind a backslash, and what follows it.
-fn put_escape(rt: &impl Abort, out: &mut Vec<u8>, text: &[u8]) {
-    let (byte, rest) = match text {
-        [b'n', rest @ ..] => (b'\n', rest),
-        [b'r', rest @ ..] => (b'\r', rest),
-        [b'0', rest @ ..] => (b'\0', rest),
-        [b'x', high, low, rest @ ..] => {
-            let high = digit(rt, *high).wrapping_mul(16);
-            (high.wrapping_add(digit(rt, *low)), rest)
-        }
-        _ => panic!(rt; "a backslash without its byte"),
-    };
+fn put_escape(rt: &impl Abort, out: &mut Vec<u8>, text: &str) {
+    let (byte, rest) = escaped(rt, text);
     put(rt, out, &[byte]);
-    put(rt, out, rest);
+    put(rt, out, rest.as_bytes());
 }
 
-// What a hexadecimal digit says.
-fn digit(rt: &impl Abort, digit: u8) -> u8 {
-    match digit {
-        b'0'..=b'9' => digit.wrapping_sub(b'0'),
-        b'a'..=b'f' => digit.wrapping_sub(b'a').wrapping_add(10),
-        _ => panic!(rt; "no hexadecimal digit"),
+// The byte that stands behind a backslash, and what follows it.
+fn escaped<'a>(rt: &impl Abort, text: &'a str) -> (u8, &'a str) {
+    let (letter, rest) = text.split_at_checked(1).expect(rt, "a backslash's byte");
+    match letter {
+        "n" => (b'\n', rest),
+        "r" => (b'\r', rest),
+        "0" => (b'\0', rest),
+        "x" => hexadecimal(rt, rest),
+        _ => panic!(rt; "a backslash without its byte"),
     }
+}
+
+// The byte that two hexadecimal digits say, and what follows them.
+fn hexadecimal<'a>(rt: &impl Abort, text: &'a str) -> (u8, &'a str) {
+    let (digits, rest) = text.split_at_checked(2).expect(rt, "two digits");
+    let byte = u8::from_str_radix(digits, 16).expect(rt, "hexadecimal digits");
+    (byte, rest)
 }
 
 // The words for what a client of TCP gets, and the bytes at its front, behind which stand those that follow the words.

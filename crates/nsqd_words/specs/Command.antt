@@ -1,11 +1,13 @@
 -- The command that `clap` reads the words for.
-use Rattle.std.specs.Prelude.{ℕ, Bool, true, false, List, [], ◌∷◌, Option, Some, codes, find, fold, option_and_then}
+use Rattle.std.specs.Prelude.{◌≡◌, ℕ, Bool, true, false, List, [], ◌∷◌, Option, Some, codes, find, fold, map, option_and_then}
+use Rattle.std.specs.List.{AllByRecursion}
 use Rattle.std.specs.Str.{bytes_eq}
-use Rattle.clap.specs.Walk.{Rule, Row, Text, first_of}
+use Rattle.clap.specs.Walk.{Rule, Row, Text, first_of, rule_of}
 use Rattle.clap.specs.Simple.{App, matches_of, new_app, new_rule, on_top, with_rule}
 use Rattle.clap.specs.Kinds.{Kinds}
 use Rattle.clap.specs.Faults.{fault_of}
 use Rattle.clap.specs.declared.builder.action.ArgAction.TheVariants.{Set, SetTrue}
+use Rattle.clap.specs.declared.builder.arg.Arg.{Arg}
 use Rattle.clap.specs.declared.parser.matches.ValueSource.{ValueSource}
 use Rattle.clap.specs.declared.parser.matches.ValueSource.TheVariants.{CommandLine}
 
@@ -40,6 +42,11 @@ flag_rule name = record (new_rule name) { long = Some name; action = Some SetTru
 -- a command with one flag more
 abbrev pub with_flag : App → Text → App
 with_flag app name = with_rule app (flag_rule name)
+
+-- arguments of these rules, none of which is global
+pub record AreArgs (list : List Arg) (rules : List Rule) : Type 0 where
+  pub made : map rule_of list ≡ rules
+  pub own : AllByRecursion (λ (a : Arg). a.global ≡ false) list
 
 -- the command `nsqd` before it has an option: it has a version
 abbrev pub bare_app : App

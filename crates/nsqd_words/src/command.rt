@@ -1,7 +1,7 @@
-ghost use Rattle.std.specs.Prelude.{◌≡◌, IfOk, Some, fold, map};
-ghost use Rattle.clap.specs.Simple.{new_rule, with_rule};
-ghost use Rattle.clap.specs.Words.{app_of};
-ghost use Rattle.nsqd_words.specs.Command.{bare_app, nsqd_app, option_names, stop_flag, with_flag, with_option};
+ghost use Rattle.std.specs.Prelude.{◌≡◌, ◌++◌, ◌∷◌, [], IfOk, Some, false, length, map};
+ghost use Rattle.clap.specs.Simple.{new_rule};
+ghost use Rattle.clap.specs.Words.{app_of, rule_of};
+ghost use Rattle.nsqd_words.specs.Command.{AreArgs, bare_app, flag_rule, nsqd_app, option_names, option_rule, stop_flag};
 
 use clap::{Arg, ArgAction, Command};
 use std::alloc::{AllocError, Global};
@@ -71,8 +71,8 @@ static OPTIONS: [(&str, &str); 15] = [
 pub(crate) fn nsqd_command<'a>(alloc: Global) -> Result<Command<'a>, AllocError>
     ensures { IfOk result (λ command. app_of command ≡ nsqd_app) }
 {
-    let command = with_each(alloc, bare_command(alloc), options())?;
-    with_stop(alloc, command)
+    let list = all_args(alloc, options())?;
+    bare_command(alloc).args(list)
 }
 
 // The command without an option.
@@ -91,44 +91,29 @@ fn options() -> &'static [(&'static str, &'static str)]
     &OPTIONS
 }
 
-// The command with these options more, each with its help. Each takes one value.
-fn with_each<'a>(
-    alloc: Global,
-    command: Command<'a>,
-    options: &[(&'a str, &'a str)],
-) -> Result<Command<'a>, AllocError>
-    ensures { IfOk result (λ grown. app_of grown ≡ fold (λ app option. with_option app option.0.now) (app_of command.entry) options.now) }
+// These options, each with its help, and behind them the flag. Each option takes one value, the flag none.
+fn all_args<'a>(alloc: Global, options: &[(&'a str, &'a str)]) -> Result<Vec<Arg<'a>>, AllocError>
+    requires { length options.now ≡ 15 }
+    ensures { IfOk result (λ list. AreArgs list.items (map (λ option. option_rule option.0.now) options.now ++ flag_rule stop_flag ∷ [])) }
 {
-    let mut grown = command;
+    let mut list = Vec::with_capacity(alloc, 16)?;
     for option in options {
-        grown = add(alloc, grown, option.0, option.1, ArgAction::Set)?;
+        list.push_reserved(new_arg(alloc, option.0, option.1, ArgAction::Set));
     }
-    Ok(grown)
-}
-
-// The command with its flag, which takes no value.
-fn with_stop<'a>(alloc: Global, command: Command<'a>) -> Result<Command<'a>, AllocError>
-    ensures { IfOk result (λ grown. app_of grown ≡ with_flag (app_of command.entry) stop_flag) }
-{
-    add(
+    let stop = new_arg(
         alloc,
-        command,
         "http-stop",
         "POST /stop over HTTP stops the daemon [default: off]",
         ArgAction::SetTrue,
-    )
+    );
+    list.push_reserved(stop);
+    Ok(list)
 }
 
-// The command with one option or flag more.
-fn add<'a>(
-    alloc: Global,
-    command: Command<'a>,
-    name: &'a str,
-    help: &'a str,
-    action: ArgAction,
-) -> Result<Command<'a>, AllocError>
-    ensures { IfOk result (λ grown. app_of grown ≡ with_rule (app_of command.entry) (record (new_rule name.entry.now) { long = Some name.entry.now; action = Some action })) }
+// One option or flag.
+fn new_arg<'a>(alloc: Global, name: &'a str, help: &'a str, action: ArgAction) -> Arg<'a>
+    ensures rule { rule_of result ≡ record (new_rule name.entry.now) { long = Some name.entry.now; action = Some action } }
+    ensures own { result.global ≡ false }
 {
-    let option = Arg::new(alloc, name).long(name).action(action).help(help);
-    command.arg(option)
+    Arg::new(alloc, name).long(name).action(action).help(help)
 }

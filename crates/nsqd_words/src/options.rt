@@ -1,4 +1,4 @@
-ghost use Rattle.std.specs.Prelude.{◌≡◌, ◌^◌, IfOk, MatchOption};
+ghost use Rattle.std.specs.Prelude.{◌≡◌, ◌^◌, IfOk, MatchOption, OnOk};
 ghost use Rattle.clap.specs.Words.{found_of, rows_of};
 ghost use Rattle.nsq_base.specs.Options.{IsInRange, default_options};
 ghost use Rattle.nsqd_words.specs.Command.{is_from_words};
@@ -101,12 +101,67 @@ fn in_range(options: Options) -> Option<Options>
 fn read_texts(alloc: Global, matches: &ArgMatches<'_>) -> Result<Texts, Memory>
     ensures { IfOk result (λ texts. SaysTexts (rows_of (found_of matches.now)) (with_texts default_options texts)) }
 {
-    Ok(Texts {
-        tcp_address: text(alloc, matches, "tcp-address", "0.0.0.0:4150")?,
-        http_address: text(alloc, matches, "http-address", "0.0.0.0:4151")?,
-        broadcast_address: text(alloc, matches, "broadcast-address", "127.0.0.1")?,
-        data_path: text(alloc, matches, "data-path", ".")?,
-    })
+    let mut texts = no_texts(alloc);
+    match put_texts(alloc, matches, &mut texts) {
+        Ok(()) => Ok(texts),
+        Err(_) => {
+            drop(texts);
+            Err(Memory)
+        }
+    }
+}
+
+// Texts that are empty yet.
+fn no_texts(alloc: Global) -> Texts {
+    Texts {
+        tcp_address: Body::of(Vec::new(alloc)),
+        http_address: Body::of(Vec::new(alloc)),
+        broadcast_address: Body::of(Vec::new(alloc)),
+        data_path: Body::of(Vec::new(alloc)),
+    }
+}
+
+// Puts the options that are texts in their places. Want of memory is the only error.
+fn put_texts(alloc: Global, matches: &ArgMatches<'_>, texts: &mut Texts) -> Result<(), Memory>
+    ensures { OnOk result (SaysTexts (rows_of (found_of matches.now)) (with_texts default_options texts.new)) }
+{
+    put_text(
+        alloc,
+        matches,
+        "tcp-address",
+        "0.0.0.0:4150",
+        &mut texts.tcp_address,
+    )?;
+    put_text(
+        alloc,
+        matches,
+        "http-address",
+        "0.0.0.0:4151",
+        &mut texts.http_address,
+    )?;
+    put_text(
+        alloc,
+        matches,
+        "broadcast-address",
+        "127.0.0.1",
+        &mut texts.broadcast_address,
+    )?;
+    put_text(alloc, matches, "data-path", ".", &mut texts.data_path)?;
+    Ok(())
+}
+
+// Puts the text that is said for an option, or its default, in its place. Want of memory is the only error.
+fn put_text(
+    alloc: Global,
+    matches: &ArgMatches<'_>,
+    name: &str,
+    default: &str,
+    place: &mut Body,
+) -> Result<(), Memory>
+    ensures { OnOk result (SaysText (rows_of (found_of matches.now)) name.now default.now place.new) }
+{
+    *place = text(alloc, matches, name, default)?;
+    Ok(())
 }
 
 // The options that are sizes and counts.

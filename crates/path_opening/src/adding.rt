@@ -2,7 +2,7 @@ ghost use Rattle.std.specs.Prelude.{◌≡◌, ◌≤◌, All, IfErr, IfOk, IsTr
 ghost use Rattle.nsq_base.specs.Name.{is_ephemeral};
 ghost use Rattle.nsq_base.specs.Names.{IsAscendingBy};
 ghost use Rattle.names_file.specs.Kept.{CanKeepAll};
-ghost use Rattle.names_file.specs.Durable.{AreDurable};
+ghost use Rattle.names_reading.specs.Durable.{AreDurable};
 ghost use Rattle.floor_rooms.specs.Rooms.{room_in};
 ghost use Rattle.broker_floor.specs.Floors.{faults_of, files_of, flushed_of, hall_of, held_of, kit_of};
 ghost use Rattle.path_opening.specs.Adding.{AddsOne, HasOthersOnly, IsAdded, IsNotAdded, IsNotOne, PutsTopic, pauses, why_of};

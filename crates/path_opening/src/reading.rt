@@ -3,12 +3,13 @@ ghost use Rattle.nsq_outside.specs.Files.{SameFiles};
 ghost use Rattle.path_image.specs.Data.{IsNames, data_name, last_epoch};
 ghost use Rattle.names_file.specs.Kept.{CanKeepAll};
 ghost use Rattle.names_file.specs.Texts.{kept_of};
-ghost use Rattle.names_file.specs.Durable.{AreDurable};
+ghost use Rattle.names_reading.specs.Durable.{AreDurable};
 ghost use Rattle.path_opening.specs.Adding.{IsReady, IsUnread, IsWhyUnread, why_unswept};
 ghost use Rattle.path_opening.specs.Opening.{IsRefusal, KeepsIn};
 
 use crate::opening::Why;
-use names_file::{LONGEST_NAMES, ListedNames, NAMES, Unread, read_names};
+use names_file::{LONGEST_NAMES, NAMES};
+use names_reading::{ListedNames, Unread, read_names};
 use nsq_base::Memory;
 use nsq_outside::{Folder, Length, ReadAt};
 use queue_sweep::{Unswept, set_aside_unlisted};

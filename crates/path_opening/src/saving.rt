@@ -2,7 +2,7 @@ ghost use Rattle.std.specs.Prelude.{◌≡◌, ◌≤◌, IfErr, IsTrue, OnOk, [
 ghost use Rattle.queue_files.specs.Replaced.{OnlyTwoChange};
 ghost use Rattle.path_image.specs.Data.{data_name, temp_name};
 ghost use Rattle.names_file.specs.Kept.{CanKeepAll};
-ghost use Rattle.names_file.specs.Durable.{AreDurable};
+ghost use Rattle.names_reading.specs.Durable.{AreDurable};
 ghost use Rattle.broker_history.specs.State.{State};
 ghost use Rattle.floor_rooms.specs.Standing.{HoldsFor};
 ghost use Rattle.broker_floor.specs.Floors.{faults_of, files_of, flushed_of, hall_of, held_of, kit_of};

@@ -203,6 +203,9 @@ fn called(ended: EndedHttp) -> &'static str {
     }
 }
 
+// Takes a reader apart.
+fn let_reader_go(_reader: Reader) {}
+
 // The call that a client's bytes behind its first four are; none where they are no whole command.
 fn call_of(rt: &impl Abort, alloc: Global, command: &[u8]) -> Option<Call>
     ensures { IfSome result CanCall }
@@ -210,7 +213,9 @@ fn call_of(rt: &impl Abort, alloc: Global, command: &[u8]) -> Option<Call>
     let mut reader = Reader::new(alloc, LIMITS).expect(rt, "memory");
     reader.feed(b"  V2").expect(rt, "memory");
     reader.feed(command).expect(rt, "memory");
-    match reader.next() {
+    let got = reader.next();
+    let_reader_go(reader);
+    match got {
         Got::Whole(command) => Some(Call::Command(command)),
         Got::Fault(fault) => Some(Call::Bad(fault)),
         Got::More | Got::Memory => None,

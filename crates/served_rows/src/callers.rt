@@ -34,6 +34,18 @@ pub fn is_served<R: Abort + Wait>(
     caller: Caller<'_>,
     got: &mut Vec<u8>,
 ) -> bool {
+    let is_served = gets(rt, bench, &caller, got);
+    drop(caller);
+    is_served
+}
+
+// The same of one that is lent.
+fn gets<R: Abort + Wait>(
+    rt: &R,
+    bench: &mut Bench<'_>,
+    caller: &Caller<'_>,
+    got: &mut Vec<u8>,
+) -> bool {
     let clock = bench.clock;
     let mut conn = WatchedConn {
         inner: conn_of(rt, bench.alloc, &caller.pieces, caller.fails),

@@ -5,7 +5,11 @@
 //! of each of these queued, in flight and deferred; or `without` a topic, where it is legal and leaves none of this name.
 
 use crate::lines::{message, tell};
-use crate::made::{SECOND, channel, cut, number, part, put, topic};
+use crate::made::{
+    SECOND, channel, check, cut, is, let_entries_go, let_state_go, let_states_go, number, part,
+    put, topic, unknown,
+};
+use crate::steps::{beats, channels, faults, flights, told, turns};
 use broker_history::Entry;
 use broker_state::{
     ChannelState, MessageCopy, Place, State, TopicState, deferred, in_flight, queued,
@@ -59,15 +63,7 @@ fn start_named(rt: &impl Abort, words: &str) -> Start {
             found: &[(2, 0), (1, 1), (0, 1)],
             ..EMPTY
         },
-        _ => panic!(rt; "{} is nothing to start from", words),
-    }
-}
-
-/// Stops at the first of these rows that doesn't hold.
-pub fn all_hold(rt: &impl Abort, alloc: Global, rows: &[&'static str]) {
-    for row in rows {
-        let holds = holds(rt, alloc, row);
-        assert!(rt; holds, "{}", row);
+        _ => unknown(rt, words),
     }
 }
 
@@ -79,12 +75,18 @@ fn holds(rt: &impl Abort, alloc: Global, row: &str) -> bool {
     let start = start_of(rt, alloc, start_named(rt, start.trim()));
     let mut entries = Vec::new(alloc);
     tell(rt, alloc, &mut entries, story);
-    is_legal(rt, alloc, &start, &entries) && leads_on(rt, alloc, &start, &mut entries, rest)
+    let holds = is_legal(rt, alloc, &start, &entries)
+        && leads_on(rt, alloc, &start, &mut entries, rest);
+    let_entries_go(entries);
+    let_state_go(start);
+    holds
 }
 
 fn is_legal(rt: &impl Abort, alloc: Global, start: &State, entries: &[(Entry, End)]) -> bool {
     let states = led_to(alloc, start, entries).expect(rt, "memory");
-    !states.is_empty()
+    let is_legal = !states.is_empty();
+    let_states_go(states);
+    is_legal
 }
 
 // Whether what happens then leads where the row says.
@@ -98,12 +100,14 @@ fn leads_on(
     let (then, leads) = part(rt, rest, "leads ");
     tell(rt, alloc, entries, then);
     let states = led_to(alloc, start, entries).expect(rt, "memory");
-    leads_so(rt, &states, leads)
+    let leads_so = leads_so(rt, &states, leads);
+    let_states_go(states);
+    leads_so
 }
 
 fn leads_so(rt: &impl Abort, states: &[State], leads: &str) -> bool {
     let Some(state) = states.first() else {
-        return leads == "nowhere";
+        return is(leads, "nowhere");
     };
     let (word, rest) = cut(leads);
     match word {
@@ -111,7 +115,7 @@ fn leads_so(rt: &impl Abort, states: &[State], leads: &str) -> bool {
         "nowhere" => false,
         "to" => have_counts(rt, state, rest),
         "without" => state.topic_of(&topic(rt, rest)).is_none(),
-        _ => panic!(rt; "{} is nowhere to lead to", word),
+        _ => unknown(rt, word),
     }
 }
 
@@ -171,4 +175,30 @@ fn found_topic(rt: &impl Abort, alloc: Global, found_there: &[(u64, u16)]) -> To
     TopicState::new(alloc, topic(rt, "t"))
         .with_channel(alloc, found)
         .expect(rt, "memory")
+}
+
+// Stops at the first row of a table that doesn't hold.
+fn all_hold(rt: &impl Abort, alloc: Global, table: &'static str) {
+    for row in table.trim().split("\n\n") {
+        check(rt, holds(rt, alloc, row), row);
+    }
+}
+
+/// Clients and the daemon.
+#[test]
+fn of_clients(rt: HostRuntime) {
+    all_hold(&rt, rt.alloc(), beats::BEATS);
+    all_hold(&rt, rt.alloc(), faults::FAULTS);
+    all_hold(&rt, rt.alloc(), told::STATISTICS);
+    all_hold(&rt, rt.alloc(), turns::TURNS);
+}
+
+/// Channels and their copies.
+#[test]
+fn of_channels(rt: HostRuntime) {
+    all_hold(&rt, rt.alloc(), channels::OWED);
+    all_hold(&rt, rt.alloc(), channels::DEFERRED);
+    all_hold(&rt, rt.alloc(), channels::GOING);
+    all_hold(&rt, rt.alloc(), flights::SENDINGS);
+    all_hold(&rt, rt.alloc(), flights::RETURNS);
 }

@@ -1,7 +1,7 @@
 //! Whether a connection is a conversation in a history. A talk is a text: the number of a connection, how it ended, the pieces that the client sent,
 //! with a `/` between them, and behind `=>` what it got.
 
-use crate::made::{cut, number, part, put};
+use crate::made::{cut, number, part, put, unknown};
 use crate::talks::words::{got_bytes, sent_bytes};
 use broker_history::{Ended, Entry};
 use broker_talks::is_talk_in;
@@ -45,7 +45,7 @@ pub fn ended_so(rt: &impl Abort, word: &str) -> Ended {
         "ReadFault" => Ended::ReadFault,
         "WriteFault" => Ended::WriteFault,
         "Memory" => Ended::Memory,
-        _ => panic!(rt; "{} is no end", word),
+        _ => unknown(rt, word),
     }
 }
 

@@ -6,7 +6,10 @@
 
 use crate::folders::{files_of, listed, names_in, started};
 use crate::lines::tell;
-use crate::made::{SECOND, part};
+use crate::made::{
+    SECOND, check, is, let_entries_go, let_files_go, let_names_go, let_state_go, let_states_go,
+    part, unknown,
+};
 use crate::talks::conversation::is_talk;
 use crate::worked::{channels, credit, moments, turns};
 use broker_files::{FoundNames, is_all_left};
@@ -52,7 +55,7 @@ fn start_named(rt: &impl Abort, words: &str) -> Start {
             left: LEFT,
             ..EMPTY
         },
-        _ => panic!(rt; "{} is nothing to start from", words),
+        _ => unknown(rt, words),
     }
 }
 
@@ -64,7 +67,10 @@ fn holds(rt: &impl Abort, alloc: Global, row: &str) -> bool {
     let start = start_named(rt, start.trim());
     let mut entries = Vec::new(alloc);
     tell(rt, alloc, &mut entries, story);
-    is_legal(rt, alloc, &start, &entries, "") && goes_on(rt, alloc, &start, &mut entries, rest)
+    let holds = is_legal(rt, alloc, &start, &entries, "")
+        && goes_on(rt, alloc, &start, &mut entries, rest);
+    let_entries_go(entries);
+    holds
 }
 
 // Whether these entries and what happens then are what the row says.
@@ -78,25 +84,30 @@ fn goes_on(
     let (then, rest) = part(rt, rest, "makes ");
     let (makes, talks) = part(rt, rest, ":");
     tell(rt, alloc, entries, then);
+    if is(makes, "no talk") {
+        is_legal(rt, alloc, start, entries, "") && is_last_wrong(rt, alloc, talks, entries)
+    } else {
+        is_history(rt, alloc, start, entries, makes) && are_talks(rt, alloc, talks, entries)
+    }
+}
+
+// Whether the entries are such a history, or none.
+fn is_history(
+    rt: &impl Abort,
+    alloc: Global,
+    start: &Start,
+    entries: &[(Entry, End)],
+    makes: &str,
+) -> bool {
     match makes {
-        "both" => {
-            is_legal(rt, alloc, start, entries, "") && are_talks(rt, alloc, talks, entries)
-        }
-        "both and leaves it all" => {
-            is_legal(rt, alloc, start, entries, LEFT) && are_talks(rt, alloc, talks, entries)
-        }
-        "no history" => {
-            !is_legal(rt, alloc, start, entries, "") && are_talks(rt, alloc, talks, entries)
-        }
+        "both" => is_legal(rt, alloc, start, entries, ""),
+        "both and leaves it all" => is_legal(rt, alloc, start, entries, LEFT),
+        "no history" => !is_legal(rt, alloc, start, entries, ""),
         "a history that leaves its attempts" => {
             is_legal(rt, alloc, start, entries, "")
                 && !is_legal(rt, alloc, start, entries, LEFT_OTHERWISE)
-                && are_talks(rt, alloc, talks, entries)
         }
-        "no talk" => {
-            is_legal(rt, alloc, start, entries, "") && is_last_wrong(rt, alloc, talks, entries)
-        }
-        _ => panic!(rt; "{} is nothing that a row makes", makes),
+        _ => unknown(rt, makes),
     }
 }
 
@@ -110,16 +121,24 @@ fn is_legal(
 ) -> bool {
     let start = start_of(rt, alloc, from);
     let states = led_to(alloc, &start, entries).expect(rt, "memory");
-    match states.first() {
+    let_state_go(start);
+    let does_leave = match states.first() {
         Some(state) => does_leave(rt, alloc, state, leaves),
         None => false,
-    }
+    };
+    let_states_go(states);
+    does_leave
 }
 
 // Whether an opening finds in these queues all that the state left, and nothing else; whatever it left where these are none.
 fn does_leave(rt: &impl Abort, alloc: Global, state: &State, leaves: &str) -> bool {
-    leaves.is_empty()
-        || is_all_left(alloc, state, &names_left(rt, alloc, leaves)).expect(rt, "memory")
+    if leaves.is_empty() {
+        return true;
+    }
+    let names = names_left(rt, alloc, leaves);
+    let is_all = is_all_left(alloc, state, &names).expect(rt, "memory");
+    let_names_go(names);
+    is_all
 }
 
 // The state that a run starts from.
@@ -127,7 +146,10 @@ fn start_of(rt: &impl Abort, alloc: Global, from: &Start) -> State {
     let mut options = Options::defaults(alloc).expect(rt, "memory");
     options.mem_queue_size = from.mem;
     options.msg_timeout = from.msg_timeout;
-    started(rt, alloc, &names_left(rt, alloc, from.left), &options, 0)
+    let names = names_left(rt, alloc, from.left);
+    let state = started(rt, alloc, &names, &options, 0);
+    let_names_go(names);
+    state
 }
 
 // What an opening finds in a folder with these queues, which is empty where there are none.
@@ -137,7 +159,9 @@ fn names_left(rt: &impl Abort, alloc: Global, left: &str) -> FoundNames {
     } else {
         files_of(rt, alloc, listed(rt, "LISTED"), left)
     };
-    names_in(rt, alloc, &files)
+    let names = names_in(rt, alloc, &files);
+    let_files_go(files);
+    names
 }
 
 fn are_talks(rt: &impl Abort, alloc: Global, talks: &str, entries: &[(Entry, End)]) -> bool {
@@ -159,17 +183,17 @@ fn is_last_wrong(rt: &impl Abort, alloc: Global, talks: &str, entries: &[(Entry,
     }
 }
 
+// Stops at the first row of a table that doesn't hold.
+fn all_hold(rt: &impl Abort, alloc: Global, table: &'static str) {
+    for row in table.trim().split("\n\n") {
+        check(rt, holds(rt, alloc, row), row);
+    }
+}
+
 #[test]
 fn worked(rt: HostRuntime) {
-    for rows in &[
-        credit::rows(),
-        moments::rows(),
-        channels::rows(),
-        turns::rows(),
-    ] {
-        for row in *rows {
-            let holds = holds(&rt, rt.alloc(), row);
-            assert!(rt; holds, "{}", row);
-        }
-    }
+    all_hold(&rt, rt.alloc(), credit::ROWS);
+    all_hold(&rt, rt.alloc(), moments::ROWS);
+    all_hold(&rt, rt.alloc(), channels::ROWS);
+    all_hold(&rt, rt.alloc(), turns::ROWS);
 }

@@ -2,7 +2,7 @@
 
 use crate::broker::entries::asked;
 use crate::broker::files::next_run;
-use crate::broker::possible::{Possible, keep_if};
+use crate::broker::possible::{Possible, keep_if, let_states_go};
 use crate::broker::starting::with_clients;
 use broker_history::Ask;
 use broker_state::State;
@@ -26,6 +26,9 @@ pub struct Beside {
     pub fails: bool,
     pub possible: Possible,
 }
+
+/// Takes it apart, once for all that held one.
+pub fn let_go(_beside: Beside) {}
 
 impl Beside {
     /// Whether calls on the folder may fail.
@@ -69,6 +72,7 @@ impl Beside {
                 keep_if(rt, &mut self.possible.states, true, begun);
             }
         }
+        let_states_go(states);
         !self.possible.states.is_empty()
     }
 

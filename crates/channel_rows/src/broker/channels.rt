@@ -11,7 +11,7 @@ use crate::stage::{Setup, message};
 use broker_changes::channels::has_credit;
 use broker_changes::topics::any_due;
 use broker_history::{Act, Entry};
-use broker_state::{ChannelState, State, TakenMessage, flying, in_flight, queued};
+use broker_state::{ChannelState, State, TakenMessage, TopicState, flying, in_flight, queued};
 use channel_core::Channel;
 use nsq_base::{Body, Chan, MsgId, Options, Topic};
 use nsq_outside::End;
@@ -122,19 +122,24 @@ fn gets(beside: &mut Beside, rt: &impl Abort, call: &Call, end: End) -> bool {
 fn was_given(beside: &mut Beside, rt: &impl Abort, call: &Call, answer: &Answer) -> bool {
     let client = call.who.client();
     match answer.came {
-        Came::Sent => {
-            let sent = Act::Sent(message_of(rt, beside.alloc, answer.copy));
-            drew(beside, rt, entry(client, call.at, sent), call.on) && answer.copy.letter.is_some()
-        }
+        Came::Sent => was_sent(beside, rt, call, answer.copy),
         Came::Held => {
-            let held = Act::HeldBack(beside.topic, beside.name, answer.copy.id);
-            is_stuck(beside, rt, client, call.at)
-                && drew(beside, rt, entry(DAEMON, call.at, held), call.on)
+            is_stuck(beside, rt, client, call.at) && was_held(beside, rt, call, answer.copy.id)
         }
         Came::Fault => beside.fails && is_stuck(beside, rt, client, call.at),
         Came::Memory => panic!(rt; "memory"),
         why => has_none(beside, rt, client, call.at) && is_why(beside, client, why),
     }
+}
+
+fn was_sent(beside: &mut Beside, rt: &impl Abort, call: &Call, copy: Sight) -> bool {
+    let sent = Act::Sent(message_of(rt, beside.alloc, copy));
+    drew(beside, rt, entry(call.who.client(), call.at, sent), call.on) && copy.letter.is_some()
+}
+
+fn was_held(beside: &mut Beside, rt: &impl Abort, call: &Call, id: MsgId) -> bool {
+    let held = Act::HeldBack(beside.topic, beside.name, id);
+    drew(beside, rt, entry(DAEMON, call.at, held), call.on)
 }
 
 // What was drawn was settled by this entry, or put back.
@@ -327,7 +332,7 @@ pub fn starts(beside: &mut Beside, rt: &impl Abort, at: u64) {
         beside.name,
         at,
     );
-    beside.possible = Possible::only(rt, beside.alloc, state);
+    beside.possible.restart(rt, state);
 }
 
 /// Keeps the states in which what the channel tells is so. Whether there is one.
@@ -388,10 +393,17 @@ fn live(channel: &ChannelState, id: &MsgId) -> u64 {
 fn owe(rt: &impl Abort, alloc: Global, states: &mut [State], channel: Chan, message: &Message) {
     for state in states {
         for topic in &mut state.topics {
-            topic.taken = Some(taken(rt, alloc, channel, message));
+            owe_in(topic, Some(taken(rt, alloc, channel, message)));
         }
     }
 }
+
+// The topic has taken this message, or none, from now on.
+fn owe_in(topic: &mut TopicState, taken: Option<TakenMessage>) {
+    let_taken_go(std::mem::replace(&mut topic.taken, taken));
+}
+
+fn let_taken_go(_taken: Option<TakenMessage>) {}
 
 fn taken(rt: &impl Abort, alloc: Global, channel: Chan, message: &Message) -> TakenMessage {
     let mut owed = Vec::new(alloc);
@@ -406,7 +418,7 @@ fn taken(rt: &impl Abort, alloc: Global, channel: Chan, message: &Message) -> Ta
 fn owe_none(states: &mut [State]) {
     for state in states {
         for topic in &mut state.topics {
-            topic.taken = None;
+            owe_in(topic, None);
         }
     }
 }

@@ -18,18 +18,28 @@ pub struct Possible {
 impl Possible {
     /// This state alone.
     pub fn only(rt: &impl Abort, alloc: Global, state: State) -> Possible {
-        let mut states = Vec::new(alloc);
-        states.push(state).expect(rt, "memory");
-        Possible { alloc, states }
+        Possible {
+            alloc,
+            states: alone(rt, alloc, state),
+        }
     }
 
     /// An entry was made. Whether a step leads on by it from one of the states.
     pub fn goes(&mut self, rt: &impl Abort, entry: Entry, end: End) -> bool {
         let states = led_from(rt, self.alloc, &self.states, &entry, end);
-        let goes = !states.is_empty();
-        self.states = states;
+        self.turn_to(states);
         let_go(entry);
-        goes
+        !self.states.is_empty()
+    }
+
+    /// This state alone is possible from now on.
+    pub fn restart(&mut self, rt: &impl Abort, state: State) {
+        self.turn_to(alone(rt, self.alloc, state));
+    }
+
+    // These states are possible from now on.
+    fn turn_to(&mut self, states: Vec<State>) {
+        let_states_go(std::mem::replace(&mut self.states, states));
     }
 
     /// Hands the states out, and has none then.
@@ -56,6 +66,16 @@ pub fn keep_if(rt: &impl Abort, states: &mut Vec<State>, so: bool, state: State)
 }
 
 fn let_go(_entry: Entry) {}
+
+/// Takes states apart, once for all that held some.
+pub fn let_states_go(_states: Vec<State>) {}
+
+// A list of this state alone.
+fn alone(rt: &impl Abort, alloc: Global, state: State) -> Vec<State> {
+    let mut states = Vec::new(alloc);
+    states.push(state).expect(rt, "memory");
+    states
+}
 
 // The states that an entry leads to from these.
 fn led_from(
@@ -84,7 +104,9 @@ fn add_new(rt: &impl Abort, led: &mut Vec<State>, states: Vec<State>) {
 // Whether an entry leads on from this state.
 fn leads_on(rt: &impl Abort, alloc: Global, state: &State, entry: &Entry, end: End) -> bool {
     let led = step(alloc, state, entry, end).expect(rt, "memory");
-    !led.is_empty()
+    let leads_on = !led.is_empty();
+    let_states_go(led);
+    leads_on
 }
 
 // Whether one of these states is like another to which the same entries led.

@@ -4,15 +4,15 @@ ghost use Rattle.std.specs.Prelude.{◌≡◌, All, length};
 ghost use Rattle.backlog.specs.Seen.{FitsLimit};
 ghost use Rattle.topic_core.specs.Seen.{IsSettled};
 
-use crate::broker::beside::Beside;
+use crate::broker::beside::{Beside, let_go as let_beside_go};
 use crate::broker::topics_beside::{
     beside, changes, channels, deletes, ids, lettered, may_lose, pays, publishes, tells, took,
 };
 use crate::calls::{Call, Does, call_of};
 use crate::dice::Dice;
-use crate::runs::{Run, SEEDS, all_runs, folder_of, options_of, run_of};
-use crate::stage::Scratch;
-use crate::words::cut;
+use crate::runs::{Run, SEEDS, all_runs, check_seed, folder_of, options_of, run_of};
+use crate::stage::{Scratch, let_folder_go};
+use crate::words::{cut, unknown};
 use backlog::{Flushed, PutAll};
 use disk_queue::{Emptied, Sync};
 use nsq_base::{Body, Chan, MsgId, Options, Topic};
@@ -80,7 +80,7 @@ impl Pair {
                 self.beside.empties(rt, call.at, done)
             }
             "delete" => self.delete(rt, call.at),
-            _ => panic!(rt; "{} is no call", word),
+            _ => unknown(rt, word),
         }
     }
 
@@ -238,7 +238,28 @@ impl Pair {
 fn put(topic: &mut TopicQueue, new: TopicQueue)
     ensures { topic.new ≡ new }
 {
-    *topic = new;
+    let_topic_go(std::mem::replace(topic, new));
+}
+
+// Takes a topic's queue apart, once for all that held one.
+fn let_topic_go(_topic: TopicQueue) {}
+
+fn let_options_go(_options: Options) {}
+
+// Takes a pair apart.
+fn let_go(pair: Pair) {
+    let Pair {
+        alloc: _,
+        options,
+        topic,
+        folder,
+        beside,
+        dice: _,
+    } = pair;
+    let_options_go(options);
+    let_topic_go(topic);
+    let_folder_go(folder);
+    let_beside_go(beside);
 }
 
 // A copy of the topic's head, if it has one.
@@ -284,7 +305,9 @@ fn message(rt: &impl Abort, alloc: Global, epoch: u32, number: u64, at: u64, del
 // Whether all calls of a run and a seed answer what is so in a possible state.
 fn holds(rt: &impl Abort, alloc: Global, scratch: &mut Scratch, run: &Run, seed: u64) -> bool {
     let mut pair = pair_of(rt, alloc, run, seed);
-    calls_hold(rt, &mut pair, scratch)
+    let hold = calls_hold(rt, &mut pair, scratch);
+    let_go(pair);
+    hold
 }
 
 fn calls_hold(rt: &impl Abort, pair: &mut Pair, scratch: &mut Scratch) -> bool {
@@ -312,27 +335,19 @@ fn pair_of(rt: &impl Abort, alloc: Global, run: &Run, seed: u64) -> Pair {
     }
 }
 
-// The seed and the first run that doesn't hold, if any.
-fn first_wrong(
-    rt: &impl Abort,
-    alloc: Global,
-    scratch: &mut Scratch,
-) -> Option<(u64, &'static str)> {
+// Checks the runs of all seeds.
+fn check_all(rt: &impl Abort, alloc: Global, scratch: &mut Scratch) {
     for i in 0..SEEDS {
         for row in all_runs() {
-            let seed = i + 1;
-            if !holds(rt, alloc, scratch, &run_of(rt, row), seed) {
-                return Some((seed, row));
-            }
+            let holds = holds(rt, alloc, scratch, &run_of(rt, row), i + 1);
+            check_seed(rt, holds, row, i + 1);
         }
     }
-    None
 }
 
 #[test]
 fn runs(rt: HostRuntime) {
     let alloc = rt.alloc();
     let mut scratch = Scratch::new(alloc).expect(&rt, "memory");
-    let wrong = first_wrong(&rt, alloc, &mut scratch);
-    assert_eq!(rt; wrong, None);
+    check_all(&rt, alloc, &mut scratch);
 }

@@ -8,7 +8,7 @@ use crate::broker::starting::topic_alone;
 use crate::broker::told::is_topic;
 use broker_changes::topics::takes;
 use broker_history::{Act, Ask};
-use broker_state::{State, TopicState};
+use broker_state::{MessageCopy, State, TopicState};
 use nsq_base::{Bodies, Body, Chan, Names, Options, Topic};
 use nsq_outside::End;
 use std::alloc::Global;
@@ -110,18 +110,28 @@ pub fn took(
     told: Option<Message>,
     settles: bool,
 ) -> bool {
-    if let Some(message) = told {
-        return has_taken(beside, rt, at, message, settles) && matches!(answer, Head::Ready);
+    match told {
+        Some(message) => {
+            has_taken(beside, rt, at, message, settles) && matches!(answer, Head::Ready)
+        }
+        None => took_none(beside, rt, at, answer),
     }
+}
+
+// The same where no message was drawn.
+fn took_none(beside: &mut Beside, rt: &impl Abort, at: u64, answer: Head) -> bool {
     match answer {
         Head::Empty => has_none(beside),
-        Head::Fault => {
-            let stuck = entry(DAEMON, at, Act::Stuck(beside.topic, None));
-            beside.may_fail() && beside.possible.may(rt, stuck, End::Faulted(0))
-        }
+        Head::Fault => beside.may_fail() && is_stuck(beside, rt, at),
         Head::Memory => panic!(rt; "memory"),
         Head::Ready | Head::Damaged => false,
     }
+}
+
+// Whether a message could have been taken, had a fault not kept it off.
+fn is_stuck(beside: &mut Beside, rt: &impl Abort, at: u64) -> bool {
+    let stuck = entry(DAEMON, at, Act::Stuck(beside.topic, None));
+    beside.possible.may(rt, stuck, End::Faulted(0))
 }
 
 // The message was taken, or drawn and put back.
@@ -226,12 +236,14 @@ fn listed(rt: &impl Abort, alloc: Global, topic: &TopicState) -> Names {
     names
 }
 
+fn let_copies_go(_copies: Vec<MessageCopy>) {}
+
 // What the channels got is forgotten.
 fn forget_copies(alloc: Global, states: &mut [State]) {
     for state in states {
         for topic in &mut state.topics {
             for channel in &mut topic.channels {
-                channel.copies = Vec::new(alloc);
+                let_copies_go(std::mem::replace(&mut channel.copies, Vec::new(alloc)));
             }
         }
     }

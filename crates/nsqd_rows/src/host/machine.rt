@@ -1,8 +1,11 @@
 //! The real machine as a host: its listeners on the loopback network, its folder on disk, the standard streams; and a run of the daemon over it.
+ghost use Rattle.std.specs.Prelude.{IsSome};
 ghost use Rattle.nsq_base.specs.Options.{IsInRange};
+ghost use Rattle.nsq_outside.specs.Hosts.{OnlyAcceptFaults};
 ghost use Rattle.nsqd_host.specs.SysHosts.{IsAtHome, state_of};
 
-use crate::texts::{check, same};
+use crate::texts::{check, same, unknown};
+use broker_history::Entry;
 use daemon_main::{Ending, close, line, serve};
 use nsq_base::{Body, Options};
 use nsq_outside::{Accept, Clock as _, Did, Folder, Host, Kind, Read, Sink, Source, Write};
@@ -26,6 +29,12 @@ const FILES: &str = "nsqd_host_files";
 const PUBLISHED: &str = "nsqd_loopback_published";
 
 const IN_USE: &str = "nsqd_loopback_in_use";
+
+/// What stands in the files of the publish.
+const META: &[u8] = b"1\n0,0\n0,32\n";
+
+const NAMES: &[u8] =
+    br#"{"id_epoch":1,"topics":[{"channels":[],"name":"t","paused":false}],"version":"1.0.0"}"#;
 
 /// The answer to a stop over HTTP.
 const HTTP_OK: &[u8] =
@@ -92,10 +101,28 @@ fn is_nothing(accept: Accept<TcpConn>) -> bool {
     }
 }
 
+/// Whether a host listens at these addresses, with the folder of this path.
+fn starts<R: Wait>(
+    rt: &R,
+    host: &mut SysHost<HostRuntime>,
+    tcp: &str,
+    http: &str,
+    path: &str,
+) -> bool
+    ensures { OnlyAcceptFaults (state_of host.old) (state_of host.new) }
+{
+    host.start(rt, tcp, http, path) == Did::Done
+}
+
+/// What a host answers who is asked for a caller.
+fn accepted<R: Wait>(rt: &R, host: &mut SysHost<HostRuntime>) -> Accept<TcpConn> {
+    host.accept(rt)
+}
+
 /// The host's next caller.
 fn next_caller<R: Abort + Wait>(rt: &R, host: &mut SysHost<HostRuntime>) -> (Kind, TcpConn) {
     for _ in 0..TRIES {
-        if let Some(called) = caller(host.accept(rt)) {
+        if let Some(called) = caller(accepted(rt, host)) {
             return called;
         }
     }
@@ -125,6 +152,14 @@ fn begins<R: Wait>(rt: &R, conn: &mut TcpConn, bytes: &[u8]) -> bool {
         && conn.write(rt, b"OK") == Write::Took(2)
 }
 
+/// What the next caller speaks, and whether it began as it must. Then it is handed back.
+fn serves_next<R: Abort + Wait>(rt: &R, host: &mut SysHost<HostRuntime>) -> (Kind, bool) {
+    let (speaks, mut conn) = next_caller(rt, host);
+    let is_served = begins(rt, &mut conn, b"  V2");
+    host.done(1, conn);
+    (speaks, is_served)
+}
+
 /// Whether a client that calls at an address is the next caller, of this kind, and gets what is written to it.
 fn meets<R: Abort + Wait>(
     rt: &R,
@@ -134,71 +169,88 @@ fn meets<R: Abort + Wait>(
     kind: Kind,
 ) -> bool {
     let client = call(rt, own, address, b"  V2");
-    let (speaks, mut conn) = next_caller(rt, host);
-    let is_served = begins(rt, &mut conn, b"  V2");
-    host.done(1, conn);
+    let (speaks, is_served) = serves_next(rt, host);
     let answer = io::read_to_string(own.alloc(), client).expect(rt, "an answer");
     speaks == kind && is_served && same(answer.as_bytes(), b"OK")
 }
 
-/// Whether the host gives each caller with the kind of the address that it called at, one after another, and waits for more.
-fn gives_callers<R: Abort + Wait>(rt: &R, own: &HostRuntime) -> bool {
+/// Ends the run where this doesn't hold of a host that is new.
+fn check_host<R: Abort + Wait>(rt: &R, own: &HostRuntime, row: &str) {
     let (tcp, http) = free_addresses(rt, own);
     let mut host = new_host(rt, copy_of(rt, own));
-    let gives = gives_each(rt, own, &mut host, tcp.as_str(), http.as_str());
+    let holds = match row {
+        "callers at both addresses" => gives_callers(rt, own, &mut host, &tcp, &http),
+        "an address in use" => counts_faults(rt, own, &mut host),
+        "the kit and the standard streams" => keeps_its_kit(rt, own, &mut host, &tcp, &http),
+        _ => unknown(rt, row),
+    };
     drop(host);
-    gives
+    check(rt, holds, row);
 }
 
-/// The same of a host that is new, at these addresses.
-fn gives_each<R: Abort + Wait>(
+/// Whether the host gives each caller with the kind of the address that it called at, one after another, and waits for more.
+fn gives_callers<R: Abort + Wait>(
     rt: &R,
     own: &HostRuntime,
     host: &mut SysHost<HostRuntime>,
     tcp: &str,
     http: &str,
 ) -> bool {
-    host.start(rt, tcp, http, ".") == Did::Done
+    starts(rt, host, tcp, http, ".")
         && meets(rt, own, host, tcp, Kind::Tcp)
         && meets(rt, own, host, http, Kind::Http)
         && meets(rt, own, host, tcp, Kind::Tcp)
-        && is_nothing(host.accept(rt))
+        && is_nothing(accepted(rt, host))
         && host.accept_faults() == 0
 }
 
 /// Whether the host counts that either address is in use or is none, and that it doesn't listen.
-fn counts_faults<R: Abort + Wait>(rt: &R, own: &HostRuntime) -> bool {
+fn counts_faults<R: Abort + Wait>(
+    rt: &R,
+    own: &HostRuntime,
+    host: &mut SysHost<HostRuntime>,
+) -> bool {
     let listener = listener(rt, own);
     let in_use = address_of(rt, own.alloc(), &listener);
     let free = free_address(rt, own);
-    let mut host = new_host(rt, copy_of(rt, own));
-    let counts = counts_each(rt, &mut host, in_use.as_str(), free.as_str());
-    drop(host);
-    counts
+    counts_each(rt, host, in_use.as_str(), free.as_str())
 }
 
 /// The same of a host that is new, with an address that is in use and one that isn't.
 fn counts_each<R: Wait>(rt: &R, host: &mut SysHost<HostRuntime>, in_use: &str, free: &str) -> bool {
-    host.start(rt, in_use, free, ".") == Did::Failed
-        && host.start(rt, free, in_use, ".") == Did::Failed
-        && host.start(rt, free, "no port", ".") == Did::Failed
+    !starts(rt, host, in_use, free, ".")
+        && !starts(rt, host, free, in_use, ".")
+        && !starts(rt, host, free, "no port", ".")
         && host.accept_faults() == 3
-        && caller(host.accept(rt)).is_none()
+        && caller(accepted(rt, host)).is_none()
         && host.accept_faults() == 4
 }
 
 /// Whether the folder is the one that was asked for, the kit comes home, and the standard streams take what they are given.
-fn keeps_its_kit<R: Abort + Wait>(rt: &R, own: &HostRuntime) -> bool {
+fn keeps_its_kit<R: Abort + Wait>(
+    rt: &R,
+    own: &HostRuntime,
+    host: &mut SysHost<HostRuntime>,
+    tcp: &str,
+    http: &str,
+) -> bool
+    requires { IsSome (state_of host.old).kit }
+{
     new_folder(rt, own, FILES);
-    let (tcp, http) = free_addresses(rt, own);
-    let mut host = new_host(rt, copy_of(rt, own));
-    let started = host.start(rt, tcp.as_str(), http.as_str(), FILES);
+    let started = starts(rt, host, tcp, http, FILES);
+    let cut = cuts(host);
+    let is_well = is_well(rt, host);
+    started && cut && has_cut(rt, own) && is_well
+}
+
+/// Whether the folder makes a file of three bytes.
+fn cuts(host: &mut SysHost<HostRuntime>) -> bool
+    requires { IsSome (state_of host.old).kit }
+{
     let mut home = host.lend();
     let cut = home.folder.cut("a", 3);
     host.restore(home);
-    let is_well = is_well(rt, &mut host);
-    drop(host);
-    started == Did::Done && cut == Did::Done && has_cut(rt, own) && is_well
+    cut == Did::Done
 }
 
 /// Whether the file that was cut has three bytes. Then its folder is removed.
@@ -276,11 +328,24 @@ fn serve_at<R: Abort + Wait>(
     let alloc = own.alloc();
     let options = options_at(rt, alloc, tcp, http, path);
     let mut host = new_host(rt, own);
-    let ending = Ending::Served(serve(rt, alloc, &options, &mut host));
-    drop(options);
-    let status = close(rt, &mut host, ending);
+    let ended = serve_and_close(rt, alloc, &options, &mut host);
     drop(host);
-    (status, line(ending))
+    drop(options);
+    ended
+}
+
+/// The same over any host with these options. A call of a generic function at a concrete host is dear: here is one in place of two.
+fn serve_and_close<R: Wait, H: Host<Entry>>(
+    rt: &R,
+    alloc: Global,
+    options: &Options,
+    host: &mut H,
+) -> (u8, Option<&'static [u8]>)
+    requires home { IsSome (H.state host.old).kit }
+    requires options { IsInRange options.now }
+{
+    let ending = Ending::Served(serve(rt, alloc, options, host));
+    (close(rt, host, ending), line(ending))
 }
 
 /// The bytes of a file, which is removed.
@@ -294,15 +359,22 @@ fn taken(rt: &impl Abort, own: &HostRuntime, path: &str) -> Vec<u8> {
 /// Then it is removed.
 fn is_kept(rt: &impl Abort, own: &HostRuntime, before: u64, after: u64) -> bool {
     let record = taken(rt, own, "nsqd_loopback_published/t.diskqueue.000000.dat");
-    let meta = taken(rt, own, "nsqd_loopback_published/t.diskqueue.meta.dat");
-    let names = taken(rt, own, "nsqd_loopback_published/nsqd.dat");
-    is_published(&record, before, after)
-        && same(&meta, b"1\n0,0\n0,32\n")
-        && same(
-            &names,
-            br#"{"id_epoch":1,"topics":[{"channels":[],"name":"t","paused":false}],"version":"1.0.0"}"#,
-        )
-        && fs::remove_dir(own, PUBLISHED).is_ok()
+    let is_published = is_published(&record, before, after);
+    drop(record);
+    let has_meta = has_file(
+        rt,
+        own,
+        "nsqd_loopback_published/t.diskqueue.meta.dat",
+        META,
+    );
+    let has_names = has_file(rt, own, "nsqd_loopback_published/nsqd.dat", NAMES);
+    is_published && has_meta && has_names && fs::remove_dir(own, PUBLISHED).is_ok()
+}
+
+/// Whether a file has these bytes. It is removed.
+fn has_file(rt: &impl Abort, own: &HostRuntime, path: &str, bytes: &[u8]) -> bool {
+    let file = taken(rt, own, path);
+    same(&file, bytes)
 }
 
 /// Whether a record is that of the publish, with a moment between these two, which stands behind its size.
@@ -347,13 +419,9 @@ fn refuses_a_port<R: Abort + Wait>(rt: &R, own: &HostRuntime) -> bool {
 
 #[test]
 fn the_real_machine(rt: HostRuntime) {
-    check(&rt, gives_callers(&rt, &rt), "callers at both addresses");
-    check(&rt, counts_faults(&rt, &rt), "an address in use");
-    check(
-        &rt,
-        keeps_its_kit(&rt, &rt),
-        "the kit and the standard streams",
-    );
+    check_host(&rt, &rt, "callers at both addresses");
+    check_host(&rt, &rt, "an address in use");
+    check_host(&rt, &rt, "the kit and the standard streams");
     check(&rt, serves(&rt, &rt), "real connections");
     check(&rt, refuses_a_port(&rt, &rt), "a port in use");
 }

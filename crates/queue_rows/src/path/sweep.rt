@@ -10,7 +10,7 @@
 use crate::check;
 use crate::folders::{all_told, folder_told, let_folder_go};
 use crate::text::{call_of, cut_at, part, unknown};
-use names_file::read_names;
+use names_reading::read_names;
 use nsq_fakes::{Called, FolderCall, MemFolder};
 use queue_sweep::{Unswept, set_aside_unlisted};
 use std::alloc::Global;

@@ -242,37 +242,33 @@ fn holds<R: Abort + Wait>(
     let mut case = case_of(rt, alloc, talk);
     let can = break_at(rt, &mut case, letters, at, takes, one);
     go(rt, &mut case, going);
-    !can || goes(rt, alloc, &case)
+    let holds = !can || goes(rt, alloc, &case);
+    drop(case);
+    holds
 }
 
-// The first call at which a conversation that is broken off so goes otherwise, and how it goes there.
-fn wrong<R: Abort + Wait>(
-    rt: &R,
-    alloc: Global,
-    talk: &'static str,
-    one: &'static str,
-) -> Option<(usize, &'static str)> {
+// Ends the run where a conversation that is broken off so goes otherwise, with the call at which it is, and how it goes there.
+fn check<R: Abort + Wait>(rt: &R, alloc: Global, talk: &'static str, one: &'static str) {
     let takes = match column(one, 1).split_once("write ") {
         Some((_, takes)) => takes.parse::<usize>().expect(rt, "a number"),
         None => usize::MAX,
     };
-    let letters = letters_of(rt, alloc, &case_of(rt, alloc, talk), takes);
+    let case = case_of(rt, alloc, talk);
+    let letters = letters_of(rt, alloc, &case, takes);
+    drop(case);
     for at in 0..letters.len() {
         for going in GOINGS.trim().split('\n') {
-            if !holds(rt, alloc, talk, &letters, (at, takes), one, going) {
-                return Some((at, going));
-            }
+            let holds = holds(rt, alloc, talk, &letters, (at, takes), one, going);
+            assert!(rt; holds, "{talk}, {one}: at call {at}, {going}");
         }
     }
-    None
 }
 
 #[test]
 fn rows(rt: HostRuntime) {
     for talk in TALKS.trim().split('\n') {
         for one in BREAKS.trim().split('\n') {
-            let wrong = wrong(&rt, rt.alloc(), talk, one);
-            assert!(rt; wrong.is_none(), "{}, {}: {:?}", talk, one, wrong);
+            check(&rt, rt.alloc(), talk, one);
         }
     }
 }

@@ -67,21 +67,22 @@ fn cut_at(rt: &impl Abort, alloc: Global, row: &'static str, cut: usize) -> Case
     case
 }
 
-// Behind how many bytes a cut goes otherwise; 0 for one behind each byte.
-fn wrong<R: Abort + Wait>(rt: &R, alloc: Global, row: &'static str) -> Option<usize> {
+// Ends the run where a row goes otherwise, with the number of bytes behind which it is cut; 0 for a cut behind each byte.
+fn check<R: Abort + Wait>(rt: &R, alloc: Global, row: &'static str) {
     let (stream, _) = stream_of(rt, alloc, row);
-    for cut in 0..stream.len().saturating_add(1) {
-        if !goes(rt, alloc, &cut_at(rt, alloc, row, cut)) {
-            return Some(cut);
-        }
+    let length = stream.len();
+    drop(stream);
+    for cut in 0..length.saturating_add(1) {
+        let case = cut_at(rt, alloc, row, cut);
+        let goes = goes(rt, alloc, &case);
+        drop(case);
+        assert!(rt; goes, "{row}, cut behind {cut}");
     }
-    None
 }
 
 #[test]
 fn rows(rt: HostRuntime) {
     for row in ROWS.trim().split('\n') {
-        let wrong = wrong(&rt, rt.alloc(), row);
-        assert!(rt; wrong.is_none(), "{}, cut behind {:?}", row, wrong);
+        check(&rt, rt.alloc(), row);
     }
 }

@@ -1,7 +1,7 @@
 //! Connections whose writes are gathered until the next read, as those over TCP are: what leaves together.
 
 use super::lines::{ANSWERS, CALLS, SENT, pieces_in};
-use super::served::{has_letters, let_floor_go};
+use super::served::{check, has_letters, let_floor_go};
 use crate::conn::{Fails, conn_of};
 use crate::text::{column, spread};
 use nsq_fakes::MemConn;
@@ -142,7 +142,6 @@ fn let_go(_conn: GatheringConn<'_>) {}
 #[test]
 fn rows(rt: HostRuntime) {
     for row in ROWS.trim().split('\n') {
-        let holds = holds(&rt, rt.alloc(), row);
-        assert!(rt; holds, "{row}");
+        check(&rt, holds(&rt, rt.alloc(), row), row);
     }
 }

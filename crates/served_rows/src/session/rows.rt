@@ -1,6 +1,6 @@
 //! Connections from their first byte to their end: how each ends, what is written, and the order of turns, reads and writes.
 
-use super::served::{case_of, goes, write_all};
+use super::served::{case_of, check, goes, write_all};
 use crate::lists::{push, put};
 use std::alloc::Global;
 use std::process::Abort;
@@ -71,14 +71,18 @@ fn beats<R: Abort + Wait>(rt: &R, alloc: Global, place: usize) -> bool {
     }
     write_all(rt, &mut case);
     put(rt, &mut case.script, b"qig");
-    goes(rt, alloc, &case)
+    let beats = goes(rt, alloc, &case);
+    drop(case);
+    beats
 }
 
 #[test]
 fn rows(rt: HostRuntime) {
     for row in ROWS.trim().split('\n') {
-        let holds = goes(&rt, rt.alloc(), &case_of(&rt, rt.alloc(), row));
-        assert!(rt; holds, "{row}");
+        let case = case_of(&rt, rt.alloc(), row);
+        let holds = goes(&rt, rt.alloc(), &case);
+        drop(case);
+        check(&rt, holds, row);
     }
 }
 

@@ -87,6 +87,11 @@ pub fn goes<R: Abort + Wait>(rt: &R, alloc: Global, case: &Case) -> bool {
 /// Takes a floor apart that answers by a script.
 pub fn let_floor_go(_floor: ScriptedFloor<'_>) {}
 
+/// Ends the run where the row of this name doesn't hold.
+pub fn check(rt: &impl Abort, holds: bool, name: &str) {
+    assert!(rt; holds, "{name}");
+}
+
 /// Whether a trace has these letters, in this order.
 pub fn has_letters(rt: &impl Abort, alloc: Global, trace: &Trace, letters: &[u8]) -> bool {
     let noted = trace.letters(alloc).expect(rt, "memory");

@@ -14,6 +14,7 @@ use crate::Head;
 use backlog::Drawn;
 use nsq_base::Chan;
 use nsq_outside::Folder;
+use owed_channels::owe_to_all;
 use v2_frame::Message;
 
 /// Taking, and what is owed.
@@ -50,9 +51,7 @@ impl TopicQueue {
         };
         match self.backlog.draw(folder, scratch) {
             Drawn::Got(message) => {
-                let Ok(()) = self.owed.extend_from_slice(channels) else {
-                    unreachable!()
-                };
+                owe_to_all(&mut self.owed, channels);
                 self.head = Some(message);
                 Head::Ready
             }

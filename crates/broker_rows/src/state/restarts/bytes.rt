@@ -1,7 +1,7 @@
 //! One restart to the byte: what a stop wrote of a channel, and what the next run starts from and writes first.
 
 use crate::folders::{files_of, listed, names_in, started};
-use crate::made::same;
+use crate::made::{check, let_files_go, let_names_go, let_state_go, same};
 use broker_files::{FoundNames, kept_names, names_text};
 use broker_state::{State, queued};
 use nsq_base::Options;
@@ -43,19 +43,25 @@ fn starts(rt: &impl Abort, alloc: Global, names: &FoundNames) -> bool {
     let state = started(rt, alloc, names, &options, 0);
     let kept = kept_names(alloc, &state).expect(rt, "memory");
     let text = names_text(alloc, &kept).expect(rt, "memory");
-    queued_first(&state) == 3 && state.ids_used == 0 && same(&text, listed(rt, "NEXT_EPOCH"))
+    let starts = queued_first(&state) == 3
+        && state.ids_used == 0
+        && same(&text, listed(rt, "NEXT_EPOCH"));
+    let_state_go(state);
+    starts
 }
 
 fn restarts(rt: &impl Abort, alloc: Global) -> bool {
     let files = files_of(rt, alloc, listed(rt, "LISTED"), "t:c c0 b1 a1");
     let names = names_in(rt, alloc, &files);
-    has(&files, b"t:c.diskqueue.000000.dat", DATA)
+    let restarts = has(&files, b"t:c.diskqueue.000000.dat", DATA)
         && has(&files, b"t:c.diskqueue.meta.dat", POSITIONS)
-        && starts(rt, alloc, &names)
+        && starts(rt, alloc, &names);
+    let_files_go(files);
+    let_names_go(names);
+    restarts
 }
 
 #[test]
 fn a_restart(rt: HostRuntime) {
-    let restarts = restarts(&rt, rt.alloc());
-    assert!(rt; restarts);
+    check(&rt, restarts(&rt, rt.alloc()), "a restart");
 }

@@ -1,260 +1,104 @@
 //! The rows.
 
-use super::{Given, GivenChannel, GivenTopic, Sent, holds};
-use broker_state::Place;
+use super::holds;
+use crate::made::{check, unknown};
 use std::process::Abort;
 
-const A: Sent = Sent {
-    number: 0,
-    attempts: 1,
-    letter: b'a',
-};
+// One copy is in flight, one queued, one deferred.
+const HELD: &str =
+    "1 4 10000 clients: topics: t on 4 waiting taken / c on 3 1 0 deferred a1 5, in-flight b1 7 9, queued c0";
 
-const B: Sent = Sent {
-    number: 1,
-    attempts: 1,
-    letter: b'b',
-};
+const PAUSED: &str = "1 4 10000 clients: topics: t on 4 waiting taken / c paused 0 0 0";
 
-const C: Sent = Sent {
-    number: 2,
-    attempts: 0,
-    letter: b'c',
-};
+const DONE: &str =
+    "1 4 10000 clients: topics: t on 4 waiting taken / c on 2 0 0 finished a1, emptied b1";
 
-const D: Sent = Sent {
-    number: 3,
-    attempts: 0,
-    letter: b'd',
-};
+const TAKEN: &str = "1 4 10000 clients: topics: t on 4 waiting d0 taken c0 / c on 0 0 0";
 
-/// One copy in flight, one queued, one deferred.
-const HELD_CHANNEL: GivenChannel = GivenChannel {
-    name: b"c",
-    paused: false,
-    counts: [3, 1, 0],
-    copies: &[
-        (A, Place::Deferred { due: 5 }),
-        (
-            B,
-            Place::InFlight {
-                client: 7,
-                due: 9,
-                sent: 0,
-            },
-        ),
-        (C, Place::Queued),
-    ],
-};
+const EPHEMERAL: &str =
+    "1 4 10000 clients: topics: t on 4 waiting d0 taken / x#ephemeral on 1 0 0 queued a1; v#ephemeral on 4 waiting d0 taken / c on 0 0 0";
 
-const PAUSED_CHANNEL: GivenChannel = GivenChannel {
-    name: b"c",
-    paused: true,
-    counts: [0, 0, 0],
-    copies: &[],
-};
+static ROWS: &'static str = "
+a queued copy, one in flight and one deferred
+        left: held / LISTED / t:c c0 b1 a1
 
-const EMPTY_CHANNEL: GivenChannel = GivenChannel {
-    name: b"c",
-    paused: false,
-    counts: [0, 0, 0],
-    copies: &[],
-};
+the same in another order
+        left: held / LISTED / t:c a1 b1 c0
 
-const DONE_CHANNEL: GivenChannel = GivenChannel {
-    name: b"c",
-    paused: false,
-    counts: [2, 0, 0],
-    copies: &[(A, Place::Finished), (B, Place::Emptied)],
-};
+a stop that forgets the copy in flight
+        not left: held / LISTED / t:c c0 a1
 
-const EPHEMERAL_CHANNEL: GivenChannel = GivenChannel {
-    name: b"x#ephemeral",
-    paused: false,
-    counts: [1, 0, 0],
-    copies: &[(A, Place::Queued)],
-};
+a stop that forgets the deferred copy
+        not left: held / LISTED / t:c c0 b1
 
-static HELD: Given = Given {
-    epoch: 1,
-    ids_used: 4,
-    mem_queue_size: 10000,
-    clients: &[],
-    topics: &[HELD_TOPIC],
-};
+a stop that forgets the queued copy
+        not left: held / LISTED / t:c b1 a1
 
-static PAUSED: Given = Given {
-    epoch: 1,
-    ids_used: 4,
-    mem_queue_size: 10000,
-    clients: &[],
-    topics: &[PAUSED_TOPIC],
-};
+a stop that forgets attempts
+        not left: held / LISTED / t:c c0 b1 a0
 
-static DONE: Given = Given {
-    epoch: 1,
-    ids_used: 4,
-    mem_queue_size: 10000,
-    clients: &[],
-    topics: &[DONE_TOPIC],
-};
+a copy that is left twice
+        not left: held / LISTED / t:c c0 b1 a1 a1
 
-static TAKEN: Given = Given {
-    epoch: 1,
-    ids_used: 4,
-    mem_queue_size: 10000,
-    clients: &[],
-    topics: &[TAKEN_TOPIC],
-};
+a copy that is left twice in place of another
+        not left: held / LISTED / t:c c0 b1 b1
 
-static EPHEMERAL: Given = Given {
-    epoch: 1,
-    ids_used: 4,
-    mem_queue_size: 10000,
-    clients: &[],
-    topics: &[WAITING_TOPIC, EPHEMERAL_TOPIC],
-};
+a channel that the file of names doesn't list
+        not left: held / TOPIC_ALONE / t:c c0 b1 a1
 
-const HELD_TOPIC: GivenTopic = GivenTopic {
-    name: b"t",
-    paused: false,
-    count: 4,
-    waiting: &[],
-    taken: &[],
-    channels: &[HELD_CHANNEL],
-};
+a channel's pause that is forgotten
+        not left: paused / LISTED
 
-const PAUSED_TOPIC: GivenTopic = GivenTopic {
-    name: b"t",
-    paused: false,
-    count: 4,
-    waiting: &[],
-    taken: &[],
-    channels: &[PAUSED_CHANNEL],
-};
+a channel's pause that is kept
+        left: paused / LISTED_PAUSED
 
-const DONE_TOPIC: GivenTopic = GivenTopic {
-    name: b"t",
-    paused: false,
-    count: 4,
-    waiting: &[],
-    taken: &[],
-    channels: &[DONE_CHANNEL],
-};
+another run's epoch
+        not left: held / NEXT_EPOCH / t:c c0 b1 a1
 
-const TAKEN_TOPIC: GivenTopic = GivenTopic {
-    name: b"t",
-    paused: false,
-    count: 4,
-    waiting: &[D],
-    taken: &[C],
-    channels: &[EMPTY_CHANNEL],
-};
+copies that are done with
+        left: done / LISTED
 
-const WAITING_TOPIC: GivenTopic = GivenTopic {
-    name: b"t",
-    paused: false,
-    count: 4,
-    waiting: &[D],
-    taken: &[],
-    channels: &[EPHEMERAL_CHANNEL],
-};
+a copy that is done with and is left
+        not left: done / LISTED / t:c a1
 
-const EPHEMERAL_TOPIC: GivenTopic = GivenTopic {
-    name: b"v#ephemeral",
-    paused: false,
-    count: 4,
-    waiting: &[D],
-    taken: &[],
-    channels: &[EMPTY_CHANNEL],
-};
+a waiting message and the taken one
+        left: taken / LISTED / t d0 c0
 
-static ROWS: [&'static str; 21] = [
-    "a queued copy, one in flight and one deferred
-        left: held / LISTED / t:c c0 b1 a1",
-    "the same in another order
-        left: held / LISTED / t:c a1 b1 c0",
-    "a stop that forgets the copy in flight
-        not left: held / LISTED / t:c c0 a1",
-    "a stop that forgets the deferred copy
-        not left: held / LISTED / t:c c0 b1",
-    "a stop that forgets the queued copy
-        not left: held / LISTED / t:c b1 a1",
-    "a stop that forgets attempts
-        not left: held / LISTED / t:c c0 b1 a0",
-    "a copy that is left twice
-        not left: held / LISTED / t:c c0 b1 a1 a1",
-    "a copy that is left twice in place of another
-        not left: held / LISTED / t:c c0 b1 b1",
-    "a channel that the file of names doesn't list
-        not left: held / TOPIC_ALONE / t:c c0 b1 a1",
-    "a channel's pause that is forgotten
-        not left: paused / LISTED",
-    "a channel's pause that is kept
-        left: paused / LISTED_PAUSED",
-    "another run's epoch
-        not left: held / NEXT_EPOCH / t:c c0 b1 a1",
-    "copies that are done with
-        left: done / LISTED",
-    "a copy that is done with and is left
-        not left: done / LISTED / t:c a1",
-    "a waiting message and the taken one
-        left: taken / LISTED / t d0 c0",
-    "a stop that forgets the taken message
-        not left: taken / LISTED / t d0",
-    "a stop that forgets the waiting message
-        not left: taken / LISTED / t c0",
-    "the taken message, left in the channel
-        not left: taken / LISTED / t d0 / t:c c0",
-    "what is ephemeral isn't left
-        left: ephemeral / TOPIC_ALONE / t d0",
-    "a topic that isn't listed
-        not left: ephemeral / NOTHING / t d0",
-    "files of a topic that isn't there
-        left: ephemeral / TOPIC_ALONE / t d0 / u a1",
-];
+a stop that forgets the taken message
+        not left: taken / LISTED / t d0
 
-fn all_rows() -> &'static [&'static str] {
-    &ROWS
-}
+a stop that forgets the waiting message
+        not left: taken / LISTED / t c0
 
-fn held() -> &'static Given {
-    &HELD
-}
+the taken message, left in the channel
+        not left: taken / LISTED / t d0 / t:c c0
 
-fn paused() -> &'static Given {
-    &PAUSED
-}
+what is ephemeral isn't left
+        left: ephemeral / TOPIC_ALONE / t d0
 
-fn done() -> &'static Given {
-    &DONE
-}
+a topic that isn't listed
+        not left: ephemeral / NOTHING / t d0
 
-fn taken() -> &'static Given {
-    &TAKEN
-}
-
-fn ephemeral() -> &'static Given {
-    &EPHEMERAL
-}
+files of a topic that isn't there
+        left: ephemeral / TOPIC_ALONE / t d0 / u a1
+";
 
 /// The state that a run ended in: with one copy in flight, one queued and one deferred; with a paused channel; with copies that are done with; with a
 /// waiting message and a taken one; or with what waits and what is ephemeral.
-pub fn given_of(rt: &impl Abort, word: &str) -> &'static Given {
+pub fn given_of(rt: &impl Abort, word: &str) -> &'static str {
     match word {
-        "held" => held(),
-        "paused" => paused(),
-        "done" => done(),
-        "taken" => taken(),
-        "ephemeral" => ephemeral(),
-        _ => panic!(rt; "{} is no end of a run", word),
+        "held" => HELD,
+        "paused" => PAUSED,
+        "done" => DONE,
+        "taken" => TAKEN,
+        "ephemeral" => EPHEMERAL,
+        _ => unknown(rt, word),
     }
 }
 
 #[test]
 fn rows(rt: HostRuntime) {
-    for row in all_rows() {
-        let holds = holds(&rt, rt.alloc(), row);
-        assert!(rt; holds, "{}", row);
+    for row in ROWS.trim().split("\n\n") {
+        check(&rt, holds(&rt, rt.alloc(), row), row);
     }
 }

@@ -1,6 +1,6 @@
 use Rattle.std.proofs.Common.{arith, refl, sym, subst, ap, ◌∙◌, inl, inr}
 use Rattle.nsq_outside.specs.Hosts.{HostContent, OnlyAcceptFaults}
-use Rattle.daemon_loop.proofs.Handing.{accepted_then}
+use Rattle.daemon_callers.proofs.Handing.{accepted_then}
 use Rattle.daemon_loop.proofs.Rounding.{rounds_failed, rounds_first, rounds_halted, rounds_new, rounds_served, rounds_tick, rounds_waited, rose_wider}
 use Rattle.daemon_loop.proofs.callers.serve_callers.Goals as goal
 

@@ -2,7 +2,7 @@ use Rattle.std.proofs.Common.{◌≡◌, false}
 use Rattle.nsq_outside.specs.Hosts.{OnlyAcceptFaults}
 use Rattle.path_closing.specs.Floors.{flushed_of, scene_of}
 use Rattle.daemon_loop.specs.Rounds.{Rounds}
-use Rattle.daemon_loop.specs.Served.{views, AllTell}
+use Rattle.daemon_callers.specs.Served.{views, AllTell}
 use Rattle.daemon_loop.proofs.callers.serve_callers.Given as goal
 
 abbrev pub invariant-callers : goal.invariant-callers

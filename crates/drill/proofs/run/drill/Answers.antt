@@ -1,9 +1,9 @@
 use Rattle.std.proofs.Common.{◌≡◌, subst, sym, ◌∙◌}
 use Rattle.std.specs.List.{AllByRecursion}
-use Rattle.drill.specs.Draws.{publishes}
+use Rattle.drill_parts.specs.Draws.{publishes}
 use Rattle.drill.specs.Drills.{HasRunDrill}
 use Rattle.drill.proofs.Drilling.{has_drilled, home_names}
-use Rattle.drill.proofs.Spelling.{IsShort, publishes_short}
+use Rattle.drill_parts.proofs.Spelling.{IsShort, publishes_short}
 use Rattle.drill.proofs.run.drill.Goals as goal
 
 pub conclude-requires-clause-names : goal.conclude-requires-clause-names

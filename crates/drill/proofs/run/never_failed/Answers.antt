@@ -1,6 +1,6 @@
 use Rattle.std.proofs.Common.{refl}
 use Rattle.drill.specs.Drills.{NeverFailed}
-use Rattle.drill.proofs.Lists.{all_next}
+use Rattle.drill_parts.proofs.Lists.{all_next}
 use Rattle.drill.proofs.run.never_failed.Goals as goal
 
 pub loop-entry-preserved : goal.loop-entry-preserved

@@ -25,21 +25,18 @@ loop-preserved g c = (
   c.draw_next.ensures.calm,
 )
 
-pub returns-in-Answered-clause-acts : goal.returns-in-Answered-clause-acts
-returns-in-Answered-clause-acts g c =
-    held_acts g.J.Journal.tells_notes g.F.Folder.tells_files (sight c.args.hall.now (g.J.Journal.notes c.args.journal.now) (g.F.Folder.files c.args.folder.now) (g.F.Folder.folder_faults c.args.folder.now)) (sight c.loop.hall (g.J.Journal.notes c.loop.journal) (g.F.Folder.files c.loop.folder) (g.F.Folder.folder_faults c.loop.folder)) c.loop.invariant.0 c.args.number c.in-Answered.answer (sight c.draw_next.new.hall (g.J.Journal.notes c.draw_next.new.journal) (g.F.Folder.files c.draw_next.new.folder) (g.F.Folder.folder_faults c.draw_next.new.folder)) c.in-Answered.ensures.rounds
+pub returns-in-Answered : goal.returns-in-Answered
+returns-in-Answered g c = record {
+  acts = held_acts g.J.Journal.tells_notes g.F.Folder.tells_files (sight c.args.hall.now (g.J.Journal.notes c.args.journal.now) (g.F.Folder.files c.args.folder.now) (g.F.Folder.folder_faults c.args.folder.now)) (sight c.loop.hall (g.J.Journal.notes c.loop.journal) (g.F.Folder.files c.loop.folder) (g.F.Folder.folder_faults c.loop.folder)) c.loop.invariant.0 c.args.number c.in-Answered.answer (sight c.draw_next.new.hall (g.J.Journal.notes c.draw_next.new.journal) (g.F.Folder.files c.draw_next.new.folder) (g.F.Folder.folder_faults c.draw_next.new.folder)) c.in-Answered.ensures.rounds;
+  files = λ told file other. c.draw_next.ensures.files told file other ∙ c.loop.invariant.0.files told file other;
+  sound = c.draw_next.ensures.sound;
+  calm = c.draw_next.ensures.calm;
+}
 
-pub returns-in-Answered-clause-files : goal.returns-in-Answered-clause-files
-returns-in-Answered-clause-files g c = λ told file other. c.draw_next.ensures.files told file other ∙ c.loop.invariant.0.files told file other
-
-pub returns-clause-acts : goal.returns-clause-acts
-returns-clause-acts g c = held_ends g.J.Journal.tells_notes g.F.Folder.tells_files (sight c.args.hall.now (g.J.Journal.notes c.args.journal.now) (g.F.Folder.files c.args.folder.now) (g.F.Folder.folder_faults c.args.folder.now)) (sight c.loop.hall (g.J.Journal.notes c.loop.journal) (g.F.Folder.files c.loop.folder) (g.F.Folder.folder_faults c.loop.folder)) c.loop.invariant.0 c.args.number
-
-pub returns-clause-sound : goal.returns-clause-sound
-returns-clause-sound g c = c.loop.invariant.0.sound
-
-pub returns-clause-calm : goal.returns-clause-calm
-returns-clause-calm g c = c.loop.invariant.1
-
-pub returns-clause-files : goal.returns-clause-files
-returns-clause-files g c = c.loop.invariant.0.files
+pub returns : goal.returns
+returns g c = record {
+  acts = held_ends g.J.Journal.tells_notes g.F.Folder.tells_files (sight c.args.hall.now (g.J.Journal.notes c.args.journal.now) (g.F.Folder.files c.args.folder.now) (g.F.Folder.folder_faults c.args.folder.now)) (sight c.loop.hall (g.J.Journal.notes c.loop.journal) (g.F.Folder.files c.loop.folder) (g.F.Folder.folder_faults c.loop.folder)) c.loop.invariant.0 c.args.number;
+  sound = c.loop.invariant.0.sound;
+  calm = c.loop.invariant.1;
+  files = c.loop.invariant.0.files;
+}

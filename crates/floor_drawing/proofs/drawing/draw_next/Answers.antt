@@ -43,14 +43,13 @@ send-requires-clause-short g c = drawn_short g.F.Folder.tells_files c.args.numbe
 pub send-requires-clause-moment : goal.send-requires-clause-moment
 send-requires-clause-moment g c = moment_behind g.F.Folder.tells_files c.args.number c.args.place (next.Send c.in-Send.message) (g.F.Folder.files c.args.folder.now) (g.F.Folder.files c.draw.new.folder) (g.F.Folder.folder_faults c.args.folder.now) (g.F.Folder.folder_faults c.draw.new.folder) c.args.hall.now c.draw.new.hall c.in-Send.ensures.drawn
 
-pub returns-in-Send-clause-rounds : goal.returns-in-Send-clause-rounds
-returns-in-Send-clause-rounds g c = c.send.ensures.acts c.args.hall.now (g.F.Folder.files c.args.folder.now) (g.F.Folder.folder_faults c.args.folder.now) c.in-Send.ensures.drawn c.requires.sound c.requires.running c.requires.serves
-
-pub returns-in-Send-clause-sound : goal.returns-in-Send-clause-sound
-returns-in-Send-clause-sound g c = c.send.ensures.sound c.args.hall.now (g.F.Folder.files c.args.folder.now) (g.F.Folder.folder_faults c.args.folder.now) c.in-Send.ensures.drawn
-
-pub returns-in-Send-clause-files : goal.returns-in-Send-clause-files
-returns-in-Send-clause-files g c = λ told file other. c.send.ensures.files c.args.hall.now (g.F.Folder.files c.args.folder.now) (g.F.Folder.folder_faults c.args.folder.now) c.in-Send.ensures.drawn told file other ∙ c.draw.ensures.files told file other
+pub returns-in-Send : goal.returns-in-Send
+returns-in-Send g c = record {
+  rounds = c.send.ensures.acts c.args.hall.now (g.F.Folder.files c.args.folder.now) (g.F.Folder.folder_faults c.args.folder.now) c.in-Send.ensures.drawn c.requires.sound c.requires.running c.requires.serves;
+  sound = c.send.ensures.sound c.args.hall.now (g.F.Folder.files c.args.folder.now) (g.F.Folder.folder_faults c.args.folder.now) c.in-Send.ensures.drawn;
+  files = λ told file other. c.send.ensures.files c.args.hall.now (g.F.Folder.files c.args.folder.now) (g.F.Folder.folder_faults c.args.folder.now) c.in-Send.ensures.drawn told file other ∙ c.draw.ensures.files told file other;
+  calm = c.send.ensures.calm;
+}
 
 pub hold_back-requires-clause-held : goal.hold_back-requires-clause-held
 hold_back-requires-clause-held g c = held_there g.J.Journal.tells_notes g.F.Folder.tells_files c.args.number c.args.place c.in-Held.id (g.F.Folder.files c.args.folder.now) (g.F.Folder.files c.draw.new.folder) (g.F.Folder.folder_faults c.args.folder.now) (g.F.Folder.folder_faults c.draw.new.folder) c.args.hall.now c.draw.new.hall c.in-Held.ensures.drawn
@@ -58,69 +57,72 @@ hold_back-requires-clause-held g c = held_there g.J.Journal.tells_notes g.F.Fold
 pub hold_back-requires-clause-moment : goal.hold_back-requires-clause-moment
 hold_back-requires-clause-moment g c = held_moment g.J.Journal.tells_notes g.F.Folder.tells_files c.args.number c.args.place c.in-Held.id (g.F.Folder.files c.args.folder.now) (g.F.Folder.files c.draw.new.folder) (g.F.Folder.folder_faults c.args.folder.now) (g.F.Folder.folder_faults c.draw.new.folder) c.args.hall.now c.draw.new.hall c.in-Held.ensures.drawn
 
-pub returns-in-Ok-clause-rounds : goal.returns-in-Ok-clause-rounds
-returns-in-Ok-clause-rounds g c = (
-  held_round g.J.Journal.tells_notes g.F.Folder.tells_files c.args.number c.args.place c.in-Held.id (g.F.Folder.files c.args.folder.now) (g.F.Folder.files c.draw.new.folder) (g.F.Folder.folder_faults c.args.folder.now) (g.F.Folder.folder_faults c.draw.new.folder) c.args.hall.now c.draw.new.hall c.in-Held.ensures.drawn (g.J.Journal.notes c.args.journal.now) (sight c.hold_back.new.hall (g.J.Journal.notes c.hold_back.new.journal) (g.F.Folder.files c.hold_back.new.folder) (g.F.Folder.folder_faults c.hold_back.new.folder)) (c.in-Ok.ensures.moves (sight c.in-Held.ensures.drawn.marked (g.J.Journal.notes c.args.journal.now) (g.F.Folder.files c.args.folder.now) (g.F.Folder.folder_faults c.args.folder.now)) (drawn_from g.J.Journal.tells_notes g.F.Folder.tells_files c.args.number c.args.place c.in-Held.id (g.F.Folder.files c.args.folder.now) (g.F.Folder.files c.draw.new.folder) (g.F.Folder.folder_faults c.args.folder.now) (g.F.Folder.folder_faults c.draw.new.folder) c.args.hall.now c.draw.new.hall c.in-Held.ensures.drawn (g.J.Journal.notes c.args.journal.now)) (marked_running g.J.Journal.tells_notes g.F.Folder.tells_files c.args.number c.args.place c.in-Held.id (g.F.Folder.files c.args.folder.now) (g.F.Folder.files c.draw.new.folder) (g.F.Folder.folder_faults c.args.folder.now) (g.F.Folder.folder_faults c.draw.new.folder) c.args.hall.now c.draw.new.hall c.in-Held.ensures.drawn c.requires.running)),
-  held_keeps g.J.Journal.tells_notes g.F.Folder.tells_files c.args.number c.args.place c.in-Held.id (g.F.Folder.files c.args.folder.now) (g.F.Folder.files c.draw.new.folder) (g.F.Folder.folder_faults c.args.folder.now) (g.F.Folder.folder_faults c.draw.new.folder) c.args.hall.now c.draw.new.hall c.in-Held.ensures.drawn c.hold_back.new.hall (c.hold_back.ensures.keeps (sight c.in-Held.ensures.drawn.marked (g.J.Journal.notes c.args.journal.now) (g.F.Folder.files c.args.folder.now) (g.F.Folder.folder_faults c.args.folder.now)) (drawn_from g.J.Journal.tells_notes g.F.Folder.tells_files c.args.number c.args.place c.in-Held.id (g.F.Folder.files c.args.folder.now) (g.F.Folder.files c.draw.new.folder) (g.F.Folder.folder_faults c.args.folder.now) (g.F.Folder.folder_faults c.draw.new.folder) c.args.hall.now c.draw.new.hall c.in-Held.ensures.drawn (g.J.Journal.notes c.args.journal.now))),
-)
+pub returns-in-Ok : goal.returns-in-Ok
+returns-in-Ok g c = record {
+  rounds = (
+    held_round g.J.Journal.tells_notes g.F.Folder.tells_files c.args.number c.args.place c.in-Held.id (g.F.Folder.files c.args.folder.now) (g.F.Folder.files c.draw.new.folder) (g.F.Folder.folder_faults c.args.folder.now) (g.F.Folder.folder_faults c.draw.new.folder) c.args.hall.now c.draw.new.hall c.in-Held.ensures.drawn (g.J.Journal.notes c.args.journal.now) (sight c.hold_back.new.hall (g.J.Journal.notes c.hold_back.new.journal) (g.F.Folder.files c.hold_back.new.folder) (g.F.Folder.folder_faults c.hold_back.new.folder)) (c.in-Ok.ensures.moves (sight c.in-Held.ensures.drawn.marked (g.J.Journal.notes c.args.journal.now) (g.F.Folder.files c.args.folder.now) (g.F.Folder.folder_faults c.args.folder.now)) (drawn_from g.J.Journal.tells_notes g.F.Folder.tells_files c.args.number c.args.place c.in-Held.id (g.F.Folder.files c.args.folder.now) (g.F.Folder.files c.draw.new.folder) (g.F.Folder.folder_faults c.args.folder.now) (g.F.Folder.folder_faults c.draw.new.folder) c.args.hall.now c.draw.new.hall c.in-Held.ensures.drawn (g.J.Journal.notes c.args.journal.now)) (marked_running g.J.Journal.tells_notes g.F.Folder.tells_files c.args.number c.args.place c.in-Held.id (g.F.Folder.files c.args.folder.now) (g.F.Folder.files c.draw.new.folder) (g.F.Folder.folder_faults c.args.folder.now) (g.F.Folder.folder_faults c.draw.new.folder) c.args.hall.now c.draw.new.hall c.in-Held.ensures.drawn c.requires.running)),
+    held_keeps g.J.Journal.tells_notes g.F.Folder.tells_files c.args.number c.args.place c.in-Held.id (g.F.Folder.files c.args.folder.now) (g.F.Folder.files c.draw.new.folder) (g.F.Folder.folder_faults c.args.folder.now) (g.F.Folder.folder_faults c.draw.new.folder) c.args.hall.now c.draw.new.hall c.in-Held.ensures.drawn c.hold_back.new.hall (c.hold_back.ensures.keeps (sight c.in-Held.ensures.drawn.marked (g.J.Journal.notes c.args.journal.now) (g.F.Folder.files c.args.folder.now) (g.F.Folder.folder_faults c.args.folder.now)) (drawn_from g.J.Journal.tells_notes g.F.Folder.tells_files c.args.number c.args.place c.in-Held.id (g.F.Folder.files c.args.folder.now) (g.F.Folder.files c.draw.new.folder) (g.F.Folder.folder_faults c.args.folder.now) (g.F.Folder.folder_faults c.draw.new.folder) c.args.hall.now c.draw.new.hall c.in-Held.ensures.drawn (g.J.Journal.notes c.args.journal.now))),
+  );
+  sound = c.hold_back.ensures.sound (sight c.in-Held.ensures.drawn.marked (g.J.Journal.notes c.args.journal.now) (g.F.Folder.files c.args.folder.now) (g.F.Folder.folder_faults c.args.folder.now)) (drawn_from g.J.Journal.tells_notes g.F.Folder.tells_files c.args.number c.args.place c.in-Held.id (g.F.Folder.files c.args.folder.now) (g.F.Folder.files c.draw.new.folder) (g.F.Folder.folder_faults c.args.folder.now) (g.F.Folder.folder_faults c.draw.new.folder) c.args.hall.now c.draw.new.hall c.in-Held.ensures.drawn (g.J.Journal.notes c.args.journal.now));
+  files = c.hold_back.ensures.files (sight c.in-Held.ensures.drawn.marked (g.J.Journal.notes c.args.journal.now) (g.F.Folder.files c.args.folder.now) (g.F.Folder.folder_faults c.args.folder.now)) (drawn_from g.J.Journal.tells_notes g.F.Folder.tells_files c.args.number c.args.place c.in-Held.id (g.F.Folder.files c.args.folder.now) (g.F.Folder.files c.draw.new.folder) (g.F.Folder.folder_faults c.args.folder.now) (g.F.Folder.folder_faults c.draw.new.folder) c.args.hall.now c.draw.new.hall c.in-Held.ensures.drawn (g.J.Journal.notes c.args.journal.now));
+  calm = c.hold_back.ensures.calm;
+}
 
-pub returns-in-Err-clause-rounds : goal.returns-in-Err-clause-rounds
-returns-in-Err-clause-rounds g c =
-    held_wants g.J.Journal.tells_notes g.F.Folder.tells_files c.args.number c.args.place c.in-Held.id (g.F.Folder.files c.args.folder.now) (g.F.Folder.files c.draw.new.folder) (g.F.Folder.folder_faults c.args.folder.now) (g.F.Folder.folder_faults c.draw.new.folder) c.args.hall.now c.draw.new.hall c.in-Held.ensures.drawn (g.J.Journal.notes c.args.journal.now) c.hold_back.new.hall (g.J.Journal.notes c.hold_back.new.journal) (g.F.Folder.files c.hold_back.new.folder) (g.F.Folder.folder_faults c.hold_back.new.folder) c.requires.sound (c.hold_back.ensures.keeps (sight c.in-Held.ensures.drawn.marked (g.J.Journal.notes c.args.journal.now) (g.F.Folder.files c.args.folder.now) (g.F.Folder.folder_faults c.args.folder.now)) (drawn_from g.J.Journal.tells_notes g.F.Folder.tells_files c.args.number c.args.place c.in-Held.id (g.F.Folder.files c.args.folder.now) (g.F.Folder.files c.draw.new.folder) (g.F.Folder.folder_faults c.args.folder.now) (g.F.Folder.folder_faults c.draw.new.folder) c.args.hall.now c.draw.new.hall c.in-Held.ensures.drawn (g.J.Journal.notes c.args.journal.now))) (c.in-Err.ensures.rests (sight c.in-Held.ensures.drawn.marked (g.J.Journal.notes c.args.journal.now) (g.F.Folder.files c.args.folder.now) (g.F.Folder.folder_faults c.args.folder.now)) (drawn_from g.J.Journal.tells_notes g.F.Folder.tells_files c.args.number c.args.place c.in-Held.id (g.F.Folder.files c.args.folder.now) (g.F.Folder.files c.draw.new.folder) (g.F.Folder.folder_faults c.args.folder.now) (g.F.Folder.folder_faults c.draw.new.folder) c.args.hall.now c.draw.new.hall c.in-Held.ensures.drawn (g.J.Journal.notes c.args.journal.now)))
+pub returns-in-Err : goal.returns-in-Err
+returns-in-Err g c = record {
+  rounds = held_wants g.J.Journal.tells_notes g.F.Folder.tells_files c.args.number c.args.place c.in-Held.id (g.F.Folder.files c.args.folder.now) (g.F.Folder.files c.draw.new.folder) (g.F.Folder.folder_faults c.args.folder.now) (g.F.Folder.folder_faults c.draw.new.folder) c.args.hall.now c.draw.new.hall c.in-Held.ensures.drawn (g.J.Journal.notes c.args.journal.now) c.hold_back.new.hall (g.J.Journal.notes c.hold_back.new.journal) (g.F.Folder.files c.hold_back.new.folder) (g.F.Folder.folder_faults c.hold_back.new.folder) c.requires.sound (c.hold_back.ensures.keeps (sight c.in-Held.ensures.drawn.marked (g.J.Journal.notes c.args.journal.now) (g.F.Folder.files c.args.folder.now) (g.F.Folder.folder_faults c.args.folder.now)) (drawn_from g.J.Journal.tells_notes g.F.Folder.tells_files c.args.number c.args.place c.in-Held.id (g.F.Folder.files c.args.folder.now) (g.F.Folder.files c.draw.new.folder) (g.F.Folder.folder_faults c.args.folder.now) (g.F.Folder.folder_faults c.draw.new.folder) c.args.hall.now c.draw.new.hall c.in-Held.ensures.drawn (g.J.Journal.notes c.args.journal.now))) (c.in-Err.ensures.rests (sight c.in-Held.ensures.drawn.marked (g.J.Journal.notes c.args.journal.now) (g.F.Folder.files c.args.folder.now) (g.F.Folder.folder_faults c.args.folder.now)) (drawn_from g.J.Journal.tells_notes g.F.Folder.tells_files c.args.number c.args.place c.in-Held.id (g.F.Folder.files c.args.folder.now) (g.F.Folder.files c.draw.new.folder) (g.F.Folder.folder_faults c.args.folder.now) (g.F.Folder.folder_faults c.draw.new.folder) c.args.hall.now c.draw.new.hall c.in-Held.ensures.drawn (g.J.Journal.notes c.args.journal.now)));
+  sound = c.hold_back.ensures.sound (sight c.in-Held.ensures.drawn.marked (g.J.Journal.notes c.args.journal.now) (g.F.Folder.files c.args.folder.now) (g.F.Folder.folder_faults c.args.folder.now)) (drawn_from g.J.Journal.tells_notes g.F.Folder.tells_files c.args.number c.args.place c.in-Held.id (g.F.Folder.files c.args.folder.now) (g.F.Folder.files c.draw.new.folder) (g.F.Folder.folder_faults c.args.folder.now) (g.F.Folder.folder_faults c.draw.new.folder) c.args.hall.now c.draw.new.hall c.in-Held.ensures.drawn (g.J.Journal.notes c.args.journal.now));
+  files = c.hold_back.ensures.files (sight c.in-Held.ensures.drawn.marked (g.J.Journal.notes c.args.journal.now) (g.F.Folder.files c.args.folder.now) (g.F.Folder.folder_faults c.args.folder.now)) (drawn_from g.J.Journal.tells_notes g.F.Folder.tells_files c.args.number c.args.place c.in-Held.id (g.F.Folder.files c.args.folder.now) (g.F.Folder.files c.draw.new.folder) (g.F.Folder.folder_faults c.args.folder.now) (g.F.Folder.folder_faults c.draw.new.folder) c.args.hall.now c.draw.new.hall c.in-Held.ensures.drawn (g.J.Journal.notes c.args.journal.now));
+  calm = c.hold_back.ensures.calm;
+}
 
-pub returns-in-Ok-clause-sound : goal.returns-in-Ok-clause-sound
-returns-in-Ok-clause-sound g c = c.hold_back.ensures.sound (sight c.in-Held.ensures.drawn.marked (g.J.Journal.notes c.args.journal.now) (g.F.Folder.files c.args.folder.now) (g.F.Folder.folder_faults c.args.folder.now)) (drawn_from g.J.Journal.tells_notes g.F.Folder.tells_files c.args.number c.args.place c.in-Held.id (g.F.Folder.files c.args.folder.now) (g.F.Folder.files c.draw.new.folder) (g.F.Folder.folder_faults c.args.folder.now) (g.F.Folder.folder_faults c.draw.new.folder) c.args.hall.now c.draw.new.hall c.in-Held.ensures.drawn (g.J.Journal.notes c.args.journal.now))
+pub returns-in-NoCredit : goal.returns-in-NoCredit
+returns-in-NoCredit g c = record {
+  rounds = acts_no_credit g.J.Journal.tells_notes g.F.Folder.tells_files c.args.number c.args.place c.args.hall.now c.draw.new.hall (g.J.Journal.notes c.args.journal.now) (g.J.Journal.notes c.rest.new.journal) (g.F.Folder.files c.args.folder.now) (g.F.Folder.files c.draw.new.folder) (g.F.Folder.folder_faults c.args.folder.now) (g.F.Folder.folder_faults c.draw.new.folder) c.requires.sound c.requires.running c.requires.serves c.rest.result c.in-NoCredit.ensures.drawn (c.in-NoCredit.ensures.told tt) c.rest.ensures.noted;
+  sound = c.in-NoCredit.ensures.sound tt;
+  calm = c.rest.ensures.calm;
+  files = c.draw.ensures.files;
+}
 
-pub returns-in-Ok-clause-files : goal.returns-in-Ok-clause-files
-returns-in-Ok-clause-files g c = c.hold_back.ensures.files (sight c.in-Held.ensures.drawn.marked (g.J.Journal.notes c.args.journal.now) (g.F.Folder.files c.args.folder.now) (g.F.Folder.folder_faults c.args.folder.now)) (drawn_from g.J.Journal.tells_notes g.F.Folder.tells_files c.args.number c.args.place c.in-Held.id (g.F.Folder.files c.args.folder.now) (g.F.Folder.files c.draw.new.folder) (g.F.Folder.folder_faults c.args.folder.now) (g.F.Folder.folder_faults c.draw.new.folder) c.args.hall.now c.draw.new.hall c.in-Held.ensures.drawn (g.J.Journal.notes c.args.journal.now))
+pub returns-in-Paused : goal.returns-in-Paused
+returns-in-Paused g c = record {
+  rounds = acts_paused g.J.Journal.tells_notes g.F.Folder.tells_files c.args.number c.args.place c.args.hall.now c.draw.new.hall (g.J.Journal.notes c.args.journal.now) (g.J.Journal.notes c.rest-in-Paused.new.journal) (g.F.Folder.files c.args.folder.now) (g.F.Folder.files c.draw.new.folder) (g.F.Folder.folder_faults c.args.folder.now) (g.F.Folder.folder_faults c.draw.new.folder) c.requires.sound c.requires.running c.requires.serves c.rest-in-Paused.result c.in-Paused.ensures.drawn (c.in-Paused.ensures.told tt) c.rest-in-Paused.ensures.noted;
+  sound = c.in-Paused.ensures.sound tt;
+  calm = c.rest-in-Paused.ensures.calm;
+  files = c.draw.ensures.files;
+}
 
-pub returns-in-Err-clause-sound : goal.returns-in-Err-clause-sound
-returns-in-Err-clause-sound g c = c.hold_back.ensures.sound (sight c.in-Held.ensures.drawn.marked (g.J.Journal.notes c.args.journal.now) (g.F.Folder.files c.args.folder.now) (g.F.Folder.folder_faults c.args.folder.now)) (drawn_from g.J.Journal.tells_notes g.F.Folder.tells_files c.args.number c.args.place c.in-Held.id (g.F.Folder.files c.args.folder.now) (g.F.Folder.files c.draw.new.folder) (g.F.Folder.folder_faults c.args.folder.now) (g.F.Folder.folder_faults c.draw.new.folder) c.args.hall.now c.draw.new.hall c.in-Held.ensures.drawn (g.J.Journal.notes c.args.journal.now))
+pub returns-in-NoneQueued : goal.returns-in-NoneQueued
+returns-in-NoneQueued g c = record {
+  rounds = acts_none_queued g.J.Journal.tells_notes g.F.Folder.tells_files c.args.number c.args.place c.args.hall.now c.draw.new.hall (g.J.Journal.notes c.args.journal.now) (g.J.Journal.notes c.rest-in-NoneQueued.new.journal) (g.F.Folder.files c.args.folder.now) (g.F.Folder.files c.draw.new.folder) (g.F.Folder.folder_faults c.args.folder.now) (g.F.Folder.folder_faults c.draw.new.folder) c.requires.sound c.requires.running c.requires.serves c.rest-in-NoneQueued.result c.in-NoneQueued.ensures.drawn (c.in-NoneQueued.ensures.told tt) c.rest-in-NoneQueued.ensures.noted;
+  sound = c.in-NoneQueued.ensures.sound tt;
+  calm = c.rest-in-NoneQueued.ensures.calm;
+  files = c.draw.ensures.files;
+}
 
-pub returns-in-Err-clause-files : goal.returns-in-Err-clause-files
-returns-in-Err-clause-files g c = c.hold_back.ensures.files (sight c.in-Held.ensures.drawn.marked (g.J.Journal.notes c.args.journal.now) (g.F.Folder.files c.args.folder.now) (g.F.Folder.folder_faults c.args.folder.now)) (drawn_from g.J.Journal.tells_notes g.F.Folder.tells_files c.args.number c.args.place c.in-Held.id (g.F.Folder.files c.args.folder.now) (g.F.Folder.files c.draw.new.folder) (g.F.Folder.folder_faults c.args.folder.now) (g.F.Folder.folder_faults c.draw.new.folder) c.args.hall.now c.draw.new.hall c.in-Held.ensures.drawn (g.J.Journal.notes c.args.journal.now))
+pub returns-in-Fault : goal.returns-in-Fault
+returns-in-Fault g c = record {
+  rounds = acts_fault g.J.Journal.tells_notes g.F.Folder.tells_files c.args.number c.args.place c.args.hall.now c.draw.new.hall (g.J.Journal.notes c.args.journal.now) (g.J.Journal.notes c.stick.new.journal) (g.F.Folder.files c.args.folder.now) (g.F.Folder.files c.draw.new.folder) (g.F.Folder.folder_faults c.args.folder.now) (g.F.Folder.folder_faults c.draw.new.folder) c.requires.sound c.requires.running c.requires.serves c.stick.result c.in-Fault.ensures.drawn (c.in-Fault.ensures.told tt) c.in-Fault.ensures.fault c.stick.ensures.noted;
+  sound = c.in-Fault.ensures.sound tt;
+  calm = c.stick.ensures.calm;
+  files = c.draw.ensures.files;
+}
 
-pub returns-in-NoCredit-clause-rounds : goal.returns-in-NoCredit-clause-rounds
-returns-in-NoCredit-clause-rounds g c =
-    acts_no_credit g.J.Journal.tells_notes g.F.Folder.tells_files c.args.number c.args.place c.args.hall.now c.draw.new.hall (g.J.Journal.notes c.args.journal.now) (g.J.Journal.notes c.rest.new.journal) (g.F.Folder.files c.args.folder.now) (g.F.Folder.files c.draw.new.folder) (g.F.Folder.folder_faults c.args.folder.now) (g.F.Folder.folder_faults c.draw.new.folder) c.requires.sound c.requires.running c.requires.serves c.rest.result c.in-NoCredit.ensures.drawn (c.in-NoCredit.ensures.told tt) c.rest.ensures.noted
+pub returns-in-Damaged : goal.returns-in-Damaged
+returns-in-Damaged g c = record {
+  rounds = acts_damage g.J.Journal.tells_notes g.F.Folder.tells_files c.args.number c.args.place c.args.hall.now c.draw.new.hall (g.J.Journal.notes c.args.journal.now) (g.J.Journal.notes c.stick-in-Damaged.new.journal) (g.F.Folder.files c.args.folder.now) (g.F.Folder.files c.draw.new.folder) (g.F.Folder.folder_faults c.args.folder.now) (g.F.Folder.folder_faults c.draw.new.folder) c.requires.sound c.requires.running c.requires.serves c.stick-in-Damaged.result c.in-Damaged.ensures.drawn (c.in-Damaged.ensures.told tt) c.stick-in-Damaged.ensures.noted;
+  sound = c.in-Damaged.ensures.sound tt;
+  calm = c.stick-in-Damaged.ensures.calm;
+  files = c.draw.ensures.files;
+}
 
-pub returns-in-NoCredit-clause-sound : goal.returns-in-NoCredit-clause-sound
-returns-in-NoCredit-clause-sound g c = c.in-NoCredit.ensures.sound tt
-
-pub returns-in-Paused-clause-rounds : goal.returns-in-Paused-clause-rounds
-returns-in-Paused-clause-rounds g c =
-    acts_paused g.J.Journal.tells_notes g.F.Folder.tells_files c.args.number c.args.place c.args.hall.now c.draw.new.hall (g.J.Journal.notes c.args.journal.now) (g.J.Journal.notes c.rest-in-Paused.new.journal) (g.F.Folder.files c.args.folder.now) (g.F.Folder.files c.draw.new.folder) (g.F.Folder.folder_faults c.args.folder.now) (g.F.Folder.folder_faults c.draw.new.folder) c.requires.sound c.requires.running c.requires.serves c.rest-in-Paused.result c.in-Paused.ensures.drawn (c.in-Paused.ensures.told tt) c.rest-in-Paused.ensures.noted
-
-pub returns-in-Paused-clause-sound : goal.returns-in-Paused-clause-sound
-returns-in-Paused-clause-sound g c = c.in-Paused.ensures.sound tt
-
-pub returns-in-NoneQueued-clause-rounds : goal.returns-in-NoneQueued-clause-rounds
-returns-in-NoneQueued-clause-rounds g c =
-    acts_none_queued g.J.Journal.tells_notes g.F.Folder.tells_files c.args.number c.args.place c.args.hall.now c.draw.new.hall (g.J.Journal.notes c.args.journal.now) (g.J.Journal.notes c.rest-in-NoneQueued.new.journal) (g.F.Folder.files c.args.folder.now) (g.F.Folder.files c.draw.new.folder) (g.F.Folder.folder_faults c.args.folder.now) (g.F.Folder.folder_faults c.draw.new.folder) c.requires.sound c.requires.running c.requires.serves c.rest-in-NoneQueued.result c.in-NoneQueued.ensures.drawn (c.in-NoneQueued.ensures.told tt) c.rest-in-NoneQueued.ensures.noted
-
-pub returns-in-NoneQueued-clause-sound : goal.returns-in-NoneQueued-clause-sound
-returns-in-NoneQueued-clause-sound g c = c.in-NoneQueued.ensures.sound tt
-
-pub returns-in-Fault-clause-rounds : goal.returns-in-Fault-clause-rounds
-returns-in-Fault-clause-rounds g c =
-    acts_fault g.J.Journal.tells_notes g.F.Folder.tells_files c.args.number c.args.place c.args.hall.now c.draw.new.hall (g.J.Journal.notes c.args.journal.now) (g.J.Journal.notes c.stick.new.journal) (g.F.Folder.files c.args.folder.now) (g.F.Folder.files c.draw.new.folder) (g.F.Folder.folder_faults c.args.folder.now) (g.F.Folder.folder_faults c.draw.new.folder) c.requires.sound c.requires.running c.requires.serves c.stick.result c.in-Fault.ensures.drawn (c.in-Fault.ensures.told tt) c.in-Fault.ensures.fault c.stick.ensures.noted
-
-pub returns-in-Fault-clause-sound : goal.returns-in-Fault-clause-sound
-returns-in-Fault-clause-sound g c = c.in-Fault.ensures.sound tt
-
-pub returns-in-Damaged-clause-rounds : goal.returns-in-Damaged-clause-rounds
-returns-in-Damaged-clause-rounds g c =
-    acts_damage g.J.Journal.tells_notes g.F.Folder.tells_files c.args.number c.args.place c.args.hall.now c.draw.new.hall (g.J.Journal.notes c.args.journal.now) (g.J.Journal.notes c.stick-in-Damaged.new.journal) (g.F.Folder.files c.args.folder.now) (g.F.Folder.files c.draw.new.folder) (g.F.Folder.folder_faults c.args.folder.now) (g.F.Folder.folder_faults c.draw.new.folder) c.requires.sound c.requires.running c.requires.serves c.stick-in-Damaged.result c.in-Damaged.ensures.drawn (c.in-Damaged.ensures.told tt) c.stick-in-Damaged.ensures.noted
-
-pub returns-in-Damaged-clause-sound : goal.returns-in-Damaged-clause-sound
-returns-in-Damaged-clause-sound g c = c.in-Damaged.ensures.sound tt
-
-pub returns-in-Memory-clause-rounds : goal.returns-in-Memory-clause-rounds
-returns-in-Memory-clause-rounds g c =
-    acts_wants g.J.Journal.tells_notes g.F.Folder.tells_files c.args.number c.args.place c.args.hall.now c.draw.new.hall (g.J.Journal.notes c.args.journal.now) (g.J.Journal.notes c.args.journal.now) (g.F.Folder.files c.args.folder.now) (g.F.Folder.files c.draw.new.folder) (g.F.Folder.folder_faults c.args.folder.now) (g.F.Folder.folder_faults c.draw.new.folder) c.requires.sound c.requires.running c.requires.serves c.in-Memory.ensures.drawn (c.in-Memory.ensures.told tt) (λ told. refl)
-
-pub returns-in-Memory-clause-sound : goal.returns-in-Memory-clause-sound
-returns-in-Memory-clause-sound g c = c.in-Memory.ensures.sound tt
+pub returns-in-Memory : goal.returns-in-Memory
+returns-in-Memory g c = record {
+  rounds = acts_wants g.J.Journal.tells_notes g.F.Folder.tells_files c.args.number c.args.place c.args.hall.now c.draw.new.hall (g.J.Journal.notes c.args.journal.now) (g.J.Journal.notes c.args.journal.now) (g.F.Folder.files c.args.folder.now) (g.F.Folder.files c.draw.new.folder) (g.F.Folder.folder_faults c.args.folder.now) (g.F.Folder.folder_faults c.draw.new.folder) c.requires.sound c.requires.running c.requires.serves c.in-Memory.ensures.drawn (c.in-Memory.ensures.told tt) (λ told. refl);
+  sound = c.in-Memory.ensures.sound tt;
+  calm = c.requires.calm;
+  files = c.draw.ensures.files;
+}
 
 pub stick-requires-clause-room : goal.stick-requires-clause-room
 stick-requires-clause-room g c = room_behind g.F.Folder.tells_files c.args.number c.args.place next.Fault (g.F.Folder.files c.args.folder.now) (g.F.Folder.files c.draw.new.folder) (g.F.Folder.folder_faults c.args.folder.now) (g.F.Folder.folder_faults c.draw.new.folder) c.args.hall.now c.draw.new.hall c.in-Fault.ensures.drawn
@@ -133,3 +135,21 @@ stick-requires-in-Damaged-clause-room g c = room_behind g.F.Folder.tells_files c
 
 pub stick-requires-in-Damaged-clause-stall : goal.stick-requires-in-Damaged-clause-stall
 stick-requires-in-Damaged-clause-stall g c = stall_behind g.F.Folder.tells_files c.args.number c.args.place next.Damaged (g.F.Folder.files c.args.folder.now) (g.F.Folder.files c.draw.new.folder) (g.F.Folder.folder_faults c.args.folder.now) (g.F.Folder.folder_faults c.draw.new.folder) c.args.hall.now c.draw.new.hall c.in-Damaged.ensures.drawn
+
+pub draw-requires-clause-sound : goal.draw-requires-clause-sound
+draw-requires-clause-sound g c = c.requires.sound
+
+pub draw-requires-clause-scratch : goal.draw-requires-clause-scratch
+draw-requires-clause-scratch g c = c.requires.scratch
+
+pub send-requires-clause-calm : goal.send-requires-clause-calm
+send-requires-clause-calm g c = c.requires.calm
+
+pub hold_back-requires-clause-calm : goal.hold_back-requires-clause-calm
+hold_back-requires-clause-calm g c = c.requires.calm
+
+pub stick-requires-clause-calm : goal.stick-requires-clause-calm
+stick-requires-clause-calm g c = c.requires.calm
+
+pub stick-requires-in-Damaged-clause-calm : goal.stick-requires-in-Damaged-clause-calm
+stick-requires-in-Damaged-clause-calm g c = c.requires.calm

@@ -1,6 +1,6 @@
 use Rattle.std.proofs.Common.{◌≡◌, false, sym, ap, subst, arith}
 use Rattle.floor_rooms.specs.declared.hall.Hall.{Hall}
-use Rattle.floor_payments.proofs.Keeping.{keeps_on, keeps_quiet}
+use Rattle.floor_moves.proofs.Keeping.{keeps_on, keeps_quiet}
 use Rattle.floor_turns.proofs.Owing.{moved_on, next_on}
 use Rattle.floor_turns.proofs.paying.next_move.Goals as goal
 

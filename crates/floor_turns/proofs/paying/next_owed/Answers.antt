@@ -1,7 +1,7 @@
 use Rattle.std.proofs.Common.{◌<◌, ◌∙◌, length, arith}
 use Rattle.broker_history.specs.declared.entry.Act.TheVariants.{Copied}
-use Rattle.floor_payments.proofs.Keeping.{keeps_on}
-use Rattle.floor_payments.specs.Taking.{taking}
+use Rattle.floor_moves.proofs.Keeping.{keeps_on}
+use Rattle.floor_moves.specs.Taking.{taking}
 use Rattle.floor_turns.proofs.Owing.{moved_on, none_next, owes_at, place_within, takes_at}
 use Rattle.floor_turns.proofs.paying.next_owed.Goals as goal
 

@@ -1,6 +1,6 @@
 use Rattle.std.proofs.Common.{◌∙◌, arith}
-use Rattle.floor_payments.specs.Moves.{sight}
-use Rattle.floor_payments.proofs.Keeping.{keeps_on}
+use Rattle.floor_moves.specs.Moves.{sight}
+use Rattle.floor_moves.proofs.Keeping.{keeps_on}
 use Rattle.floor_turns.proofs.Owing.{pays_none, pays_one, pays_clear, pays_most, pays_wants, pays_stuck}
 use Rattle.floor_turns.proofs.paying.pay.Goals as goal
 

@@ -1,5 +1,5 @@
 use Rattle.std.proofs.Common.{◌≡◌, false}
-use Rattle.floor_payments.specs.Moves.{sight}
+use Rattle.floor_moves.specs.Moves.{sight}
 use Rattle.floor_turns.proofs.Owing.{PaysSoFar}
 use Rattle.floor_turns.proofs.paying.pay.Given as goal
 

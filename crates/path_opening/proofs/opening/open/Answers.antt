@@ -2,7 +2,7 @@ use Rattle.std.proofs.Common.{◌≡◌, ◌∙◌, ◌+◌, ◌≤◌, ap, arit
 use Rattle.std.specs.Prelude.{IsTrue}
 use Rattle.path_image.specs.Data.{Kept}
 use Rattle.names_file.specs.Kept.{CanKeepAll}
-use Rattle.names_file.specs.Durable.{AreDurable}
+use Rattle.names_reading.specs.Durable.{AreDurable}
 use Rattle.broker_history.specs.Found.{start}
 use Rattle.floor_rooms.specs.Standing.{HoldsFor}
 use Rattle.broker_floor.specs.Floors.{faults_of, files_of, hall_of, held_of}

@@ -1,7 +1,8 @@
 //! Whether a row holds.
 
 use crate::same;
-use names_file::{KeptChannel, KeptTopic, ListedNames, Unread, read_names, write_names};
+use names_file::{KeptChannel, KeptTopic, write_names};
+use names_reading::{ListedNames, Unread, read_names};
 use std::alloc::Global;
 use std::process::Abort;
 

@@ -5,7 +5,7 @@ use Rattle.v2_frame.specs.declared.message.Message.{Message}
 use Rattle.backlog.specs.Seen.{FitsLimit}
 use Rattle.broker_history.specs.Channels.{AsOften}
 use Rattle.channel_copies.specs.Flights.{Flying, WentBack, CostsCalls, flights_of_id}
-use Rattle.channel_copies.specs.Putting.{around}
+use Rattle.backlog_writing.specs.Putting.{around}
 use Rattle.channel_copies.proofs.Heaps.{one_of_two, two_calls, fewer, taken_by}
 use Rattle.channel_copies.specs.Index.{items_of}
 use Rattle.channel_copies.proofs.Counts.{on_present}
@@ -25,7 +25,7 @@ put_back-requires-clause-short g c = (fit_taken c.remove-message.ensures.one.1 c
 
 pub invariant_of-self : goal.invariant_of-self
 invariant_of-self g c =
-    record { indexed = taken_by_key c.args.id c.remove-message.ensures.one.1 c.remove-message.ensures.item c.remove-message.ensures.others c.self.invariant.indexed (sym c.get.ensures.value ∙ ap option_copied c.unwrap-key.ensures) c.remove.ensures.updates.0; counted = counts_less _ c.remove-message.ensures.one.1 c.self.invariant.counted c.count_down.ensures.counts }
+    record { indexed = taken_by_key c.args.id c.remove-message.ensures.one.1 c.remove-message.ensures.item c.remove-message.ensures.others c.self.invariant.indexed (sym c.get.ensures.value ∙ ap option_copied c.unwrap-key.ensures) c.forget.ensures; counted = counts_less _ c.remove-message.ensures.one.1 c.self.invariant.counted c.count_down.ensures.counts }
 
 pub invariant_of-self-in-Fault : goal.invariant_of-self-in-Fault
 invariant_of-self-in-Fault g c =

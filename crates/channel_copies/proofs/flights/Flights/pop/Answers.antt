@@ -10,7 +10,7 @@ returns-in_default-clause-none g c = ap (λ (v : Flying). v.flights) (sym c.self
 
 pub invariant_of-self : goal.invariant_of-self
 invariant_of-self g c =
-    record { indexed = taken_by_id c.remove-flight.ensures.one.1 c.remove-flight.ensures.item c.remove-flight.ensures.others c.self.invariant.indexed c.remove.ensures.updates.0; counted = counts_less _ c.remove-flight.ensures.one.1 c.self.invariant.counted c.count_down.ensures.counts }
+    record { indexed = taken_by_id c.remove-flight.ensures.one.1 c.remove-flight.ensures.item c.remove-flight.ensures.others c.self.invariant.indexed c.forget.ensures; counted = counts_less _ c.remove-flight.ensures.one.1 c.self.invariant.counted c.count_down.ensures.counts }
 
 pub returns-clause-short : goal.returns-clause-short
 returns-clause-short g c = (fit_taken c.remove-flight.ensures.one.1 c.self.invariant.indexed).short

@@ -14,3 +14,6 @@ returns-then-self-len-clause-coming c = λ _ n. ap (reading_at c.args.self.now.r
 pub returns-else-self-len-clause-coming : goal.returns-else-self-len-clause-coming
 returns-else-self-len-clause-coming c = λ _ n.
     ap (λ (k : ℕ). unwrap_or (slice_get c.args.self.now.readings.items k) 0) (stays (length c.args.self.now.readings.items - 1) c.args.self.now.at n (omega arith))
+
+pub invariant_of-self : goal.invariant_of-self
+invariant_of-self c = record { in_range = omega (arith, c.if-self-len.true, c.args.self.now.readings.ok.0) }

@@ -104,3 +104,12 @@ returns-clause-calls g c = (c.next_fails.ensures.counted, λ failing. absurd (fa
 
 pub returns-clause-all : goal.returns-clause-all
 returns-clause-all g c = refl
+
+pub invariant_of-self : goal.invariant_of-self
+invariant_of-self g c = record { at_end = c.args.self.now.at_end }
+
+pub invariant_of-self-then-is_err : goal.invariant_of-self-then-is_err
+invariant_of-self-then-is_err g c = record { at_end = c.args.self.now.at_end }
+
+pub invariant_of-self-else-is_err : goal.invariant_of-self-else-is_err
+invariant_of-self-else-is_err g c = record { at_end = c.args.self.now.at_end }

@@ -1,10 +1,12 @@
-use Rattle.std.proofs.Common.{◌≤◌, ◌++◌, ◌∷◌, [], ℕ, List, true, length, take, refl, ap, sym, ◌∙◌, subst, inl, inr, rules, arith}
+use Rattle.std.proofs.Common.{◌≡◌, ◌-◌, ◌≤◌, ◌++◌, ◌∷◌, [], ℕ, List, true, length, take, refl, ap, sym, ◌∙◌, subst, inl, inr, rules, arith}
 use Rattle.std.proofs.lemmas.Bool.{false≢true, eqb-true}
-use Rattle.std.proofs.lemmas.List.{nil_from_length}
+use Rattle.std.proofs.lemmas.List.{nil_from_length, length-drop}
 use Rattle.std.proofs.Math.Nat.{le_of_eq}
 use Rattle.nsq_outside.specs.Causes.{Rose, CountsFault}
 use Rattle.nsq_fakes.specs.MemConns.{pieces_of}
+use Rattle.nsq_fakes.specs.Pieces.{front_bytes}
 use Rattle.nsq_fakes.specs.Scripts.{to_come, rest_of}
+use Rattle.nsq_fakes.proofs.Callers.{some_there}
 use Rattle.nsq_fakes.proofs.PassedBytes.{piece_read, rest_kept}
 use Rattle.nsq_fakes.proofs.Results.{from_ok}
 use Rattle.nsq_fakes.proofs.conn.MemConnSource.read.Goals as goal
@@ -128,3 +130,12 @@ invariant_of-self-then-is_err g c = record { at_end = c.args.self.now.at_end }
 
 pub invariant_of-self-2 : goal.invariant_of-self-2
 invariant_of-self-2 g c = record { at_end = λ ended. absurd (false≢true (sym c.if-self.false ∙ ended)) }
+
+pub pass-requires-clause-some : goal.pass-requires-clause-some
+pass-requires-clause-some g c = omega (arith, c.min-count.ensures, c.requires, some_there c.in-Some.rest.now _ refl c.if-is_empty.ensures)
+
+pub pass-requires-clause-there : goal.pass-requires-clause-there
+pass-requires-clause-there g c =
+    let script = c.args.self.now.script in
+    let behind : length c.in-Some.rest.now ≡ length (front_bytes script.pieces.items) - script.offset = ap length c.in-Some.ensures.rest ∙ length-drop script.offset (front_bytes script.pieces.items) in
+    omega (arith, c.min-count.ensures, behind, some_there c.in-Some.rest.now _ refl c.if-is_empty.ensures)

@@ -56,12 +56,12 @@ returns-in_default g c =
 
 pub invariant_of-self-in-Got : goal.invariant_of-self-in-Got
 invariant_of-self-in-Got g c =
-    drawn_sound c.draw.new.self c.in-Got.message c.args.channels.now c.extend_from_slice.new.self.items c.self.invariant c.draw.ensures.queue c.in-Got.ensures.short
-    (owed_now c.self.inside.head c.self.inside.owed.items c.reserve.new.self.items c.args.channels.now _ (ap (λ (q : Seen). q.head) c.self.view_is ∙ c.requires.none) c.self.invariant.owes.none c.reserve.ensures.items c.in-Ok-extend_from_slice.ensures.items)
+    drawn_sound c.draw.new.self c.in-Got.message c.args.channels.now c.owe_to_all.new.owed.items c.self.invariant c.draw.ensures.queue c.in-Got.ensures.short
+    (owed_now c.self.inside.head c.self.inside.owed.items c.reserve.new.self.items c.args.channels.now _ (ap (λ (q : Seen). q.head) c.self.view_is ∙ c.requires.none) c.self.invariant.owes.none c.reserve.ensures.items c.owe_to_all.ensures)
     c.requires.channels
 
-pub returns-in-Ok-extend_from_slice : goal.returns-in-Ok-extend_from_slice
-returns-in-Ok-extend_from_slice g c =
+pub returns-in-Got : goal.returns-in-Got
+returns-in-Got g c =
     let inside = c.self.inside in
     let old = c.args.self.now in
     let b = c.draw.new.self in
@@ -70,8 +70,8 @@ returns-in-Ok-extend_from_slice g c =
     let before = g.F.Folder.files c.args.folder.now in
     let after = g.F.Folder.files c.draw.new.folder in
     let view = c.self.view_is in
-    let owed = owed_now inside.head inside.owed.items c.reserve.new.self.items channels _ (ap (λ (q : Seen). q.head) view ∙ c.requires.none) c.self.invariant.owes.none c.reserve.ensures.items c.in-Ok-extend_from_slice.ensures.items in
-    let is = headed inside.name inside.paused inside.message_count inside.backlog b inside.head inside.owed.items m c.extend_from_slice.new.self.items channels old view owed in
+    let owed = owed_now inside.head inside.owed.items c.reserve.new.self.items channels _ (ap (λ (q : Seen). q.head) view ∙ c.requires.none) c.self.invariant.owes.none c.reserve.ensures.items c.owe_to_all.ensures in
+    let is = headed inside.name inside.paused inside.message_count inside.backlog b inside.head inside.owed.items m c.owe_to_all.new.owed.items channels old view owed in
     record {
       drawn = c.in-Got.ensures.lent;
       queue = subst (λ (q : Seen). SameQueue q.backlog.queue b.queue) view c.draw.ensures.queue;

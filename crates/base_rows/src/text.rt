@@ -1,0 +1,55 @@
+//! Tables as one text: each row ends with `~`, and its fields stand between `|`. A word that isn't known stops the run, or is no answer.
+
+use crate::{check, same};
+use std::alloc::Global;
+use std::process::Abort;
+
+/// What stands before the first such byte, and what stands behind it.
+pub(crate) fn cut(text: &'static [u8], end: u8) -> (&'static [u8], &'static [u8]) {
+    for (place, byte) in text.iter().enumerate() {
+        if *byte == end {
+            let (front, _) = text.split_at(place.min(text.len()));
+            let (_, behind) = text.split_at(place.saturating_add(1).min(text.len()));
+            return (front, behind);
+        }
+    }
+    (text, b"")
+}
+
+/// The pieces between such bytes that aren't empty.
+pub(crate) fn rows_of(
+    rt: &impl Abort,
+    alloc: Global,
+    text: &'static [u8],
+    end: u8,
+) -> Vec<&'static [u8]> {
+    let mut rows = Vec::new(alloc);
+    for row in text.split(|byte| *byte == end) {
+        if !row.is_empty() {
+            rows.push(row).expect(rt, "memory");
+        }
+    }
+    rows
+}
+
+/// Bytes in UTF-8 as a text.
+pub(crate) fn text_of(rt: &impl Abort, bytes: &'static [u8]) -> &'static str {
+    str::from_utf8(bytes).expect(rt, "a text")
+}
+
+/// The number of these digits.
+pub(crate) fn number_of(rt: &impl Abort, digits: &'static [u8]) -> u64 {
+    text_of(rt, digits).parse::<u64>().expect(rt, "a number")
+}
+
+/// Whether a word is the first of two; it is one of them.
+pub(crate) fn is_first(rt: &impl Abort, word: &[u8], first: &[u8], second: &[u8]) -> bool {
+    let is_first = same(word, first);
+    check(rt, is_first || same(word, second), "a word of a row");
+    is_first
+}
+
+/// Ends the run where a row doesn't hold, and names it.
+pub(crate) fn check_row(rt: &impl Abort, holds: bool, name: &'static [u8]) {
+    check(rt, holds, text_of(rt, name));
+}

@@ -1,0 +1,5 @@
+pub mod Others
+pub mod Exchanges
+pub mod Handing
+pub mod Halting
+pub mod Staying

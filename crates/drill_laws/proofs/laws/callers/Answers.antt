@@ -1,5 +1,0 @@
-use Rattle.drill_laws.proofs.Talking.{gives_all, gives_commands, talk_talks}
-use Rattle.drill_laws.proofs.laws.callers.Goals as goal
-
-pub returns : goal.returns
-returns c = record { talking = talk_talks; in_order = gives_commands; all = gives_all }

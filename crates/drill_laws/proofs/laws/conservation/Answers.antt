@@ -1,5 +1,0 @@
-use Rattle.drill_laws.proofs.Conserved.{conserved, ones_stay}
-use Rattle.drill_laws.proofs.laws.conservation.Goals as goal
-
-pub returns : goal.returns
-returns c = record { sum = conserved; ones = ones_stay }

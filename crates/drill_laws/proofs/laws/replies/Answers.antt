@@ -1,5 +1,0 @@
-use Rattle.drill_laws.proofs.Replying.{replied, stays}
-use Rattle.drill_laws.proofs.laws.replies.Goals as goal
-
-pub returns : goal.returns
-returns c = record { commands = replied; stay = stays }

@@ -1,0 +1,11 @@
+pub mod Counts
+pub mod Conserving
+pub mod Talking
+pub mod Replying
+pub mod Staying
+pub mod Publishing
+pub mod Draws
+pub mod Callers
+pub mod Counting
+pub mod Left
+pub mod Hosts

@@ -1,0 +1,4 @@
+pub mod Keepable
+pub mod Listing
+pub mod Putting
+pub mod Sorting

@@ -3,8 +3,10 @@ ghost use Rattle.std.specs.Prelude.{◌↔◌, ◌+◌, ◌≤◌, ◌^◌, IsTr
 use crate::moves::{at_channel, one_made, room_of, same, standing};
 use broker_changes::channels::{counted, finishes, gives_back, sends, touches};
 use broker_changes::state::{made_channel, published};
-use broker_plain::{Identity, Phase, are_left, identity_of};
-use broker_state::{ChannelState, Client, Route, State, TopicState, copy_route};
+use broker_state::{
+    ChannelState, Client, Identity, Phase, Route, State, TopicState, are_left, copy_route,
+    identity_of,
+};
 use nsq_base::{Body, Chan, Memory, MsgId, Topic};
 use std::alloc::Global;
 use v2_frame::{Command, Message};

@@ -3,8 +3,7 @@ ghost use Rattle.std.specs.Prelude.{◌≤◌, ◌+◌, ◌^◌, length};
 use crate::channels::empty;
 use crate::rows::{if_done, remove_at};
 use crate::topics::{Publishing, channel_names, owe_no_more, put_bodies};
-use broker_plain::Phase;
-use broker_state::{ChannelState, Client, Route, State, TopicState, copy_route};
+use broker_state::{ChannelState, Client, Phase, Route, State, TopicState, copy_route};
 use nsq_base::{Body, Chan, Memory, Topic};
 use std::alloc::Global;
 

@@ -5,7 +5,7 @@
 
 use crate::made::{channel, copy, is, moment, number, put, topic, unknown, words};
 use broker_history::{Ask, Said};
-use broker_plain::Phase;
+use broker_state::Phase;
 use nsq_base::{Bodies, Body, Chan, MsgId};
 use std::alloc::Global;
 use std::process::Abort;

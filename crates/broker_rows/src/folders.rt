@@ -6,7 +6,7 @@ use crate::state::given::{Sent, sent_of};
 use broker_files::{Finding, FoundNames, found, start};
 use broker_state::State;
 use nsq_base::{Body, MsgId, Options};
-use queue_plain::NamedFile;
+use path_plain::NamedFile;
 use std::alloc::Global;
 use std::process::Abort;
 

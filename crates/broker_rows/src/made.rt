@@ -5,7 +5,7 @@ use broker_history::Entry;
 use broker_state::State;
 use nsq_base::{Body, Chan, Topic};
 use nsq_outside::End;
-use queue_plain::NamedFile;
+use path_plain::NamedFile;
 use std::alloc::Global;
 use std::process::Abort;
 

@@ -5,7 +5,7 @@
 
 use crate::commands::{command_of, kind_of, phase_of};
 use crate::made::{check, copy, cut, halves, part, same, used_of};
-use broker_plain::{Phase, reply};
+use broker_state::{Phase, reply};
 use nsq_base::Options;
 use std::alloc::Global;
 use std::process::Abort;

@@ -1,2 +1,3 @@
-pub mod Order
+pub mod Identifying
 pub mod Lists
+pub mod Order

@@ -1,10 +1,10 @@
 ghost use Rattle.std.specs.Prelude.{◌≡◌, ◌==◌, IfOk};
 ghost use Rattle.broker_history.specs.State.{has_channel, is_on};
 
+use crate::Phase;
 use crate::growing::Copied;
 use crate::in_order::Ordered;
 use crate::texts::same;
-use broker_plain::Phase;
 use nsq_base::{Body, Chan, Memory, Topic};
 use std::alloc::Global;
 use std::marker::Model;
@@ -61,7 +61,7 @@ pub struct Client {
 
 impl Model for Client {
     ghost use Rattle.broker_history.specs.State.{Client};
-    ghost use Rattle.broker_plain.specs.Phases.{phase_of};
+    ghost use Rattle.broker_state.specs.Phases.{phase_of};
 
     ghost Value = { Client };
 

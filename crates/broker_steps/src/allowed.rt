@@ -3,8 +3,9 @@ use crate::may_say;
 use broker_acts::{moved, says_done};
 use broker_changes::topics::{is_topic_at, takes};
 use broker_history::{Act, Ask, Entry, Said};
-use broker_plain::{reply, same_reply};
-use broker_state::{ChannelState, Client, State, TopicState, flying_of, flying_with};
+use broker_state::{
+    ChannelState, Client, State, TopicState, flying_of, flying_with, reply, same_reply,
+};
 use nsq_base::{Chan, Memory, MsgId, Names, Topic};
 use nsq_outside::End;
 use std::alloc::Global;

@@ -1,6 +1,5 @@
 use broker_changes::channels::{can_send, has_credit};
-use broker_plain::Phase;
-use broker_state::{ChannelState, Client, State};
+use broker_state::{ChannelState, Client, Phase, State};
 
 // Whether so many spans of time passed since a moment.
 fn have_passed(since: u64, span: u64, times: u64, at: u64) -> bool {

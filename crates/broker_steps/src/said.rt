@@ -1,7 +1,6 @@
 use crate::stats::tells;
 use broker_history::{Ask, Said};
-use broker_plain::are_left;
-use broker_state::{State, TopicState};
+use broker_state::{State, TopicState, are_left};
 use nsq_base::{Chan, Topic};
 
 // What is said to what is asked, but for statistics.

@@ -1,12 +1,23 @@
 -- How many items of a list pass a test, as one comes or goes.
-use Rattle.std.proofs.Common.{◌≡◌, ◌+◌, ◌≤◌, Bool, true, false, ◌&&◌, List, [], ◌∷◌, ◌++◌, length, Result, Ok, Err, IsOk, OnOk, OnErr, Option, None, Some, IfNone, refl, sym, ap, subst, arith}
+use Rattle.std.proofs.Common.{◌≡◌, ◌+◌, ◌≤◌, Bool, true, false, ◌&&◌, List, [], ◌∷◌, ◌++◌, map, length, Result, Ok, Err, IsOk, OnOk, OnErr, Option, None, Some, IfNone, refl, sym, ap, ◌∙◌, subst, arith}
 use Rattle.std.specs.List.{All, count_by}
+use Rattle.std.proofs.lemmas.List.Sums.{sum_by-append}
 use Rattle.std.proofs.lemmas.List.Elements.{All-nil, All-cons, All-head, All-tail, All-append}
 use Rattle.std.proofs.lemmas.Bool.{false≢true}
+use Rattle.std.proofs.lemmas.Grind.{common_steps}
 use Rattle.due_heap.specs.Heap.{Entry, TakesOut}
 use Rattle.broker_history.specs.Channels.{one, AsOften}
 use Rattle.channel_copies.specs.Flights.{Leaves}
-pub use Rattle.backlog_writing.proofs.Counting.{count-cons, count-append, count-map}
+
+pub count-cons : {X : Type 0} (p : X → Bool) (x : X) (xs : List X) → count_by p (x ∷ xs) ≡ one (p x) + count_by p xs
+count-cons p x xs = grind (arith, common_steps)
+
+pub count-append : {X : Type 0} (p : X → Bool) (xs ys : List X) → count_by p (xs ++ ys) ≡ count_by p xs + count_by p ys
+count-append p xs ys = sum_by-append _ xs ys
+
+pub count-map : {X Y : Type 0} (p : Y → Bool) (f : X → Y) (xs : List X) → count_by p (map f xs) ≡ count_by (λ x. p (f x)) xs
+count-map p f [] = refl
+count-map p f (x ∷ xs) = count-cons p (f x) (map f xs) ∙ (ap (λ n. one (p (f x)) + n) (count-map p f xs) ∙ sym (count-cons (λ y. p (f y)) x xs))
 
 pub count-out : {T : Type 0} (p : Entry T → Bool) {e : Entry T} {old new : List (Entry T)} → TakesOut e old new → count_by p old ≡ count_by p new + one (p e)
 count-out p {e} t = omega (arith, ap (count_by p) t.was, ap (count_by p) t.is, count-append p t.before (e ∷ t.after), count-append p t.before t.after, count-cons p e t.after)

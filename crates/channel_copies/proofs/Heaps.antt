@@ -6,7 +6,7 @@ use Rattle.due_heap.specs.Heap.{Entry, FewSteps, TakesFirst, TakesOut, entry_of,
 use Rattle.v2_frame.specs.declared.message.Message.{Message}
 use Rattle.backlog.specs.declared.answers.PutOne.{PutOne}
 use Rattle.backlog.specs.declared.answers.PutOne.TheVariants.{Kept, Dropped, Spilled}
-use Rattle.backlog_writing.specs.Putting.{IsTaken}
+use Rattle.channel_copies.specs.Putting.{IsTaken}
 use Rattle.backlog.specs.Seen.{FitsLimit}
 use Rattle.broker_history.specs.Channels.{one, AsOften}
 use Rattle.channel_copies.specs.declared.flight.Flight.{Flight}

@@ -7,7 +7,7 @@ use Rattle.backlog.specs.declared.answers.PutOne.{PutOne}
 use Rattle.backlog.specs.declared.answers.PutOne.TheVariants.{Fault as Refused}
 use Rattle.due_heap.specs.Heap.{Entry}
 use Rattle.channel_copies.specs.Flights.{Leaves, soonest, due_by}
-use Rattle.backlog_writing.specs.Putting.{Around, Puts, IsTaken}
+use Rattle.channel_copies.specs.Putting.{Around, Puts, IsTaken}
 use Rattle.channel_copies.specs.declared.putting.Back.{Back}
 use Rattle.channel_copies.specs.declared.putting.Back.TheVariants.{Done, Fault}
 

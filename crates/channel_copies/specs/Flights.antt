@@ -5,7 +5,7 @@ use Rattle.v2_frame.specs.declared.message.Message.{Message}
 use Rattle.broker_history.specs.Channels.{one, AsOften}
 use Rattle.backlog.specs.declared.answers.PutOne.{PutOne}
 use Rattle.backlog.specs.declared.answers.PutOne.TheVariants.{Fault as Refused}
-use Rattle.backlog_writing.specs.Putting.{Around, Puts, IsTaken}
+use Rattle.channel_copies.specs.Putting.{Around, Puts, IsTaken}
 use Rattle.channel_copies.specs.declared.flight.Flight.{Flight}
 use Rattle.channel_copies.specs.declared.putting.Back.{Back}
 use Rattle.channel_copies.specs.declared.putting.Back.TheVariants.{Done, Fault}

@@ -3,11 +3,10 @@ ghost use Rattle.backlog.specs.declared.backlog.Lent.TheVariants.{Nothing};
 ghost use Rattle.backlog.specs.Seen.{FitsLimit};
 ghost use Rattle.channel_copies.specs.Flights.{CostsCalls, Leaves};
 ghost use Rattle.channel_copies.specs.Deferred.{Waiting, MovesFirst, RoomAfter, first_waiting, soonest_waiting};
-ghost use Rattle.backlog_writing.specs.Putting.{around};
+ghost use Rattle.channel_copies.specs.Putting.{around};
 
-use crate::putting::Back;
+use crate::putting::{Back, put_back};
 use backlog::{Backlog, PutOne};
-use backlog_writing::put_back;
 use due_heap::DueHeap;
 use nsq_base::{Memory, Steps};
 use nsq_outside::Folder;

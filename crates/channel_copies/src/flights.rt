@@ -3,13 +3,12 @@ ghost use Rattle.std.specs.Bool.{MatchBool};
 ghost use Rattle.backlog.specs.declared.backlog.Lent.TheVariants.{Nothing};
 ghost use Rattle.backlog.specs.Seen.{FitsLimit};
 ghost use Rattle.channel_copies.specs.Flights.{Finds, Leaves, MovesBack, Prolongs, CostsCalls, first_due, flights_of_id, flights_with, soonest};
-ghost use Rattle.backlog_writing.specs.Putting.{around};
+ghost use Rattle.channel_copies.specs.Putting.{around};
 
 use crate::flight::Flight;
-use crate::putting::Back;
+use crate::putting::{Back, put_back};
 use crate::tally::{count_down, count_up};
 use backlog::{Backlog, PutOne};
-use backlog_writing::put_back;
 use due_heap::{DueHeap, Key};
 use flight_rules::forget;
 use nsq_base::{Memory, MsgId, Steps};

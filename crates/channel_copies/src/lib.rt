@@ -14,11 +14,9 @@ mod putting;
 mod tally;
 mod writing;
 
-pub use backlog_writing::put_back;
 pub use clients::{Client, Clients};
 pub use deferred::Deferred;
 pub use flight::Flight;
-pub use flight_rules::{is_of, is_used_up};
 pub use flights::Flights;
-pub use putting::Back;
+pub use putting::{Back, put_back};
 pub use writing::{write_deferred, write_flights};

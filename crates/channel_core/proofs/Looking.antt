@@ -1,5 +1,5 @@
 -- What is found of an id, and what a client may have.
-use Rattle.std.proofs.Common.{◌≡◌, ℕ, ◌≤◌, ◌<◌, Bool, true, false, nat_eq, nat_lt, ◌&&◌, not, List, Option, Some, option_map, unwrap_or, sym, ap, ◌∙◌, subst, arith}
+use Rattle.std.proofs.Common.{◌≡◌, ℕ, ◌≤◌, ◌<◌, Bool, true, false, nat_eq, nat_lt, nat_le, ◌&&◌, not, List, Option, Some, option_map, unwrap_or, refl, sym, ap, ◌∙◌, subst, arith}
 use Rattle.std.specs.Prelude.{MatchBool}
 use Rattle.std.proofs.lemmas.Bool.{eq-eqb, ne_eqb}
 use Rattle.std.proofs.lemmas.Bool.Decides.{nat_tests}
@@ -10,6 +10,7 @@ use Rattle.channel_copies.specs.declared.clients.Client.{Client}
 use Rattle.channel_copies.specs.declared.flight.Flight.{Flight}
 use Rattle.channel_copies.specs.Clients.{client_of}
 use Rattle.channel_copies.specs.Flights.{IsOnly, flights_of_id, flights_with, has_client}
+use Rattle.channel_copies.proofs.Soonest.{due_is}
 use Rattle.channel_core.specs.Seen.{Seen, channel_with}
 use Rattle.channel_core.specs.Drawing.{ready_of, timeout_of}
 use Rattle.channel_core.proofs.Copies.{flying_is, flying_of_is, flying_with_is}
@@ -58,10 +59,14 @@ pub isn't_free : (id : List ℕ) (v : Seen) (waits : List Message) → flights_o
 isn't_free id v waits one = not_zero (flying_of id (channel_with v waits).copies) (flying_of_is id waits v.flights v.deferred ∙ one)
 
 -- whether a client has credit
-pub by_credit : (client ready count : ℕ) (b : Bool) (k : Client) {v0 : Seen} (v : Seen) (waits : List Message) → v0 ≡ v → client_of v0.clients client ≡ Some k → ready ≡ k.ready → count ≡ flights_with client v0.flights → MatchBool b (ready ≤ count) (count < ready)
-    → MatchBool b (ready_of client v ≤ flying client (channel_with v waits).copies) (flying client (channel_with v waits).copies < ready_of client v)
-by_credit client ready count b k {v0} v waits is at ready_is count_is tells =
+by_test : (ready count : ℕ) (t : Bool) → nat_le ready count ≡ t → MatchBool t (ready ≤ count) (count < ready)
+by_test ready count true e = due_is count ready e
+by_test ready count false e = grind (arith, nat_tests)
+
+pub by_credit : (client ready count : ℕ) (k : Client) {v0 : Seen} (v : Seen) (waits : List Message) → v0 ≡ v → client_of v0.clients client ≡ Some k → ready ≡ k.ready → count ≡ flights_with client v0.flights
+    → MatchBool (nat_le ready count) (ready_of client v ≤ flying client (channel_with v waits).copies) (flying client (channel_with v waits).copies < ready_of client v)
+by_credit client ready count k {v0} v waits is at ready_is count_is =
     let asked : ready_of client v ≡ ready = ready_is_now client v k (subst (λ (u : Seen). client_of u.clients client ≡ Some k) is at) ∙ sym ready_is in
     let flies : flying client (channel_with v waits).copies ≡ count = flying_now client v is waits ∙ sym count_is in
-    subst (λ n. MatchBool b (n ≤ flying client (channel_with v waits).copies) (flying client (channel_with v waits).copies < n)) (sym asked)
-    (subst (λ n. MatchBool b (ready ≤ n) (n < ready)) (sym flies) tells)
+    subst (λ n. MatchBool (nat_le ready count) (n ≤ flying client (channel_with v waits).copies) (flying client (channel_with v waits).copies < n)) (sym asked)
+    (subst (λ n. MatchBool (nat_le ready count) (ready ≤ n) (n < ready)) (sym flies) (by_test ready count (nat_le ready count) refl))

@@ -23,7 +23,7 @@ mod storing;
 
 use crate::{About, Counts, Drawn, Look};
 use backlog::{Backlog, Open};
-use channel_copies::{Clients, Deferred, Flights, is_of};
+use channel_copies::{Clients, Deferred, Flights};
 use making::{backlog_options, is_ephemeral, queue_name};
 use nsq_base::{Chan, Memory, MsgId, Options, Topic};
 use nsq_outside::Folder;
@@ -198,7 +198,7 @@ impl Channel {
         match self.flights.get(id) {
             None => Look::NotInFlight,
             Some(flight) => {
-                if is_of(flight.client, client) {
+                if flight.client == client {
                     Look::Yours
                 } else {
                     Look::NotYours

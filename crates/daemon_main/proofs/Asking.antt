@@ -7,18 +7,20 @@ use Rattle.nsq_outside.specs.Causes.{Rose}
 use Rattle.nsq_outside.specs.Files.{Files}
 use Rattle.nsq_outside.specs.Hosts.{HostContent, HostState, OnlyPrintFaults, OnlyTellFaults}
 use Rattle.drill.specs.Served.{Views}
-use Rattle.drill.specs.Endings.{status_of as serve_status}
+use Rattle.daemon_endings.specs.Endings.{status_of as serve_status}
+use Rattle.daemon_endings.specs.Prints.{PrintsSo, PrintsTo, part as to_part, whole as to_whole}
+use Rattle.daemon_endings.specs.Statuses.{line_of, status_of}
 use Rattle.broker_history.specs.Entries.{History}
 use Rattle.drill.specs.Runs.{NoCaller}
 use Rattle.drill.specs.Sights.{Both, Sight, sight_of}
-use Rattle.drill.specs.ServeEnd.{ServeEnd}
-use Rattle.drill.specs.ServeEnd.TheVariants as end
+use Rattle.daemon_endings.specs.declared.serving.ServeEnd.{ServeEnd}
+use Rattle.daemon_endings.specs.declared.serving.ServeEnd.TheVariants as end
 use Rattle.drill.proofs.Asking.{no_caller_then}
-use Rattle.daemon_main.specs.Doing.{CanDo, Does, DoesNothing, DrillsSo, Obeys, PrintsSo, PrintsTo, ServesSo, part as to_part, whole as to_whole}
-use Rattle.daemon_main.specs.Endings.{IsUnserved, TellsLine, line_of, status_of}
+use Rattle.daemon_main.specs.Doing.{CanDo, Does, DoesNothing, DrillsSo, Obeys, ServesSo}
+use Rattle.daemon_main.specs.Endings.{IsUnserved, TellsLine}
 use Rattle.daemon_main.specs.Programs.{IsAsked, IsPlainRun, IsPrinted, PrintsDrill, StaysHome, part, shown, unshown, version_text, wants, whole}
-use Rattle.daemon_main.specs.declared.ending.Ending.{Ending}
-use Rattle.daemon_main.specs.declared.ending.Ending.TheVariants.{Memory}
+use Rattle.daemon_endings.specs.declared.ending.Ending.{Ending}
+use Rattle.daemon_endings.specs.declared.ending.Ending.TheVariants.{Memory}
 use Rattle.daemon_main.proofs.Telling.{KeepsAll, plain_served, plain_wanting, tells_keeps, tells_told}
 use Rattle.nsqd_words.specs.Command.{Words}
 use Rattle.nsqd_words.specs.Requests.{Asks, AsksDrill, AsksHelp, AsksVersion, IsUnknown, SaysOptions}

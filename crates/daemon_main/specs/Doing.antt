@@ -1,32 +1,24 @@
 -- What the parts of the program do.
-use Rattle.std.specs.Prelude.{◌≡◌, ◌⊎◌, ◌^◌, ◌≤◌, ℕ, Bool, IsTrue, List, ◌++◌, take, Option, string_bytes}
+use Rattle.std.specs.Prelude.{◌≡◌, ◌⊎◌, ◌^◌, ◌≤◌, ℕ, Bool, IsTrue, List, Option, string_bytes}
 use Rattle.nsq_base.specs.Options.{IsInRange}
 use Rattle.nsq_base.specs.declared.options.Options.{Options}
-use Rattle.nsq_outside.specs.Causes.{Rose}
-use Rattle.nsq_outside.specs.Hosts.{HostContent, HostState, OnlyPrintFaults}
+use Rattle.nsq_outside.specs.Hosts.{HostContent, HostState}
+use Rattle.daemon_endings.specs.Endings.{status_of as serve_status}
+use Rattle.daemon_endings.specs.Prints.{PrintsSo}
+use Rattle.daemon_endings.specs.declared.ending.Ending.{Ending}
+use Rattle.daemon_endings.specs.declared.ending.Ending.TheVariants.{BadOptions, Memory, Served}
+use Rattle.daemon_endings.specs.declared.serving.ServeEnd.{ServeEnd}
 use Rattle.drill.specs.Served.{Views}
 use Rattle.drill.specs.Asked.{HasAsked}
-use Rattle.drill.specs.Endings.{IsCaused, status_of as serve_status}
+use Rattle.drill.specs.Endings.{IsCaused}
 use Rattle.drill.specs.Parts.{KeepsFaults}
 use Rattle.drill.specs.Runs.{Runs}
 use Rattle.drill.specs.Sights.{Both, Sight}
-use Rattle.drill.specs.ServeEnd.{ServeEnd}
 use Rattle.daemon_main.specs.Drills.{ShowsDrill}
-use Rattle.daemon_main.specs.declared.ending.Ending.{Ending}
-use Rattle.daemon_main.specs.declared.ending.Ending.TheVariants.{BadOptions, Memory, OutputFault, Printed, Served}
 use Rattle.nsqd_words.specs.declared.request.Request.{Request}
 use Rattle.nsqd_words.specs.declared.request.Request.TheVariants as request
 
 module _ {F C J K : Type 0} (tells : Bool) (host host' : HostState F C J) (old new : HostContent K) where
-  -- a text was printed; or a part of it from its front, and the count of standard output rose
-  pub data PrintsTo (text : List ℕ) : Ending → Type 0 where
-    whole : (IsTrue tells → new ≡ record old { printed = old.printed ++ text }) → PrintsTo text Printed
-    part : (IsTrue tells → (n : ℕ) × (new ≡ record old { printed = old.printed ++ take n text })) → Rose host.print_faults host'.print_faults → PrintsTo text OutputFault
-
-  pub record PrintsSo (text : List ℕ) (ending : Ending) : Type 0 where
-    pub prints : PrintsTo text ending
-    pub state : OnlyPrintFaults host host'
-
   -- nothing was done
   pub record DoesNothing : Type 0 where
     pub state : host' ≡ host
@@ -34,7 +26,7 @@ module _ {F C J K : Type 0} (tells : Bool) (host host' : HostState F C J) (old n
 
   -- the numbers of a drill were printed so, or memory was wanting for it
   abbrev pub DrillsSo : (seed count : ℕ) → Ending → Type 0
-  DrillsSo seed count ending = ((text : List ℕ) × ShowsDrill seed count text × PrintsSo text ending) ⊎ ((ending ≡ Memory) × DoesNothing)
+  DrillsSo seed count ending = ((text : List ℕ) × ShowsDrill seed count text × PrintsSo tells host host' old new text ending) ⊎ ((ending ≡ Memory) × DoesNothing)
 
 module _ {F C J K : Type 0} (Told : Type 0) (tells tells_files tells_notes : Bool) (seen : Views K) (host host' : HostState F C J) (old new : HostContent K) (before after : Option (Sight K)) where
   -- it served with these options, and ended so

@@ -6,14 +6,16 @@ use Rattle.nsq_outside.specs.Hosts.{HostContent, HostState}
 use Rattle.drill.specs.Opening.{HaveBytes}
 use Rattle.drill.specs.Served.{Views}
 use Rattle.drill.specs.Asked.{HasAsked}
-use Rattle.drill.specs.Endings.{IsCaused, IsComplete, status_of as serve_status}
+use Rattle.daemon_endings.specs.Endings.{status_of as serve_status}
+use Rattle.daemon_endings.specs.Statuses.{line_of, status_of}
+use Rattle.drill.specs.Endings.{IsCaused, IsComplete}
 use Rattle.drill.specs.Runs.{NoCaller, Runs}
 use Rattle.drill.specs.Sights.{Sight}
-use Rattle.drill.specs.ServeEnd.{ServeEnd}
+use Rattle.daemon_endings.specs.declared.serving.ServeEnd.{ServeEnd}
 use Rattle.daemon_main.specs.Drills.{ShowsDrill}
-use Rattle.daemon_main.specs.Endings.{IsTold, IsUnserved, line_of, status_of}
-use Rattle.daemon_main.specs.declared.ending.Ending.{Ending}
-use Rattle.daemon_main.specs.declared.ending.Ending.TheVariants.{Served}
+use Rattle.daemon_main.specs.Endings.{IsTold, IsUnserved}
+use Rattle.daemon_endings.specs.declared.ending.Ending.{Ending}
+use Rattle.daemon_endings.specs.declared.ending.Ending.TheVariants.{Served}
 use Rattle.nsqd_words.specs.Command.{Words}
 use Rattle.nsqd_words.specs.Requests.{AsksDrill, AsksHelp, AsksVersion, IsUnknown}
 

@@ -3,9 +3,8 @@
 //! `nsqd_run`'s contract is the program's promise; `daemon_run`'s `specs/Runs.antt` has the parts of a run that serves.
 #![tactic(auto)]
 
-mod ending;
 mod run;
 
+pub use daemon_endings::{Ending, line, status};
 pub use drill::{Drilled, drill, drill_options, serve};
-pub use ending::{Ending, line, status};
 pub use run::{close, nsqd_run};

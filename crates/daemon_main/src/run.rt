@@ -3,19 +3,20 @@ ghost use Rattle.nsq_base.specs.Options.{IsInRange};
 ghost use Rattle.nsq_base.specs.declared.options.Options.{Options as SaidOptions};
 ghost use Rattle.nsq_outside.specs.Causes.{Rose};
 ghost use Rattle.nsq_outside.specs.Hosts.{OnlyPrintFaults, OnlyTellFaults};
+ghost use Rattle.daemon_endings.specs.Statuses.{line_of, status_of};
 ghost use Rattle.drill.specs.Served.{ListenersFailedLast};
 ghost use Rattle.drill.specs.Sights.{Both};
-ghost use Rattle.daemon_main.specs.Doing.{CanDo, Does, DrillsSo, Obeys, PrintsSo};
+ghost use Rattle.daemon_main.specs.Doing.{CanDo, Does, DrillsSo, Obeys};
 ghost use Rattle.daemon_main.specs.Drills.{ShowsDrill, drill_text};
-ghost use Rattle.daemon_main.specs.Endings.{TellsLine, line_of, status_of};
+ghost use Rattle.daemon_main.specs.Endings.{TellsLine};
 ghost use Rattle.daemon_main.specs.Programs.{IsAsked, IsPlainRun, StaysHome};
 ghost use Rattle.nsqd_words.specs.Requests.{Asks, IsUnknown, SaysOptions};
 
-use crate::ending::{Ending, line, status};
 use broker_history::Entry;
+use daemon_endings::{Ending, line, print, status};
 use drill::{Drilled, Watched, drill, serve};
 use nsq_base::Memory;
-use nsq_outside::{Did, Host};
+use nsq_outside::Host;
 use nsqd_words::{
     Request, options_are_known, options_are_one, other_requests_are_known, read_words,
     requests_exclude_each_other,
@@ -103,17 +104,6 @@ fn carry_out<R: Wait, H: Host<Entry>>(
         Request::Help(text) => print(rt, host, text.as_bytes()),
         Request::Version(text) => print(rt, host, text.as_bytes()),
         Request::Unknown => Ending::BadOptions,
-    }
-}
-
-/// Prints a text.
-fn print<R: Wait, H: Host<Entry>>(rt: &R, host: &mut H, text: &[u8]) -> Ending
-    ensures prints { PrintsSo H.tells (H.state host.old) (H.state host.new) (H.content host.old) (H.content host.new) text.now result }
-    ensures unserved { status_of result ≡ 4 → ⊥ }
-{
-    match host.print(rt, text) {
-        Did::Done => Ending::Printed,
-        Did::Failed => Ending::OutputFault,
     }
 }
 

@@ -4,7 +4,7 @@ use Rattle.nsq_base.specs.declared.options.Options.{Options}
 use Rattle.nsq_outside.specs.Hosts.{HostContent, HostState, Start, Starts}
 use Rattle.nsq_outside.specs.declared.did.Did.{Did}
 use Rattle.nsq_outside.specs.declared.did.Did.TheVariants as did
-use Rattle.daemon_loop.specs.Served.{ListenersFailedLast, OnlyCallersChange}
+use Rattle.daemon_callers.specs.Served.{ListenersFailedLast, OnlyCallersChange}
 use Rattle.daemon_run.specs.Asked.{HasAsked, StartsOnce}
 use Rattle.daemon_run.specs.Runs.{NoCaller}
 use Rattle.daemon_run.proofs.Causes.{rose_wider}

@@ -6,18 +6,19 @@ use Rattle.nsq_outside.specs.Files.{Files}
 use Rattle.path_image.specs.Found.{BadData, EpochSpent, Finding, Found, IsFound, Names}
 use Rattle.path_image.proofs.FindingOnce.{one_found}
 use Rattle.path_opening.specs.Opening.{HaveBytes, IsNamesFinding, IsWhy}
-use Rattle.path_opening.specs.declared.opening.Why.{Why}
-use Rattle.path_opening.specs.declared.opening.Why.TheVariants as why
-use Rattle.daemon_loop.specs.Closings.{ShutFails, WhereClean}
-use Rattle.daemon_loop.specs.ShutEnd.{ShutEnd}
-use Rattle.daemon_loop.specs.ShutEnd.TheVariants as shut
-use Rattle.daemon_loop.specs.declared.callers.LoopEnd.{LoopEnd}
-use Rattle.daemon_loop.specs.declared.callers.LoopEnd.TheVariants as loop
-use Rattle.daemon_run.specs.Endings.{ending_of, refusal_of, status_of, IsCaused, IsComplete, IsOrWants}
+use Rattle.daemon_endings.specs.declared.ends.Why.{Why}
+use Rattle.daemon_endings.specs.declared.ends.Why.TheVariants as why
+use Rattle.path_closing.specs.Closings.{ShutFails, WhereClean}
+use Rattle.daemon_endings.specs.declared.ends.ShutEnd.{ShutEnd}
+use Rattle.daemon_endings.specs.declared.ends.ShutEnd.TheVariants as shut
+use Rattle.daemon_endings.specs.declared.ends.LoopEnd.{LoopEnd}
+use Rattle.daemon_endings.specs.declared.ends.LoopEnd.TheVariants as loop
+use Rattle.daemon_endings.specs.Endings.{ending_of, refusal_of, status_of}
+use Rattle.daemon_run.specs.Endings.{IsCaused, IsComplete, IsOrWants}
 use Rattle.daemon_run.specs.Runs.{IsShut}
 use Rattle.daemon_run.specs.Sights.{Counts, NoFault}
-use Rattle.daemon_run.specs.declared.ending.ServeEnd.{ServeEnd}
-use Rattle.daemon_run.specs.declared.ending.ServeEnd.TheVariants as end
+use Rattle.daemon_endings.specs.declared.serving.ServeEnd.{ServeEnd}
+use Rattle.daemon_endings.specs.declared.serving.ServeEnd.TheVariants as end
 
 -- no count of the folder or the listeners is lower
 pub record NoFewer (a b : Counts) : Type 0 where

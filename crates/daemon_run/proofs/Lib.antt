@@ -1,3 +1,5 @@
+pub mod Going
+pub mod Rounding
 pub mod Causes
 pub mod Numbering
 pub mod Requests

@@ -5,7 +5,7 @@ use Rattle.std.proofs.lemmas.Grind.{common_steps}
 use Rattle.nsq_base.specs.declared.options.Options.{Options}
 use Rattle.nsq_outside.specs.declared.host.Kind.{Kind}
 use Rattle.broker_history.specs.Entries.{History}
-use Rattle.daemon_loop.specs.Served.{AreServed, IsServed, Views}
+use Rattle.daemon_callers.specs.Served.{AreServed, IsServed, Views}
 use Rattle.daemon_run.specs.Callers.{IsHandedBack, numbers_of, one_to}
 
 -- so many numbers from a first one on

@@ -26,7 +26,7 @@ use Rattle.http_calls.specs.Routes.{method_of, path_of, route_at, routes}
 use Rattle.http_api.specs.declared.ended.EndedHttp.{EndedHttp}
 use Rattle.http_api.specs.declared.ended.EndedHttp.TheVariants.{Answered, EndOfInput, Cut, Closed, ReadFault, WriteFault, Memory}
 use Rattle.http_api.specs.Exchange.{Answers, Fits, IsAsking, IsExchange, IsListing, is_listed, refused, alone, told, stopping, stopped}
-use Rattle.daemon_loop.proofs.Others.{stops-append}
+use Rattle.daemon_callers.proofs.Others.{stops-append}
 
 -- ---- which request asks for a Stop
 

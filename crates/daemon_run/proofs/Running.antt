@@ -19,26 +19,26 @@ use Rattle.broker_history.proofs.Timing.{turns_read}
 use Rattle.turn_laws.specs.Laws.{IsOf, RoseBy}
 use Rattle.turn_laws.proofs.Faulting.{apart_few}
 use Rattle.turn_laws.proofs.Laying.{turns_of}
-use Rattle.daemon_loop.specs.Leads.{LedTo}
-use Rattle.daemon_loop.specs.Scenes.{Scene, Stands}
+use Rattle.path_closing.specs.Leads.{LedTo}
+use Rattle.path_closing.specs.Scenes.{Scene, Stands}
 use Rattle.path_opening.specs.Opening.{HaveBytes, OnlyOpeningFiles}
-use Rattle.daemon_loop.specs.Closings.{Leaves}
-use Rattle.daemon_loop.specs.Going.{Went}
-use Rattle.daemon_loop.specs.Rounds.{IsHalted, WhyOver, ticks_of}
-use Rattle.daemon_loop.specs.Served.{HasServed, UpTo, Views}
-use Rattle.daemon_loop.specs.declared.callers.LoopEnd.{LoopEnd}
-use Rattle.daemon_loop.specs.declared.callers.LoopEnd.TheVariants as loop
-use Rattle.daemon_loop.proofs.Going.{went_by, went_then}
-use Rattle.daemon_loop.proofs.Others.{stops-append, stops_own, up_to_more}
-use Rattle.daemon_loop.proofs.Rounding.{ticks-append}
-use Rattle.daemon_loop.proofs.Handing.{daemon_served}
+use Rattle.path_closing.specs.Closings.{Leaves}
+use Rattle.daemon_run.specs.Going.{Went}
+use Rattle.daemon_run.specs.Rounds.{IsHalted, WhyOver, ticks_of}
+use Rattle.daemon_callers.specs.Served.{HasServed, UpTo, Views}
+use Rattle.daemon_endings.specs.declared.ends.LoopEnd.{LoopEnd}
+use Rattle.daemon_endings.specs.declared.ends.LoopEnd.TheVariants as loop
+use Rattle.daemon_run.proofs.Going.{went_by, went_then}
+use Rattle.daemon_callers.proofs.Others.{stops-append, stops_own, up_to_more}
+use Rattle.daemon_run.proofs.Rounding.{ticks-append}
+use Rattle.daemon_callers.proofs.Handing.{daemon_served}
 use Rattle.daemon_run.specs.Callers.{DaemonStops, HasCallersStop, ServesAll, failed, halted, one_to, wants}
 use Rattle.daemon_run.specs.Endings.{FindsNames, IsCaused}
 use Rattle.daemon_run.specs.Parts.{RunsOn}
 use Rattle.daemon_run.specs.Runs.{HasRun, IsShut, TellsHistory}
 use Rattle.daemon_run.specs.Sights.{Sight}
-use Rattle.daemon_run.specs.declared.ending.ServeEnd.{ServeEnd}
-use Rattle.daemon_run.specs.declared.ending.ServeEnd.TheVariants as end
+use Rattle.daemon_endings.specs.declared.serving.ServeEnd.{ServeEnd}
+use Rattle.daemon_endings.specs.declared.serving.ServeEnd.TheVariants as end
 use Rattle.daemon_run.proofs.Causes.{EndsWell, at_clean, at_fault, parts, rose_wider, served_ends}
 use Rattle.daemon_run.proofs.Numbering.{handed, numbered}
 use Rattle.daemon_run.proofs.Stopping.{callers_stop, has_stops, stop_stays, stops_caused, stops_last}

@@ -17,17 +17,17 @@ use Rattle.broker_history.specs.Moments.{HasReadings, IsTimed, moment_of}
 use Rattle.broker_history.specs.State.{State}
 use Rattle.turn_laws.specs.Laws.{RoseBy}
 use Rattle.turn_laws.proofs.Laying.{all_so}
-use Rattle.daemon_loop.specs.Closings.{Leaves}
+use Rattle.path_closing.specs.Closings.{Leaves}
 use Rattle.path_opening.specs.Opening.{FindsAgain, HaveBytes}
-use Rattle.daemon_loop.specs.Rounds.{IsHalted, ticks_of}
-use Rattle.daemon_loop.specs.Served.{UpTo, Views}
+use Rattle.daemon_run.specs.Rounds.{IsHalted, ticks_of}
+use Rattle.daemon_callers.specs.Served.{UpTo, Views}
 use Rattle.daemon_run.specs.Asked.{StartsOnce}
 use Rattle.daemon_run.specs.Callers.{DaemonStops, HasCallersStop, HasStopCause, IsHandedBack, StopsAreCaused, StopsLast, failed, halted, wants}
 use Rattle.daemon_run.specs.Endings.{IsCaused}
 use Rattle.daemon_run.specs.Parts.{KeepsFaults}
 use Rattle.daemon_run.specs.Runs.{CountsFaults, HasRun, HasWorked, NoCaller, Runs, TellsHistory}
 use Rattle.daemon_run.specs.Sights.{Both, Sight, counts_of, sight, sight_of}
-use Rattle.daemon_run.specs.declared.ending.ServeEnd.{ServeEnd}
+use Rattle.daemon_endings.specs.declared.serving.ServeEnd.{ServeEnd}
 use Rattle.daemon_run.proofs.Asking.{no_caller_then, same_callers}
 use Rattle.daemon_run.proofs.Causes.{NoFewer, caused_wider, rose_wider}
 

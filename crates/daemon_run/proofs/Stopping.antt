@@ -12,13 +12,13 @@ use Rattle.broker_history.specs.declared.entry.Act.TheVariants.{Stop}
 use Rattle.broker_history.specs.declared.entry.Entry.{Entry}
 use Rattle.broker_history.specs.Entries.{History, has_stop, is_common, is_stop, own, stops_of}
 use Rattle.broker_history.proofs.Own.{own-append}
-use Rattle.daemon_loop.specs.Served.{AreServed, IsServed, NamesUpTo, UpTo, Views, limits_of}
-use Rattle.daemon_loop.specs.Stops.{AddsStop}
-use Rattle.daemon_loop.proofs.Halting.{served_no_stop}
-use Rattle.daemon_loop.proofs.Others.{stops-append}
+use Rattle.daemon_callers.specs.Served.{AreServed, IsServed, NamesUpTo, UpTo, Views, limits_of}
+use Rattle.daemon_callers.specs.Stops.{AddsStop}
+use Rattle.daemon_callers.proofs.Halting.{served_no_stop}
+use Rattle.daemon_callers.proofs.Others.{stops-append}
 use Rattle.daemon_run.specs.Callers.{AsksStop, DaemonStops, HasCallersStop, HasStopCause, IsOfStop, StopsAreCaused, StopsLast}
 use Rattle.turn_laws.specs.Laws.{IsOf}
-use Rattle.daemon_run.specs.declared.ending.ServeEnd.{ServeEnd}
+use Rattle.daemon_endings.specs.declared.serving.ServeEnd.{ServeEnd}
 use Rattle.daemon_run.proofs.Requests.{exchange_stop, stop_form}
 
 -- a Stop is no common entry

@@ -15,10 +15,10 @@ use Rattle.http_wire.specs.declared.request.Request.{Request}
 use Rattle.http_wire.specs.Request.{IsRequest, Whole}
 use Rattle.http_calls.specs.declared.call.HttpCall.TheVariants as call
 use Rattle.http_calls.specs.Calls.{call_for}
-use Rattle.daemon_loop.specs.Rounds.{IsHalted, ticks_of}
-use Rattle.daemon_loop.specs.Served.{IsServed, UpTo, Views}
-use Rattle.daemon_run.specs.declared.ending.ServeEnd.{ServeEnd}
-use Rattle.daemon_run.specs.declared.ending.ServeEnd.TheVariants as end
+use Rattle.daemon_run.specs.Rounds.{IsHalted, ticks_of}
+use Rattle.daemon_callers.specs.Served.{IsServed, UpTo, Views}
+use Rattle.daemon_endings.specs.declared.serving.ServeEnd.{ServeEnd}
+use Rattle.daemon_endings.specs.declared.serving.ServeEnd.TheVariants as end
 
 -- the numbers from 1 on, so many
 abbrev pub one_to : ℕ → List ℕ

@@ -1,9 +1,10 @@
+pub mod Going
+pub mod Rounds
 pub mod Sights
 pub mod Endings
 pub mod Asked
 pub mod Callers
 pub mod Runs
 pub mod Parts
-pub use Rattle.daemon_loop.specs.Rounds
-pub use Rattle.daemon_loop.specs.Served
+pub use Rattle.daemon_callers.specs.Served
 pub use Rattle.path_opening.specs.Opening

@@ -6,18 +6,18 @@ use Rattle.nsq_outside.specs.Files.{Files}
 use Rattle.nsq_outside.specs.Hosts.{HostContent, HostState}
 use Rattle.broker_history.specs.Entries.{has_stop, History, own}
 use Rattle.broker_history.specs.State.{State}
-use Rattle.daemon_loop.specs.Standing.{HoldsFor}
-use Rattle.daemon_loop.specs.Leads.{Leads}
-use Rattle.daemon_loop.specs.Scenes.{Scene}
-use Rattle.daemon_loop.specs.Closings.{Leaves, ShutChanges, ShutFails, WhereClean}
-use Rattle.daemon_loop.specs.ShutEnd.{ShutEnd}
-use Rattle.daemon_loop.specs.Rounds.{Rounds, WhyOver}
-use Rattle.daemon_loop.specs.Served.{Views}
-use Rattle.daemon_loop.specs.Stops.{AddsStop}
-use Rattle.daemon_loop.specs.declared.callers.LoopEnd.{LoopEnd}
-use Rattle.daemon_loop.specs.declared.callers.LoopEnd.TheVariants as loop
-use Rattle.daemon_run.specs.Endings.{ending_of}
-use Rattle.daemon_run.specs.declared.ending.ServeEnd.{ServeEnd}
+use Rattle.path_closing.specs.Standing.{HoldsFor}
+use Rattle.path_closing.specs.Leads.{Leads}
+use Rattle.path_closing.specs.Scenes.{Scene}
+use Rattle.path_closing.specs.Closings.{Leaves, ShutChanges, ShutFails, WhereClean}
+use Rattle.daemon_endings.specs.declared.ends.ShutEnd.{ShutEnd}
+use Rattle.daemon_run.specs.Rounds.{Rounds, WhyOver}
+use Rattle.daemon_callers.specs.Served.{Views}
+use Rattle.daemon_callers.specs.Stops.{AddsStop}
+use Rattle.daemon_endings.specs.declared.ends.LoopEnd.{LoopEnd}
+use Rattle.daemon_endings.specs.declared.ends.LoopEnd.TheVariants as loop
+use Rattle.daemon_endings.specs.Endings.{ending_of}
+use Rattle.daemon_endings.specs.declared.serving.ServeEnd.{ServeEnd}
 
 -- of a host's counts that of the listeners alone may have risen, and whether callers get threads is as before
 pub record KeepsFaults {F C J : Type 0} (old new : HostState F C J) : Type 0 where

@@ -11,15 +11,15 @@ use Rattle.broker_history.specs.Moments.{HasReadings, IsTimed, moment_of}
 use Rattle.broker_history.specs.State.{State}
 use Rattle.turn_laws.specs.Laws.{RoseBy}
 use Rattle.path_opening.specs.Opening.{FindsAgain, HaveBytes, OnlyOpeningFiles}
-use Rattle.daemon_loop.specs.Closings.{Leaves}
-use Rattle.daemon_loop.specs.Rounds.{IsHalted}
-use Rattle.daemon_loop.specs.Served.{Views}
+use Rattle.path_closing.specs.Closings.{Leaves}
+use Rattle.daemon_run.specs.Rounds.{IsHalted}
+use Rattle.daemon_callers.specs.Served.{Views}
 use Rattle.daemon_run.specs.Asked.{StartsOnce}
 use Rattle.daemon_run.specs.Callers.{ServesAll, StopsAreCaused, StopsLast, HasCallersStop, numbers_of, one_to}
-use Rattle.daemon_run.specs.Endings.{status_of}
+use Rattle.daemon_endings.specs.Endings.{status_of}
 use Rattle.daemon_run.specs.Sights.{Sight}
-use Rattle.daemon_run.specs.declared.ending.ServeEnd.{ServeEnd}
-use Rattle.daemon_run.specs.declared.ending.ServeEnd.TheVariants as end
+use Rattle.daemon_endings.specs.declared.serving.ServeEnd.{ServeEnd}
+use Rattle.daemon_endings.specs.declared.serving.ServeEnd.TheVariants as end
 
 -- no caller was given or handed back, and whether anybody will call is as before
 pub record NoCaller {K : Type 0} (old new : HostContent K) : Type 0 where

@@ -1,5 +1,5 @@
 ghost use Rattle.std.specs.Prelude.{Option};
-ghost use Rattle.daemon_loop.specs.Served.{Views};
+ghost use Rattle.daemon_callers.specs.Served.{Views};
 ghost use Rattle.daemon_run.specs.Sights.{Sight};
 
 use broker_history::Entry;
@@ -18,7 +18,7 @@ pub trait Watched: Host<Entry> {
 }
 
 impl<H: Host<Entry>> Watched for H {
-    ghost use Rattle.daemon_loop.specs.Served.{views};
+    ghost use Rattle.daemon_callers.specs.Served.{views};
     ghost use Rattle.daemon_run.specs.Sights.{AllTold, sight_of};
 
     ghost sight = { λ h. sight_of H.Journal.notes H.Folder.files H.Clock.coming H.Folder.folder_faults (H.state h) (H.content h) };

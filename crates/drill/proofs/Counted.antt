@@ -15,7 +15,7 @@ use Rattle.broker_history.specs.declared.entry.Entry.{Entry}
 use Rattle.broker_history.specs.Entries.{History, faults_of}
 use Rattle.daemon_run.specs.Served.{IsServedTcp}
 use Rattle.daemon_run.specs.Callers.{IsHandedBack, numbers_of}
-use Rattle.daemon_run.specs.declared.ending.ServeEnd.TheVariants as end
+use Rattle.daemon_endings.specs.declared.serving.ServeEnd.TheVariants as end
 use Rattle.drill_parts.specs.Counts.{published}
 use Rattle.drill_parts.specs.Publishing.{IsQuiet, PublishesAlone}
 use Rattle.drill_parts.proofs.Closing.{within}

@@ -21,7 +21,7 @@ use Rattle.broker_history.specs.Talk.{Allows, stops_before_gone}
 use Rattle.daemon_run.specs.Rounds.{IsHalted}
 use Rattle.daemon_run.specs.Served.{IsServed, IsServedTcp, UpTo, Views}
 use Rattle.daemon_run.specs.Callers.{HasCallersStop, HasStopCause, IsHandedBack, IsOfStop, StopsAreCaused, StopsLast, numbers_of, one_to}
-use Rattle.daemon_run.specs.declared.ending.ServeEnd.{ServeEnd}
+use Rattle.daemon_endings.specs.declared.serving.ServeEnd.{ServeEnd}
 use Rattle.drill_parts.specs.Conserving.{KeepAll}
 use Rattle.drill_parts.specs.Counts.{messages_in}
 use Rattle.drill_parts.specs.Publishing.{EndsWell, IsPub, PublishesAs}

@@ -27,8 +27,8 @@ use Rattle.daemon_run.specs.Asked.{StartsOnce}
 use Rattle.daemon_run.specs.Parts.{KeepsFaults}
 use Rattle.daemon_run.specs.Runs.{HasRun, HasWorked, Runs, StayedHome}
 use Rattle.daemon_run.specs.Sights.{Both, Sight, sight, sight_of}
-use Rattle.daemon_run.specs.declared.ending.ServeEnd.{ServeEnd}
-use Rattle.daemon_run.specs.declared.ending.ServeEnd.TheVariants as end
+use Rattle.daemon_endings.specs.declared.serving.ServeEnd.{ServeEnd}
+use Rattle.daemon_endings.specs.declared.serving.ServeEnd.TheVariants as end
 use Rattle.drill_parts.specs.Conserving.{HaveOnes}
 use Rattle.drill_parts.specs.Replying.{tried}
 use Rattle.drill_parts.proofs.Conserved.{no_topics}

@@ -16,7 +16,7 @@ use Rattle.daemon_run.specs.Served.{IsServedTcp, Views, limits_of, views}
 use Rattle.daemon_run.specs.Asked.{StartsOnce}
 use Rattle.daemon_run.specs.Runs.{HasRun}
 use Rattle.daemon_run.specs.Sights.{Sight, sight}
-use Rattle.daemon_run.specs.declared.ending.ServeEnd.TheVariants as end
+use Rattle.daemon_endings.specs.declared.serving.ServeEnd.TheVariants as end
 use Rattle.drill_parts.specs.Callers.{publisher}
 use Rattle.drill_parts.specs.Counting.{finished_in, published_in, sent_in}
 use Rattle.drill_parts.specs.Draws.{publishes}

@@ -6,4 +6,3 @@ pub use Rattle.daemon_run.specs.Parts
 pub use Rattle.daemon_run.specs.Runs
 pub use Rattle.daemon_run.specs.Served
 pub use Rattle.daemon_run.specs.Sights
-pub use Rattle.daemon_run.specs.declared.ending.ServeEnd

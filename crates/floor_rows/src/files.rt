@@ -4,7 +4,7 @@ use crate::texts::{put_bytes, same};
 use nsq_base::Body;
 use nsq_fakes::{Failing, MemFolder};
 use nsq_outside::{Folder, Listing};
-use queue_plain::NamedFile;
+use path_plain::NamedFile;
 use std::alloc::Global;
 use std::process::Abort;
 

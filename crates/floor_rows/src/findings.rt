@@ -3,7 +3,7 @@
 use crate::judged::{finding_of, let_go};
 use crate::texts::{put, put_count, put_flag, put_sent, put_word, same};
 use broker_files::{Finding, FoundNames, FoundTopic};
-use queue_plain::NamedFile;
+use path_plain::NamedFile;
 use std::alloc::Global;
 use std::process::Abort;
 use v2_frame::Message;

@@ -7,7 +7,7 @@ use broker_state::State;
 use broker_steps::led_to;
 use nsq_base::Options;
 use nsq_outside::End;
-use queue_plain::NamedFile;
+use path_plain::NamedFile;
 use std::alloc::Global;
 use std::process::Abort;
 

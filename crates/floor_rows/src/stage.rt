@@ -25,7 +25,7 @@ use nsq_fakes::{Failing, MemFolder};
 use nsq_outside::End;
 use path_closing::{Saved, ShutEnd, save, shut};
 use path_opening::{Refused, Why, open};
-use queue_plain::NamedFile;
+use path_plain::NamedFile;
 use std::alloc::Global;
 use std::mem;
 use std::process::Abort;

@@ -7,7 +7,7 @@ use crate::outside::Dials;
 use crate::stage::Stage;
 use crate::texts::{check, number, parted, put, put_number, put_word, same};
 use nsq_fakes::{Failing, FolderCall};
-use queue_plain::NamedFile;
+use path_plain::NamedFile;
 use std::alloc::Global;
 use std::process::Abort;
 

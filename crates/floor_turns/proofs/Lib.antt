@@ -1,13 +1,18 @@
-pub mod Owing
-pub mod Clearing
 pub mod Carrying
+pub mod Clearing
 pub mod Following
-pub mod Marking
-pub mod Whole
+pub mod KeptNames
 pub mod Leading
+pub mod Marking
+pub mod Members
+pub mod Naming
+pub mod Owing
+pub mod Planning
+pub mod Saying
+pub mod Sending
+pub mod Telling
 pub mod Tying
-pub use Rattle.floor_words.proofs.Saying
-pub use Rattle.floor_words.proofs.Found
-pub use Rattle.floor_words.proofs.Keeping as KeptNames
-pub use Rattle.floor_moves.proofs.Keeping
+pub mod Whole
 pub use Rattle.floor_files.proofs.Raising
+pub use Rattle.floor_moves.proofs.Keeping
+pub use Rattle.floor_replies.proofs.Found

@@ -1,17 +1,20 @@
-pub mod Paying
 pub mod Acting
-pub mod Turning
-pub mod Scenes
+pub mod Asked
+pub mod Dues
 pub mod Leads
-pub mod Turns
+pub mod Paying
+pub mod Plans
+pub mod Scenes
+pub mod Stats
 pub mod Timely
-pub use Rattle.floor_words.specs.Plans
-pub use Rattle.floor_words.specs.Asked
-pub use Rattle.floor_words.specs.Replies
-pub use Rattle.floor_moves.specs.Moves
+pub mod Turning
+pub mod Turns
+pub use Rattle.channel_core.specs.Seen
+pub use Rattle.floor_files.specs.Flushing
+pub use Rattle.floor_files.specs.Saving
+pub use Rattle.floor_files.specs.Timely as TimelySaving
 pub use Rattle.floor_moves.specs.Due
 pub use Rattle.floor_moves.specs.Holding
+pub use Rattle.floor_moves.specs.Moves
 pub use Rattle.floor_moves.specs.declared.due.Place
-pub use Rattle.floor_files.specs.Saving
-pub use Rattle.floor_files.specs.Flushing
-pub use Rattle.floor_files.specs.Timely as TimelySaving
+pub use Rattle.floor_replies.specs.Replies

@@ -9,7 +9,7 @@ use broker_history::{Ended, Entry};
 use daemon_main::{Drilled, drill, drill_options};
 use nsq_fakes::{MemConn, MemFolder};
 use nsq_outside::End;
-use queue_plain::NamedFile;
+use path_plain::NamedFile;
 use std::alloc::Global;
 use std::process::Abort;
 use std::sync::Wait;

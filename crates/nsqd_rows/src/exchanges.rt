@@ -8,13 +8,13 @@ use crate::hosts::Outcome;
 use crate::texts::same;
 use broker_history::{Act, Ask, Entry, Said};
 use http_calls::{HttpAnswer, HttpCall, Refusal, answer_to, call_of, publishes, stop_answer};
-use http_plain::{Plain, request_of};
 use http_wire::write_answer;
 use nsq_base::{Chan, Options, Topic};
 use nsq_fakes::MemConn;
 use nsq_outside::End;
 use std::alloc::Global;
 use std::process::Abort;
+use streams_plain::{Plain, request_of};
 
 /// Whether a connection of this number, at a daemon with these options that was opened at this moment, was an exchange.
 ///

@@ -10,7 +10,7 @@ use daemon_main::nsqd_run;
 use nsq_base::Body;
 use nsq_fakes::{Failing, MemClock, MemConn, MemFolder, MemHost, MemJournal, Piece};
 use nsq_outside::{End, Host, Kind, Kit};
-use queue_plain::NamedFile;
+use path_plain::NamedFile;
 use std::alloc::Global;
 use std::process::Abort;
 use std::sync::Wait;

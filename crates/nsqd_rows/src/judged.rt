@@ -14,7 +14,7 @@ use broker_talks::is_talk_in;
 use nsq_base::{Body, Options};
 use nsq_fakes::MemConn;
 use nsq_outside::{End, Kind};
-use queue_plain::NamedFile;
+use path_plain::NamedFile;
 use std::alloc::Global;
 use std::process::Abort;
 use v2_frame::Limits;

@@ -13,7 +13,7 @@ use broker_history::{Act, Ended, Entry};
 use nsq_base::Options;
 use nsq_fakes::MemConn;
 use nsq_outside::{End, Kind};
-use queue_plain::NamedFile;
+use path_plain::NamedFile;
 use std::alloc::Global;
 use std::process::Abort;
 use std::sync::Wait;

@@ -28,7 +28,7 @@ use broker_history::Ended;
 use nsq_base::Options;
 use nsq_fakes::{Failing, FolderCall, MemConn, Piece};
 use nsq_outside::Kind;
-use queue_plain::NamedFile;
+use path_plain::NamedFile;
 use std::alloc::Global;
 use std::process::Abort;
 use std::sync::Wait;

@@ -18,7 +18,7 @@ use Rattle.floor_rooms.specs.Standing.{HoldsFor}
 use Rattle.broker_floor.specs.Flushing.{LeavesOthers, LeavesWhere}
 use Rattle.broker_floor.specs.Ending.{FloorFlushFails}
 use Rattle.path_closing.specs.Closings.{HasNames, IsTextOf, KeepsNames, Leaves, NamesOrOneMore, NamesStay, OldOrNew, ShutFails, ShutsDown, WhereClean, WhereShutWants, WhereTried, shut_end}
-use Rattle.path_closing.specs.declared.shutting.ShutEnd.TheVariants as shut
+use Rattle.daemon_endings.specs.declared.ends.ShutEnd.TheVariants as shut
 use Rattle.path_closing.proofs.Apart.{all_behind, but_behind, names_apart, temp_apart}
 use Rattle.path_closing.proofs.Finding.{all_left}
 use Rattle.path_closing.proofs.Storing.{names_stored, old_or_new}

@@ -19,8 +19,8 @@ use Rattle.broker_floor.specs.Flushing.{LeavesBut}
 use Rattle.broker_floor.specs.Held.{Held}
 use Rattle.path_closing.specs.declared.saving.Saved.{Saved}
 use Rattle.path_closing.specs.declared.saving.Saved.TheVariants as saved
-use Rattle.path_closing.specs.declared.shutting.ShutEnd.{ShutEnd}
-use Rattle.path_closing.specs.declared.shutting.ShutEnd.TheVariants as shut
+use Rattle.daemon_endings.specs.declared.ends.ShutEnd.{ShutEnd}
+use Rattle.daemon_endings.specs.declared.ends.ShutEnd.TheVariants as shut
 
 -- the text is that of these names, and keeps them
 pub record IsTextOf (text : List ℕ) (kept : Kept) : Type 0 where

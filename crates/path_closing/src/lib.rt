@@ -9,6 +9,7 @@ mod saving;
 mod shutting;
 
 pub use broker_floor::Floor;
+pub use daemon_endings::ShutEnd;
 pub use laws::names_are_kept;
 pub use saving::{Saved, save};
-pub use shutting::{ShutEnd, shut};
+pub use shutting::shut;

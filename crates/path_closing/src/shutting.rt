@@ -13,20 +13,10 @@ use crate::saving::text_of;
 use backlog::Flushed;
 use broker_floor::Floor;
 use broker_history::Entry;
+use daemon_endings::ShutEnd;
 use names_file::{NAMES, NAMES_TEMP};
 use nsq_outside::{Clock, Did, Folder, Journal, Kit};
 use std::alloc::Global;
-
-/// How a floor was shut.
-#[derive(Clone, Copy)]
-pub enum ShutEnd {
-    /// All that was left is in the folder, durably: the messages and the names.
-    Clean,
-    /// The folder failed: its count of faults rose in this call, or a disk fault had kept the Stop's turn from paying all that was owed.
-    Fault,
-    /// Want of memory for the text of the file of names, or one of more than 16 MiB. The messages were written, as far as the folder let them.
-    Memory,
-}
 
 /// Writes the messages that are left into the queues' files, then the file of the durable names, and gives the kit back. The messages take no memory.
 /// Clock and journal are as they were.

@@ -39,8 +39,8 @@ use Rattle.broker_floor.proofs.Found.{lists_then}
 use Rattle.path_opening.specs.Adding.{AddsTopics, Fills, FindsAll, HasNames, HasBadOf, HasOthersOnly, IsAdded, IsElsewhere, IsFilled, IsGood, IsNotAdded, IsNotFilled, IsNotSaved, IsOldOrKeeps, IsReady, IsUnread, IsWhyNotAdded, IsWhyNotSaved, OnlyFilledFiles, SameList, why_unswept}
 use Rattle.path_opening.specs.Opening.KeepsIn.{absent, written}
 use Rattle.path_opening.specs.Opening.{FindsAgain, HaveBytes, IsNamesFinding, IsOpenedHall, IsRefusal, IsWhy, KeepsIn, OnlyOpeningFiles, Raises}
-use Rattle.path_opening.specs.declared.opening.Why.{Why}
-use Rattle.path_opening.specs.declared.opening.Why.TheVariants as why
+use Rattle.daemon_endings.specs.declared.ends.Why.{Why}
+use Rattle.daemon_endings.specs.declared.ends.Why.TheVariants as why
 use Rattle.path_opening.proofs.Decoding.{topics_found}
 use Rattle.path_opening.proofs.Finding.{KeepsNext, all_of, bad_found, finds_again, kept_found, names_found, rose_later, same_again, shown, spent_found, topics_again}
 use Rattle.path_opening.proofs.Idling.{idle_found}

@@ -37,8 +37,8 @@ use Rattle.broker_floor.proofs.Found.{back_then, bad_then, lists_then}
 use Rattle.broker_floor.proofs.Parting.{all_front, all_last, last_of, name_apart, or_parts}
 use Rattle.broker_floor.specs.Held.{Held}
 use Rattle.path_opening.specs.Adding.{AddsOne, AddsTopics, HasOthersOnly, IsAdded, PutsTopic, why_of, FindsAll, HasBadOf, HasOnlyTopics, IsElsewhere, IsGood, IsNotAdded, IsNotOne, IsWhyNotAdded, IsWhyNotOne, OnlyFilesOf, SameList, StandsWith, pauses}
-use Rattle.path_opening.specs.declared.opening.Why.{Why}
-use Rattle.path_opening.specs.declared.opening.Why.TheVariants as why
+use Rattle.daemon_endings.specs.declared.ends.Why.{Why}
+use Rattle.daemon_endings.specs.declared.ends.Why.TheVariants as why
 use Rattle.path_opening.proofs.Finding.{all_of, rose_later, topic_again}
 use Rattle.path_opening.proofs.Orders.{Ascends, ascends, before_apart, before_middle, middle_of, next_before, next_split, next_taken, none_before, opened_is, pairs_ascend, pairs_behind, topic_last}
 

@@ -8,8 +8,8 @@ use Rattle.path_image.specs.Data.{IsBadNames, IsNames, Kept, data_name, longest_
 use Rattle.path_opening.specs.Adding.{IsUnread, IsWhyUnread}
 use Rattle.path_opening.specs.Opening.{KeepsIn}
 use Rattle.path_opening.specs.Opening.KeepsIn.{written}
-use Rattle.path_opening.specs.declared.opening.Why.{Why}
-use Rattle.path_opening.specs.declared.opening.Why.TheVariants as why
+use Rattle.daemon_endings.specs.declared.ends.Why.{Why}
+use Rattle.daemon_endings.specs.declared.ends.Why.TheVariants as why
 
 -- a text that is too long keeps nothing
 pub long_bad : (text : List ℕ) → longest_data < length text → IsBadNames text

@@ -24,8 +24,8 @@ use Rattle.queue_sweep.specs.declared.unswept.Unswept.{Unswept}
 use Rattle.queue_sweep.specs.declared.unswept.Unswept.TheVariants as unswept
 use Rattle.broker_floor.specs.Held.{Held}
 use Rattle.path_opening.specs.Opening.{KeepsIn}
-use Rattle.path_opening.specs.declared.opening.Why.{Why}
-use Rattle.path_opening.specs.declared.opening.Why.TheVariants as why
+use Rattle.daemon_endings.specs.declared.ends.Why.{Why}
+use Rattle.daemon_endings.specs.declared.ends.Why.TheVariants as why
 
 -- the file of names is there, and its text is bad
 pub record HasBadText (files : Files) : Type 0 where

@@ -9,8 +9,8 @@ use Rattle.path_image.specs.Data.{IsNames, Kept, data_name, last_epoch, names_te
 use Rattle.path_image.specs.Found.{BadData, EpochSpent, Finding, Found, IsFound, Names}
 use Rattle.names_file.specs.Texts.{kept_of}
 use Rattle.broker_floor.specs.Held.{Held}
-use Rattle.path_opening.specs.declared.opening.Why.{Why}
-use Rattle.path_opening.specs.declared.opening.Why.TheVariants as why
+use Rattle.daemon_endings.specs.declared.ends.Why.{Why}
+use Rattle.daemon_endings.specs.declared.ends.Why.TheVariants as why
 
 -- what the file of names keeps: where there is none, epoch 0 and no topic
 pub data KeepsIn (files : Files) (kept : Kept) : Type 0 where

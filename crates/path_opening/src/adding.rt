@@ -7,9 +7,9 @@ ghost use Rattle.floor_rooms.specs.Rooms.{room_in};
 ghost use Rattle.broker_floor.specs.Floors.{faults_of, files_of, flushed_of, hall_of, held_of, kit_of};
 ghost use Rattle.path_opening.specs.Adding.{AddsOne, HasOthersOnly, IsAdded, IsNotAdded, IsNotOne, PutsTopic, pauses, why_of};
 
-use crate::opening::Why;
 use broker_floor::Floor;
 use broker_history::Entry;
+use daemon_endings::Why;
 use names_file::{KeptChannel, KeptTopic};
 use nsq_base::{Chan, Memory};
 use nsq_outside::{Clock, Folder, Journal};

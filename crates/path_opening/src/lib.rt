@@ -9,4 +9,5 @@ mod opening;
 mod reading;
 mod saving;
 
-pub use opening::{Refused, Why, open};
+pub use daemon_endings::Why;
+pub use opening::{Refused, open};

@@ -11,22 +11,10 @@ use crate::reading::prepare;
 use crate::saving::fill;
 use broker_floor::Floor;
 use broker_history::Entry;
+use daemon_endings::Why;
 use nsq_base::Options;
 use nsq_outside::{Clock, Folder, Journal, Kit};
 use std::alloc::Global;
-
-/// Why a folder wasn't opened.
-#[derive(Clone, Copy)]
-pub enum Why {
-    /// The file of names, or the metadata of a queue that it lists, isn't in its grammar.
-    BadData,
-    /// The last run had the last epoch.
-    EpochSpent,
-    /// The folder failed, and its count of faults rose in this call.
-    Fault,
-    /// Want of memory.
-    Memory,
-}
 
 /// A folder that wasn't opened: why, and the kit back.
 pub struct Refused<F: Folder, C: Clock, J: Journal<Entry>> {

@@ -7,7 +7,7 @@ ghost use Rattle.names_reading.specs.Durable.{AreDurable};
 ghost use Rattle.path_opening.specs.Adding.{IsReady, IsUnread, IsWhyUnread, why_unswept};
 ghost use Rattle.path_opening.specs.Opening.{IsRefusal, KeepsIn};
 
-use crate::opening::Why;
+use daemon_endings::Why;
 use names_file::{LONGEST_NAMES, NAMES};
 use names_reading::{ListedNames, Unread, read_names};
 use nsq_base::Memory;

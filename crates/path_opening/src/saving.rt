@@ -9,9 +9,9 @@ ghost use Rattle.broker_floor.specs.Floors.{faults_of, files_of, flushed_of, hal
 ghost use Rattle.path_opening.specs.Adding.{HasNames, IsFilled, IsNotFilled, IsNotSaved};
 
 use crate::adding::add_topics;
-use crate::opening::Why;
 use broker_floor::Floor;
 use broker_history::Entry;
+use daemon_endings::Why;
 use names_file::{KeptTopic, LONGEST_NAMES, NAMES, NAMES_TEMP, write_names};
 use nsq_outside::{Clock, Did, Folder, Journal};
 use std::alloc::Global;

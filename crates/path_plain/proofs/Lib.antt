@@ -1,3 +1,5 @@
+pub mod FindingLemmas
+pub mod Heads
+pub mod Listed
 pub mod Lists
 pub mod NameLists
-pub mod FindingLemmas

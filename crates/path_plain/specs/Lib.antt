@@ -1,2 +1,4 @@
-pub mod Reads
+pub mod Answered
 pub mod Findings
+pub mod Folders
+pub mod Reads

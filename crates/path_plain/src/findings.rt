@@ -1,5 +1,5 @@
 ghost use Rattle.std.specs.Prelude.{◌≡◌, ◌≤◌, length, map, All, IfOk, MatchOption};
-ghost use Rattle.queue_plain.specs.Folders.{files_of};
+ghost use Rattle.path_plain.specs.Folders.{files_of};
 ghost use Rattle.queue_image.specs.FileNames.{channel_queue};
 ghost use Rattle.queue_image.specs.Finds.{BadMeta};
 ghost use Rattle.path_image.specs.Data.{KeptChannel};
@@ -7,10 +7,9 @@ ghost use Rattle.path_image.specs.Found.{IsRecordOf, Pairwise, IsFoundQueue, Has
 ghost use Rattle.path_plain.specs.Findings.{HasBadMeta, HasBadTopic, finding_of};
 
 use crate::names::LAST_EPOCH;
-use crate::{KeptChannel, KeptTopic, read_names};
+use crate::{KeptChannel, KeptTopic, NamedFile, found_queue, look_up, read_names};
 use nsq_base::{Bodies, Body, Chan, Memory, Topic};
 use queue_image::file_names::channel_queue;
-use queue_plain::{NamedFile, found_queue, look_up};
 use std::alloc::Global;
 use std::marker::Model;
 use v2_frame::{Message, Taken};
@@ -205,8 +204,8 @@ fn messages_in(
     ensures { IfOk result (λ messages. MatchOption messages (IsFoundQueue (files_of files.now) name.now BadMeta) (λ found. HasMessages (files_of files.now) name.now found.items)) }
 {
     match found_queue(alloc, files, name, LEAST_RECORD, LONGEST_RECORD)? {
-        queue_plain::Found::BadMeta => Ok(None),
-        queue_plain::Found::Records(listing) => Ok(Some(messages_of(alloc, &listing.bodies)?)),
+        crate::Found::BadMeta => Ok(None),
+        crate::Found::Records(listing) => Ok(Some(messages_of(alloc, &listing.bodies)?)),
     }
 }
 

@@ -15,7 +15,7 @@ use crate::{is, same};
 use disk_queue::{Emptied, Put, Sync, Take};
 use nsq_base::Bodies;
 use nsq_fakes::{FolderCall, MemFolder};
-use queue_plain::Found;
+use path_plain::Found;
 use std::alloc::Global;
 use std::process::Abort;
 

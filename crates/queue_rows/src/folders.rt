@@ -5,7 +5,7 @@ use crate::same;
 use crate::text::{bytes_of, call_of, cut, fails_of, part};
 use nsq_base::Body;
 use nsq_fakes::{Called, Failing, FolderCall, MemFolder};
-use queue_plain::NamedFile;
+use path_plain::NamedFile;
 use std::alloc::Global;
 use std::process::Abort;
 

@@ -7,7 +7,7 @@ use crate::stand::{SHORT, let_queue_go};
 use crate::text::{part, unknown};
 use disk_queue::{Open, Queue};
 use nsq_fakes::MemFolder;
-use queue_plain::Found;
+use path_plain::Found;
 use std::alloc::Global;
 use std::process::Abort;
 

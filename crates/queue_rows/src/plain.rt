@@ -5,7 +5,7 @@ use crate::same;
 use crate::text::bytes_of;
 use nsq_base::Bodies;
 use nsq_fakes::MemFolder;
-use queue_plain::{Found, found_queue};
+use path_plain::{Found, found_queue};
 use std::alloc::Global;
 use std::process::Abort;
 

@@ -1,10 +1,10 @@
 //! A connection in memory that takes few bytes at a time, and whose reads and writes are watched.
 
 use crate::lists::push;
+use crate::scripts::{Trace, pieces_of};
 use crate::text::{number, unknown};
 use nsq_fakes::MemConn;
 use nsq_outside::{Conn, Read, Sink, Source, Write, get, put};
-use session_scripts::{Trace, pieces_of};
 use std::alloc::Global;
 use std::process::Abort;
 use std::sync::Wait;

@@ -19,6 +19,8 @@ mod lists;
 #[cfg(test)]
 mod rows;
 #[cfg(test)]
+mod scripts;
+#[cfg(test)]
 mod session;
 #[cfg(test)]
 mod tables;

@@ -1,7 +1,7 @@
-use http_plain::{Plain, request_of};
 use http_wire::{GotRequest, RequestReader};
 use std::alloc::Global;
 use std::process::Abort;
+use streams_plain::{Plain, request_of};
 
 /// How many bytes a row may have to be cut at each place.
 const SHORT: usize = 700;

@@ -5,11 +5,11 @@
 use crate::http::pieces::is_read;
 use crate::same;
 use crate::text::{check_row, cut, number_of, rows_of};
-use http_plain::{Plain, request_of};
 use http_wire::Request;
 use nsq_base::Pair;
 use std::alloc::Global;
 use std::process::Abort;
+use streams_plain::{Plain, request_of};
 
 /// Appends such bytes, so many times.
 fn append(rt: &impl Abort, bytes: &mut Vec<u8>, run: &'static [u8]) {

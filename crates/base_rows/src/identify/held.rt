@@ -5,7 +5,7 @@
 use crate::identify::{read, refused, shapes};
 use crate::same;
 use crate::text::{check_row, cut, is_first, number_of, rows_of};
-use broker_plain::{Phase, reply};
+use broker_state::{Phase, reply};
 use negotiation::{Identity, identify_reply, read_identity};
 use nsq_base::{Body, Options};
 use std::alloc::Global;

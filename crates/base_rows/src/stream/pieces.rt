@@ -9,8 +9,8 @@ use crate::stream::streams::rest_of;
 use crate::text::{check_row, cut, number_of, rows_of, text_of};
 use std::alloc::Global;
 use std::process::Abort;
+use streams_plain::script_of;
 use v2_frame::{Limits, Rest};
-use v2_plain::script_of;
 
 static ROWS: &[u8] = b"\
 a body of forty pieces of a hundred bytes, and the fault behind it, which stays^4000^feed:  V2PUB t\n\0\0\x0f\xa0;feed-pieces:40 100;\

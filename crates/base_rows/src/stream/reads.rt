@@ -1,8 +1,8 @@
 use crate::same;
 use std::alloc::Global;
 use std::process::Abort;
+use streams_plain::script_of;
 use v2_frame::{Command, Got, Limits, Reader, Rest};
-use v2_plain::script_of;
 
 /// A reader, and the commands that it gave.
 #[derive(Drop)]

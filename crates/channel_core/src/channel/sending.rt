@@ -15,7 +15,7 @@ ghost use Rattle.channel_core.specs.Drawing.{Draws, DrawFails, Drew, IsDrawnFor,
 use super::Channel;
 use crate::{Drawn, Next, Sending};
 use backlog::Drawn as FromBacklog;
-use channel_copies::{Flight, is_used_up};
+use channel_copies::Flight;
 use nsq_base::{Memory, Steps};
 use nsq_outside::Folder;
 use std::mem;
@@ -193,7 +193,7 @@ impl Channel {
     {
         let in_flight = self.flights.count(client) as u64;
         let ready = u64::from(self.clients.get(client).ready);
-        is_used_up(ready, in_flight)
+        ready <= in_flight
     }
 
     // Whether no copy is queued.

@@ -1,7 +1,7 @@
 //! What happens, as entries of the broker's history.
 
 use broker_history::{Act, Ask, Entry, Said};
-use broker_plain::{Phase, reply};
+use broker_state::{Phase, reply};
 use nsq_base::Options;
 use std::alloc::Global;
 use std::process::Abort;

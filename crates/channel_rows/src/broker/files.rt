@@ -5,7 +5,7 @@ use broker_state::State;
 use nsq_base::{Body, Options};
 use nsq_fakes::MemFolder;
 use nsq_outside::{Folder, Listing};
-use queue_plain::NamedFile;
+use path_plain::NamedFile;
 use std::alloc::Global;
 use std::process::Abort;
 

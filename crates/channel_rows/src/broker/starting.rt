@@ -1,8 +1,7 @@
 //! The states that runs begin with.
 
 use crate::stage::{FIRST_TIME, SECOND_TIME};
-use broker_plain::Phase;
-use broker_state::{ChannelState, Client, Route, State, TopicState};
+use broker_state::{ChannelState, Client, Phase, Route, State, TopicState};
 use nsq_base::{Body, Chan, Options, Topic};
 use std::alloc::Global;
 use std::process::Abort;

@@ -15,7 +15,7 @@ use std::alloc::Global;
 
 /// Opening.
 impl Queue {
-    /// The queue that a folder has under that name: the list that `queue_plain::found_queue` finds. Makes all room that the other calls
+    /// The queue that a folder has under that name: the list that `path_plain::found_queue` finds. Makes all room that the other calls
     /// need.
     ///
     /// Without metadata every data file of the name gets `.bad` added to its name. With metadata those above the write file and those that

@@ -3,11 +3,11 @@
 use super::lines::{ANSWERS, CALLS, SENT, pieces_in};
 use super::served::{check, has_letters, let_floor_go};
 use crate::conn::{Fails, conn_of};
+use crate::scripts::{Trace, floor_of, serve_by};
 use crate::text::{column, spread};
 use nsq_fakes::MemConn;
 use nsq_outside::{Conn, Faults, Read, Sink, Source, Write, get};
 use nsq_system::Outbox;
-use session_scripts::{Trace, floor_of, serve_by};
 use std::alloc::Global;
 use std::io;
 use std::process::Abort;

@@ -5,7 +5,7 @@ use crate::made::{check, let_files_go, let_names_go, let_state_go, same};
 use broker_files::{FoundNames, kept_names, names_text};
 use broker_state::{State, queued};
 use nsq_base::Options;
-use queue_plain::NamedFile;
+use path_plain::NamedFile;
 use std::alloc::Global;
 use std::process::Abort;
 

@@ -1,6 +1,6 @@
 use Rattle.std.proofs.Common.{◌≡◌, ◌≤◌, length, IsSome}
 use Rattle.backlog.specs.declared.backlog.Lent.TheVariants.{Nothing}
-use Rattle.backlog_writing.specs.Putting.{KeepsDisk, around}
+use Rattle.channel_copies.specs.Putting.{KeepsDisk, around}
 use Rattle.channel_copies.specs.Storing.{Stores, deferred_messages}
 use Rattle.channel_copies.proofs.Wrote.{Spends}
 use Rattle.channel_copies.proofs.writing.write_deferred.Given as goal

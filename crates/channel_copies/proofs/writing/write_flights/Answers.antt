@@ -1,7 +1,7 @@
 use Rattle.std.proofs.Common.{List, length, refl, sym, ap, subst, ◌∙◌, arith}
 use Rattle.channel_copies.specs.declared.flight.Flight.{Flight}
 use Rattle.channel_copies.specs.Flights.{CostsCalls, Flying}
-use Rattle.backlog_writing.specs.Putting.{around}
+use Rattle.channel_copies.specs.Putting.{around}
 use Rattle.channel_copies.proofs.Counts.{shorter}
 use Rattle.channel_copies.specs.Storing.{Stores, flying_messages}
 use Rattle.channel_copies.proofs.Wrote.{keeps_joined, keeps_none, rose_later, same_there, spends_all, spends_next, spends_none, stores_next, stores_none, when_none, flying_less}

@@ -4,7 +4,7 @@ use Rattle.path_opening.specs.Opening.{HaveBytes}
 use Rattle.daemon_run.specs.Endings.{IsCaused, IsComplete}
 use Rattle.daemon_run.specs.Runs.{Runs}
 use Rattle.daemon_run.specs.Sights.{sight_of}
-use Rattle.daemon_run.specs.declared.ending.ServeEnd.TheVariants.{AcceptFailed}
+use Rattle.daemon_endings.specs.declared.serving.ServeEnd.TheVariants.{AcceptFailed}
 use Rattle.daemon_run.proofs.Asking.{starts_keep, failed_asked, failed_lines, done_keep, done_starts, done_asked, done_lines, failed_wider}
 use Rattle.daemon_run.proofs.Causes.{completes_told}
 use Rattle.daemon_run.proofs.Sighting.{both_same, both_then, kept_faults, lent_caused, lent_faults, lent_runs}

@@ -1,8 +1,9 @@
 use Rattle.std.proofs.Common.{◌≡◌, inl, inr, ◌∙◌, ap, subst, sym, refl}
 use Rattle.std.specs.Prelude.{◌⊎◌}
-use Rattle.daemon_run.specs.Endings.{IsCaused, status_of}
+use Rattle.daemon_endings.specs.Endings.{status_of}
+use Rattle.daemon_run.specs.Endings.{IsCaused}
 use Rattle.daemon_run.specs.Sights.{counts_of, sight}
-use Rattle.daemon_run.specs.declared.ending.ServeEnd.TheVariants as end
+use Rattle.daemon_endings.specs.declared.serving.ServeEnd.TheVariants as end
 use Rattle.daemon_run.proofs.Asking.{same_callers}
 use Rattle.daemon_run.proofs.Causes.{refused_caused, refused_ends, refused_unfailed}
 use Rattle.daemon_run.proofs.Opening.{opened, stood}

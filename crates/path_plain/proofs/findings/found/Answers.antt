@@ -1,5 +1,5 @@
 use Rattle.std.proofs.Common.{◌<◌, sym, ap, subst, ◌∙◌, arith}
-use Rattle.queue_plain.specs.Folders.{files_of}
+use Rattle.path_plain.specs.Folders.{files_of}
 use Rattle.path_image.specs.Data.{Kept, IsNames, last_epoch}
 use Rattle.path_image.specs.Found.{IsFound, Names}
 use Rattle.path_image.specs.Found.IsFound.{fresh, spoilt, spent}

@@ -1,4 +1,4 @@
-use Rattle.queue_plain.specs.Folders.{files_of}
+use Rattle.path_plain.specs.Folders.{files_of}
 use Rattle.path_image.specs.Found.{FindsChannel}
 use Rattle.path_plain.proofs.FindingLemmas.{pairwise_next, pairwise_all, bad_channel_at}
 use Rattle.path_plain.proofs.findings.found_channels.Goals as goal

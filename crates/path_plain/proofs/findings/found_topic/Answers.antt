@@ -1,5 +1,5 @@
 use Rattle.std.proofs.Common.{◌∙◌, ap}
-use Rattle.queue_plain.specs.Folders.{files_of}
+use Rattle.path_plain.specs.Folders.{files_of}
 use Rattle.path_image.specs.Data.{KeptTopic}
 use Rattle.path_plain.proofs.FindingLemmas.{bad_of_channel}
 use Rattle.path_plain.proofs.findings.found_topic.Goals as goal

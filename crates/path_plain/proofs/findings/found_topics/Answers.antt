@@ -1,4 +1,4 @@
-use Rattle.queue_plain.specs.Folders.{files_of}
+use Rattle.path_plain.specs.Folders.{files_of}
 use Rattle.path_image.specs.Found.{FindsTopic}
 use Rattle.path_plain.proofs.FindingLemmas.{pairwise_next, pairwise_all, bad_topic_at}
 use Rattle.path_plain.proofs.findings.found_topics.Goals as goal

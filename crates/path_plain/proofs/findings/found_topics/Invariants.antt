@@ -1,5 +1,5 @@
 use Rattle.std.proofs.Common.{take}
-use Rattle.queue_plain.specs.Folders.{files_of}
+use Rattle.path_plain.specs.Folders.{files_of}
 use Rattle.path_image.specs.Found.{Pairwise, FindsTopic}
 use Rattle.path_plain.proofs.findings.found_topics.Given as goal
 

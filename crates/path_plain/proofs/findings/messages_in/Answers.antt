@@ -1,4 +1,4 @@
-use Rattle.queue_plain.specs.Folders.{files_of}
+use Rattle.path_plain.specs.Folders.{files_of}
 use Rattle.path_plain.proofs.FindingLemmas.{found_least}
 use Rattle.path_plain.proofs.findings.messages_in.Goals as goal
 

@@ -5,7 +5,7 @@ use Rattle.backlog.specs.Seen.{FitsLimit}
 use Rattle.broker_history.specs.Channels.{AsOften}
 use Rattle.channel_copies.specs.Deferred.{Deferring, FirstWentBack, waiting_in, waiting_of}
 use Rattle.channel_copies.specs.Flights.{CostsCalls}
-use Rattle.backlog_writing.specs.Putting.{around}
+use Rattle.channel_copies.specs.Putting.{around}
 use Rattle.channel_copies.proofs.Counts.{all-in}
 use Rattle.channel_copies.proofs.Heaps.{one_of_two, two_calls, fewer, some_first, some_popped, if_some, on_some, popped_first, popped_leaves, popped_short, told_at, waits_again, taken_by}
 use Rattle.channel_copies.proofs.deferred.Deferred.move_back.Goals as goal

@@ -5,7 +5,7 @@ use Rattle.v2_frame.specs.declared.message.Message.{Message}
 use Rattle.backlog.specs.Seen.{FitsLimit}
 use Rattle.broker_history.specs.Channels.{AsOften}
 use Rattle.channel_copies.specs.Flights.{Flying, WentBack, CostsCalls, flights_of_id}
-use Rattle.backlog_writing.specs.Putting.{around}
+use Rattle.channel_copies.specs.Putting.{around}
 use Rattle.channel_copies.proofs.Heaps.{one_of_two, two_calls, fewer, taken_by}
 use Rattle.channel_copies.specs.Index.{items_of}
 use Rattle.channel_copies.proofs.Counts.{on_present}

@@ -8,4 +8,4 @@ pub get-requires : goal.get-requires
 get-requires c = subst (λ (v : Seen). IsSome (client_of v.clients c.args.client)) (sym c.self.view_is) c.requires
 
 pub returns : goal.returns
-returns c = λ waits. by_credit c.args.client _ _ c.is_used_up.result c.get.result c.args.self.now waits c.self.view_is c.get.ensures.value c.from-ready.ensures c.count-in_flight.ensures c.is_used_up.ensures
+returns c = λ waits. by_credit c.args.client _ _ c.get.result c.args.self.now waits c.self.view_is c.get.ensures.value c.from-ready.ensures c.count-in_flight.ensures

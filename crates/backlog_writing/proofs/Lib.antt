@@ -1,3 +1,0 @@
-pub mod Capacity
-pub mod Counting
-pub mod Written

@@ -1,6 +1,0 @@
-pub mod Asked
-pub mod Dues
-pub mod Plans
-pub mod Stats
-pub use Rattle.floor_replies.specs.Replies
-pub use Rattle.channel_core.specs.Seen

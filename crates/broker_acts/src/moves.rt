@@ -82,11 +82,12 @@ fn by_took(
     message: &Message,
     names: &Names,
 ) -> Result<Vec<State>, Memory> {
-    let mut states = Vec::new(alloc);
     let Some(topic) = state.topic_of(name) else {
-        return Ok(states);
+        return Ok(Vec::new(alloc));
     };
-    for topic in took(alloc, topic, message, names)? {
+    let topics = took(alloc, topic, message, names)?;
+    let mut states = Vec::new(alloc);
+    for topic in topics {
         put_made(&mut states, at_topic(alloc, state, topic))?;
     }
     Ok(states)
@@ -193,8 +194,9 @@ pub(crate) fn at_channel(
     topic: &TopicState,
     channels: Result<Vec<ChannelState>, Memory>,
 ) -> Result<Vec<State>, Memory> {
+    let channels = channels?;
     let mut states = Vec::new(alloc);
-    for channel in channels? {
+    for channel in channels {
         put_made(&mut states, with_channel(alloc, state, topic, channel))?;
     }
     Ok(states)

@@ -4,6 +4,8 @@ use Rattle.std.specs.List.{find}
 use Rattle.std.proofs.Math.Seq.{take-suc}
 use Rattle.std.proofs.lemmas.List.{take-append-drop}
 use Rattle.std.proofs.lemmas.List.Folds.{find-append}
+use Rattle.std.specs.List.{filter}
+use Rattle.broker_state.proofs.Order.{filter_in, filter_out}
 
 -- the elements up to a place, and the one there
 pub take_next : {X : Type 0} (xs : List X) (i : ℕ) (d : X) → i < length xs → take (i + 1) xs ≡ take i xs ++ get_or xs i d ∷ []
@@ -26,3 +28,12 @@ find_hit p xs i d x l e s f =
 -- a copy of the next element joins the copies of those before it
 pub copied_more : {X : Type 0} (xs : List X) (i : ℕ) (d item copy : X) (old new : List X) → i < length xs → item ≡ get_or xs i d → old ≡ take i xs → copy ≡ item → new ≡ old ++ copy ∷ [] → new ≡ take (i + 1) xs
 copied_more xs i d item copy old new l is e f m = m ∙ ap (λ ys. ys ++ copy ∷ []) e ∙ ap (λ y. take i xs ++ y ∷ []) (f ∙ is) ∙ sym (take_next xs i d l)
+
+-- a copy of one more is kept, or it is passed over
+pub keeps : {X : Type 0} (p : X → Bool) (xs : List X) (i : ℕ) (d x copy : X) (old new : List X) → i < length xs → old ≡ filter p (take i xs) → x ≡ get_or xs i d → p x ≡ true → copy ≡ x → new ≡ old ++ copy ∷ []
+    → new ≡ filter p (take (i + 1) xs)
+keeps p xs i d x copy old new l e s t f m =
+    m ∙ ap (λ ys. ys ++ copy ∷ []) e ∙ ap (λ y. filter p (take i xs) ++ y ∷ []) (f ∙ s) ∙ sym (filter_in p (take i xs) (get_or xs i d) (ap p (sym s) ∙ t)) ∙ ap (filter p) (sym (take_next xs i d l))
+
+pub leaves : {X : Type 0} (p : X → Bool) (xs : List X) (i : ℕ) (d x : X) (old : List X) → i < length xs → old ≡ filter p (take i xs) → x ≡ get_or xs i d → p x ≡ false → old ≡ filter p (take (i + 1) xs)
+leaves p xs i d x old l e s f = e ∙ sym (filter_out p (take i xs) (get_or xs i d) (ap p (sym s) ∙ f)) ∙ ap (filter p) (sym (take_next xs i d l))

@@ -127,9 +127,9 @@ impl State {
         ensures { IfOk result (λ state. state ≡ self.now) }
     {
         let began = Vec::from_slice(alloc, &self.began)?;
-        let options = self.options.copy(alloc)?;
         let clients = copy_each(alloc, &self.clients)?;
         let topics = copy_each(alloc, &self.topics)?;
+        let options = self.options.copy(alloc)?;
         Ok(self.with_parts(options, began, clients, topics))
     }
 

@@ -161,9 +161,9 @@ impl TopicState {
     pub fn copy(&self, alloc: Global) -> Result<TopicState, Memory>
         ensures { IfOk result (λ topic. topic ≡ self.now) }
     {
-        let taken = copy_taken(alloc, &self.taken)?;
         let waiting = copy_each(alloc, &self.waiting)?;
         let channels = copy_each(alloc, &self.channels)?;
+        let taken = copy_taken(alloc, &self.taken)?;
         Ok(self.with_parts(waiting, taken, channels))
     }
 

@@ -45,8 +45,8 @@ pub fn led_to(
 
 // A copy of a state, alone in a list.
 fn one(alloc: Global, state: &State) -> Result<Vec<State>, Memory> {
-    let mut states = Vec::new(alloc);
-    states.push(state.copy(alloc)?)?;
+    let mut states = Vec::with_capacity(alloc, 1)?;
+    states.push_reserved(state.copy(alloc)?);
     Ok(states)
 }
 

@@ -5,3 +5,5 @@ mod BatchLemmas
 mod LineLemmas
 mod InfoLemmas
 mod AskLemmas
+mod AppendLemmas
+mod PublishLemmas

@@ -3,3 +3,4 @@ pub mod Heads
 pub mod Listed
 pub mod Lists
 pub mod NameLists
+pub mod Rows

@@ -1,5 +1,5 @@
 -- A walk over files that are given as a list.
-use Rattle.std.proofs.Common.{◌≡◌, ◌≢◌, ℕ, ◌+◌, ◌^◌, ◌<◌, ◌≤◌, Bool, true, false, cond, List, [], ◌∷◌, ◌++◌, length, take, get_or, Option, Some, None, refl, sym, ◌∙◌, ap, subst, inl, inr, arith, Result, Ok, Err, IfOk}
+use Rattle.std.proofs.Common.{◌≡◌, ◌≢◌, ℕ, ◌+◌, ◌^◌, ◌<◌, ◌≤◌, Bool, true, false, cond, List, [], ◌∷◌, ◌++◌, length, take, get_or, Option, Some, None, refl, sym, ◌∙◌, ap, subst, inl, inr, arith, append_assoc, Result, Ok, Err, IfOk}
 use Rattle.std.proofs.lemmas.List.{take_more}
 use Rattle.std.proofs.lemmas.Slice.Eq.{bytes_eq-Decides}
 use Rattle.std.specs.Str.{bytes_eq}
@@ -82,3 +82,7 @@ walk_is_found least limit files name text depth p (Ok FoundBadMeta) e i apart w 
 walk_is_found least limit files name text depth p (Ok (FoundRecords listing)) e i apart w =
     walked text (record { depth = depth; positions = p }) e i (elim (behind_or_end least limit p i.ordered) [ inl at ↦ absurd (apart at) | inr behind ↦ behind ]) w
 walk_is_found least limit files name text depth p (Err _) e i apart w = tt
+
+-- one more body behind those that joined a list
+pub joins_more : (old more bodies bodies' : List (List ℕ)) (body : List ℕ) → bodies ≡ old ++ more → bodies' ≡ bodies ++ body ∷ [] → bodies' ≡ old ++ (more ++ body ∷ [])
+joins_more old more bodies bodies' body is next = next ∙ ap (λ (x : List (List ℕ)). x ++ body ∷ []) is ∙ append_assoc old more (body ∷ [])

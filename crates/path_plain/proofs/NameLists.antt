@@ -1,9 +1,10 @@
 -- A list of the file of names, read item by item.
 use Rattle.std.proofs.Common.{◌≡◌, ◌≢◌, ℕ, ◌+◌, ◌<◌, Bool, true, false, not, List, [], ◌∷◌, ◌++◌, length, map, take, drop, get_or, suc, append_assoc, length-append, Option, Some, None, option_map, option_and_then, codes, refl, sym, ap, subst, ◌∙◌, arith}
-use Rattle.std.specs.List.{AllPairs, filter, list_any}
+use Rattle.std.specs.List.{AllPairs, filter, fold, list_any}
 use Rattle.std.specs.Str.{bytes_eq}
 use Rattle.std.proofs.lemmas.List.{map_more, map-append, append-nil}
 use Rattle.std.proofs.lemmas.List.Elements.{filter-append}
+use Rattle.std.proofs.lemmas.List.Sums.{fold-append}
 use Rattle.std.proofs.lemmas.List.Folds.{list_any_at, Any-from_list_any}
 use Rattle.std.proofs.lemmas.List.Quantifiers.{all_pairs_push}
 use Rattle.std.proofs.lemmas.List.{get_or_append_left}
@@ -23,6 +24,10 @@ use Rattle.path_plain.proofs.Lists.{parts_at}
 
 true_false : {A : Type 0} → true ≡ false → A
 true_false e = cc
+
+-- what is made of one element more
+pub fold_next : {A B : Type 0} (f : B → A → B) (from : B) (xs : List A) (x : A) (old new : B) → old ≡ fold f from xs → new ≡ f old x → new ≡ fold f from (xs ++ x ∷ [])
+fold_next f from xs x old new is next = next ∙ ap (λ b. f b x) is ∙ sym (fold-append f from xs (x ∷ []))
 
 -- what a filter keeps of one more element
 pub filter_in : {X : Type 0} (p : X → Bool) (xs : List X) (x : X) → p x ≡ true → filter p (xs ++ x ∷ []) ≡ filter p xs ++ x ∷ []

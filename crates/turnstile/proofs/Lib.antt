@@ -1,3 +1,4 @@
 pub mod Fronts
 pub mod Keeps
 pub mod Points
+pub mod Taking

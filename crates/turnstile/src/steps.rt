@@ -175,7 +175,8 @@ impl<S: Stands> Turnstile<S> {
         requires away { other.me.0.turn ≡ 0 }
         ensures same { IsSameSeat seat.old seat.new × (seat.new.me.1 ≡ seat.old.me.1) }
         ensures view { seat.new.me.0 ≡ absorbing seat.old.me.0 other.me.0 }
-        ensures knows { Knows S.number S.is_common seat.new.me.0 }
+        ensures both { BeginsWith seat.new.me.0.seen seat.old.me.0.seen × BeginsWith seat.new.me.0.seen other.me.0.seen }
+        ensures own { own S.number S.is_common seat.new.me.0.number seat.new.me.0.seen ≡ own S.number S.is_common seat.old.me.0.number seat.old.me.0.seen }
     {
         let shared = &self.table.shared;
         shared.join_seat::<Absorb>(seat, other);

@@ -18,7 +18,7 @@ static OPTIONS: [(&str, &str); 15] = [
     ),
     (
         "broadcast-address",
-        "the address that lookup daemons are told, 1 to 65536 bytes [default: 127.0.0.1]",
+        "the address that /info tells, 1 to 65536 bytes [default: 127.0.0.1]",
     ),
     ("data-path", "the folder of the queue files [default: .]"),
     (

@@ -4,6 +4,7 @@
 
 use daemon_main::{Ending, close, nsqd_run, status};
 use nsqd_host::SysHost;
+use std::alloc::Global;
 use std::env;
 use std::process::ExitCode;
 
@@ -16,12 +17,20 @@ fn main(rt: HostRuntime) -> ExitCode {
     let Ok(mut host) = SysHost::new(own, alloc) else {
         return ExitCode::from(status(Ending::Memory));
     };
-    let status = match env::args(&rt) {
-        Ok(words) => match words.collect::<Vec<String>>(alloc) {
-            Ok(words) => nsqd_run(&rt, alloc, &words, &mut host),
-            Err(_) => close(&rt, &mut host, Ending::Memory),
-        },
-        Err(_) => close(&rt, &mut host, Ending::BadOptions),
+    let status = match words_of(&rt, alloc) {
+        Ok(words) => nsqd_run(&rt, alloc, &words, &mut host),
+        Err(ending) => close(&rt, &mut host, ending),
     };
     ExitCode::from(status)
+}
+
+/// The words that the program was started with, or how it ends without them.
+fn words_of(rt: &HostRuntime, alloc: Global) -> Result<Vec<String>, Ending> {
+    let Ok(words) = env::args(rt) else {
+        return Err(Ending::BadOptions);
+    };
+    match words.collect::<Vec<String>>(alloc) {
+        Ok(words) => Ok(words),
+        Err(_) => Err(Ending::Memory),
+    }
 }

@@ -15,7 +15,7 @@ mod saving;
 use crate::Depths;
 use circular_buffer::HeapCircularBuffer;
 use disk_queue::{Open, Queue, QueueOptions};
-use nsq_base::Memory;
+use nsq_core::Memory;
 use nsq_outside::Folder;
 use std::alloc::Global;
 use std::marker::Model;

@@ -17,7 +17,7 @@ mod reading;
 
 use crate::standing::{LastSave, Staged};
 use crate::{Put, QueueOptions, Stage, Sync};
-use nsq_base::Memory;
+use nsq_core::Memory;
 use nsq_outside::{Did, Folder};
 use queue_image::{LAST_FILE, Positions};
 use queue_opening::QueueFiles;

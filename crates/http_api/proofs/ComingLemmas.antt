@@ -2,7 +2,7 @@
 use Rattle.std.proofs.Common.{◌≡◌, ◌≢◌, ℕ, ◌<◌, ◌≤◌, Bool, true, false, List, [], ◌∷◌, ◌++◌, length, take, refl, sym, ap, subst, ◌∙◌, append_assoc, Some, Result, Ok, Err, OnOk, is_err, arith}
 use Rattle.std.proofs.lemmas.List.{append-nil}
 use Rattle.std.proofs.Math.Seq.{take-append_seam}
-use Rattle.nsq_base.specs.declared.memory.Memory.{Memory as NoMemory}
+use Rattle.nsq_core.specs.declared.memory.Memory.{Memory as NoMemory}
 use Rattle.nsq_base.specs.declared.options.Options.{Options}
 use Rattle.broker_history.specs.Entries.{History, own}
 use Rattle.broker_history.specs.Talk.{bytes_of, longest_piece}

@@ -1,6 +1,6 @@
 -- Bytes that are written in several goes.
 use Rattle.std.proofs.Common.{ℕ, Bool, true, false, ◌≡◌, ◌++◌, ◌+◌, ◌-◌, List, sym, ◌∙◌, ap, arith, take, drop, length, take-add, append_assoc, length-drop, take_all, refl, subst, inl, inr, [], Result, Ok, Err, OnOk, is_err}
-use Rattle.nsq_base.specs.declared.memory.Memory.{Memory as NoMemory}
+use Rattle.nsq_core.specs.declared.memory.Memory.{Memory as NoMemory}
 use Rattle.nsq_outside.specs.Causes.{Rose}
 use Rattle.http_wire.specs.Answer.{answer_bytes}
 use Rattle.http_calls.specs.declared.answer.HttpAnswer.{HttpAnswer}

@@ -1,6 +1,6 @@
 -- What a connection's turns note, and what they come to.
 use Rattle.std.specs.Prelude.{◌≡◌, ◌⊎◌, ℕ, Bool, true, false, [], ◌∷◌, ◌++◌, Result, Ok, Err}
-use Rattle.nsq_base.specs.declared.memory.Memory.{Memory as NoMemory}
+use Rattle.nsq_core.specs.declared.memory.Memory.{Memory as NoMemory}
 use Rattle.nsq_outside.specs.declared.journal.End.{End}
 use Rattle.broker_history.specs.declared.ask.Ask.{Ask}
 use Rattle.broker_history.specs.declared.entry.Entry.{Entry}

@@ -4,7 +4,7 @@ ghost use Rattle.http_asked.specs.Told.{told_answer};
 
 use broker_history::Said;
 use http_calls::{HttpAnswer, Refusal, answer_to};
-use nsq_base::Memory;
+use nsq_core::Memory;
 use std::alloc::Global;
 
 /// What came of what was asked.

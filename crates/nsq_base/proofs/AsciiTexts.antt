@@ -10,7 +10,7 @@ use Rattle.std.proofs.lemmas.List.Sums.{AllPass-from_list_all}
 use Rattle.std.proofs.lemmas.Slice.Eq.{ends_is}
 use Rattle.std.proofs.lemmas.Str.{IsAscii-append, IsUtf8-from_ascii}
 use Rattle.std.proofs.lemmas.Str.Ascii.{IsAscii-from_all}
-use Rattle.nsq_base.specs.Name.{is_name_byte, ephemeral_suffix, is_ephemeral, stem, IsName}
+use Rattle.nsq_core.specs.Name.{is_name_byte, ephemeral_suffix, is_ephemeral, stem, IsName}
 
 -- a byte that passes the test is below 128
 below_128 : (b : ℕ) → is_ascii b ≡ true → b < 128

@@ -2,7 +2,7 @@
 use Rattle.std.proofs.Common.{◌≡◌, ℕ, ◌-◌, List, ◌++◌, length, take, refl, sym, ap, subst, ◌∙◌}
 use Rattle.std.proofs.lemmas.List.{take_at}
 use Rattle.std.specs.Prelude.{replicate}
-use Rattle.nsq_base.specs.Name.{IsName}
+use Rattle.nsq_core.specs.Name.{IsName}
 use Rattle.nsq_base.specs.NameBuffers.{HoldsName, buffer_of}
 
 pub holds_name : (name buffer : List ℕ) (len : ℕ) → IsName name → buffer ≡ buffer_of name → len ≡ length name → HoldsName buffer len

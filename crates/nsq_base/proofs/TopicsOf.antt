@@ -8,7 +8,7 @@ use Rattle.std.proofs.lemmas.Slice.Eq.{bytes_eq-Decides}
 use Rattle.std.proofs.lemmas.List.{append-nil, append_assoc, set-get_or}
 use Rattle.std.proofs.lemmas.List.Elements.{All-nil, All-head, All-tail, All-weaker, filter_passes, All-same}
 use Rattle.nsq_base.proofs.PutBy.{parts_at, put_by-stands, other_from_order, Less-from_before, byte_order-flip, IsAscendingBy-put_by, All-put_by}
-use Rattle.nsq_base.specs.Name.{IsName}
+use Rattle.nsq_core.specs.Name.{IsName}
 use Rattle.nsq_base.specs.Names.{TopicList, topic_of, channels_of, with_topic, with_channel, with_channels, insert_name, is_before, AreChannels, IsInOrder}
 use Rattle.nsq_base.specs.Places.{StandsAt, BelongsAt}
 

@@ -1,7 +1,5 @@
 pub mod Address
-pub mod Decimal
 pub mod MsgId
-pub mod Name
 pub mod NameBuffers
 pub mod Names
 pub mod Options
@@ -9,3 +7,5 @@ pub mod Places
 pub mod Text
 pub mod Time
 pub mod Within
+pub use Rattle.nsq_core.specs.Decimal
+pub use Rattle.nsq_core.specs.Name

@@ -1,7 +1,7 @@
 -- How a name lies in a buffer of 64 bytes.
 use Rattle.std.specs.Prelude.{◌≡◌, ℕ, ◌-◌, List, ◌++◌, length, take, replicate}
 use Rattle.std.proofs.Common.{ap, sym, ◌∙◌}
-use Rattle.nsq_base.specs.Name.{IsName}
+use Rattle.nsq_core.specs.Name.{IsName}
 
 -- a buffer of 64 bytes begins with a name of this length, and has zeros behind it
 pub record HoldsName (buffer : List ℕ) (len : ℕ) : Type 0 where

@@ -1,7 +1,7 @@
 ghost use Rattle.std.specs.Prelude.{◌≡◌, [], ◌∷◌, IfOk, OnOk, OnErr, nat_eq};
 ghost use Rattle.std.specs.Cmp.{partial_equiv_from_equiv};
 ghost use Rattle.std.specs.Cmp.Lexicographic.{pointwise, lists_equiv, nat_list_eq_equiv};
-ghost use Rattle.nsq_base.specs.Name.{IsName};
+ghost use Rattle.nsq_core.specs.Name.{IsName};
 ghost use Rattle.nsq_base.specs.Names.{insert_name, AreChannels};
 ghost use Rattle.nsq_base.specs.Places.{IsPlaceOf};
 

@@ -5,7 +5,7 @@ ghost use Rattle.std.specs.Cmp.Lexicographic.{pointwise, slice_cmp, nat_list_eq_
 ghost use Rattle.std.specs.Cmp.Rules.{hashing};
 ghost use Rattle.std.specs.Hash as fed;
 ghost use Rattle.std.proofs.Common.{rules};
-ghost use Rattle.nsq_base.specs.Name.{is_name_byte, stem, IsEphemeral, IsName};
+ghost use Rattle.nsq_core.specs.Name.{is_name_byte, stem, IsEphemeral, IsName};
 ghost use Rattle.nsq_base.specs.NameBuffers.{buffer_of};
 
 use std::cmp::Ordering;

@@ -2,7 +2,7 @@ ghost use Rattle.std.specs.Prelude.{◌≡◌, ◌<◌, [], length, slice_get, S
 ghost use Rattle.std.specs.Cmp.{partial_equiv_from_equiv, and_equiv, on_equiv};
 ghost use Rattle.std.specs.Cmp.Lexicographic.{pointwise, lists_equiv, nat_list_eq_equiv};
 ghost use Rattle.std.specs.Ordering.{on, eq_of_both};
-ghost use Rattle.nsq_base.specs.Name.{IsName};
+ghost use Rattle.nsq_core.specs.Name.{IsName};
 ghost use Rattle.nsq_base.specs.Names.{topic_of, channels_in, topics_of, channel_lists_of, with_channels, with_topic, with_channel, AreChannels, IsInOrder};
 ghost use Rattle.nsq_base.specs.Places.{BelongsAt, IsPlaceOf};
 

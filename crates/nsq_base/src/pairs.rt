@@ -4,7 +4,7 @@ ghost use Rattle.std.specs.Cmp.Rules.{comparing};
 ghost use Rattle.std.specs.Ordering.{on, eq_of_both};
 ghost use Rattle.std.proofs.Common.{rules};
 
-use crate::memory::put_last;
+use crate::lists::put_last;
 use crate::{Body, Memory};
 use std::alloc::Global;
 use std::marker::Model;

@@ -1,5 +1,5 @@
 ghost use Rattle.std.specs.Prelude.{◌≡◌, ◌↔◌, IsTrue, SomeIff};
-ghost use Rattle.nsq_base.specs.Name.{IsEphemeral, IsName};
+ghost use Rattle.nsq_core.specs.Name.{IsEphemeral, IsName};
 
 use crate::name::Name;
 use std::marker::Model;
@@ -13,7 +13,7 @@ pub struct Topic {
 
 impl Model for Topic {
     ghost use Rattle.std.specs.Prelude.{ℕ, List};
-    ghost use Rattle.nsq_base.specs.Name.{IsName};
+    ghost use Rattle.nsq_core.specs.Name.{IsName};
 
     ghost Value = { List ℕ };
 

@@ -2,7 +2,7 @@ ghost use Rattle.std.specs.Prelude.{◌≡◌, List, Bool, IsTrue, true, false, 
 ghost use Rattle.nsq_outside.specs.declared.journal.End.{End};
 ghost use Rattle.nsq_outside.specs.Journals.{Notes};
 
-use nsq_base::Memory;
+use nsq_core::Memory;
 use std::alloc::Global;
 
 /// A value of which a copy can be made.

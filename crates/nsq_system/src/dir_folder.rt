@@ -6,7 +6,7 @@ ghost use Rattle.nsq_outside.specs.Files.{IsWithin, Appends, ListingFails, Listi
 
 use crate::answers::unless_absent;
 use crate::open_files::OpenFiles;
-use nsq_base::Memory;
+use nsq_core::Memory;
 use nsq_outside::{Did, Faults, Folder, Length, Listing, ReadAt};
 use std::alloc::Global;
 use std::io;

@@ -1,6 +1,6 @@
 ghost use Rattle.std.specs.Prelude.{◌≡◌, [], true, false, IsOk, None};
 
-use nsq_base::Memory;
+use nsq_core::Memory;
 use nsq_outside::{End, Journal};
 use std::alloc::Global;
 use std::marker::PhantomData;

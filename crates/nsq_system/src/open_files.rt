@@ -8,7 +8,7 @@ ghost use Rattle.std.specs.Str.{bytes_eq};
 use crate::answers::{PartRead, after_read};
 use crate::known_names::{KnownNames, add_to};
 use lru::LruCache;
-use nsq_base::Memory;
+use nsq_core::Memory;
 use std::alloc::{AllocError, Allocator, Global};
 use std::collections::BTreeSet;
 use std::fs::{DirEntry, FileType, OpenFile, OpenOptions};

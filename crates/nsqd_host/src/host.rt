@@ -2,7 +2,7 @@ ghost use Rattle.std.specs.Prelude.{◌≡◌, IfOk, IfSome, Some, true};
 ghost use Rattle.nsq_system.specs.Listeners.{has_http};
 
 use broker_history::Entry;
-use nsq_base::Memory;
+use nsq_core::Memory;
 use nsq_outside::{Accept, Dialer, Dialled, Did, Faults, Host, Kit};
 use nsq_system::{DirFolder, Forgetful, Listeners, SysClock, TcpConn, TcpDialer};
 use std::alloc::Global;

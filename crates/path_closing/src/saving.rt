@@ -12,7 +12,7 @@ ghost use Rattle.path_closing.specs.Closings.{HeldBehind, IsTextOf, KeepsNames, 
 use broker_floor::Floor;
 use broker_history::Entry;
 use names_file::{LONGEST_NAMES, NAMES, NAMES_TEMP, write_names};
-use nsq_base::Memory;
+use nsq_core::Memory;
 use nsq_outside::{Clock, Did, Folder, Journal};
 use std::alloc::Global;
 

@@ -2,7 +2,7 @@ ghost use Rattle.std.specs.Prelude.{◌≡◌, ◌+◌, ◌-◌, ◌≤◌, IfOk
 ghost use Rattle.queue_image.specs.FileNames.{data_file};
 
 use itoa::Buffer;
-use nsq_base::Memory;
+use nsq_core::Memory;
 use std::alloc::Global;
 use std::marker::Model;
 

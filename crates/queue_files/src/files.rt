@@ -10,7 +10,7 @@ ghost use Rattle.queue_files.specs.FileCalls.{WritesRecord, WritesBoth, Gone, On
 use crate::data_name::DataName;
 use crate::metadata;
 use crate::replace::replace_file;
-use nsq_base::Memory;
+use nsq_core::Memory;
 use nsq_outside::{Did, Folder, Length, ReadAt};
 use queue_image::{Positions, file_names};
 use std::alloc::Global;

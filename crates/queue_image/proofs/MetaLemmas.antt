@@ -3,7 +3,7 @@ use Rattle.std.proofs.Common.{◌≡◌, ℕ, ◌^◌, ◌<◌, List, ◌∷◌,
 use Rattle.std.proofs.lemmas.Fmt.{decimal_is_IsNumeral_wide, length-decimal-le_wide}
 use Rattle.std.specs.Fmt.{decimal}
 use Rattle.std.specs.Str.Parse.{digits_value}
-use Rattle.nsq_base.specs.Decimal.{IsDecimal}
+use Rattle.nsq_core.specs.Decimal.{IsDecimal}
 use Rattle.queue_image.specs.Answered.{DigitsLead, NumberLeads}
 use Rattle.queue_image.specs.Metas.{Meta, IsMeta, meta_text}
 use Rattle.queue_image.specs.Places.{IsOrdered, IsInRange}

@@ -1,7 +1,7 @@
 -- The metadata's text, field by field.
 use Rattle.std.proofs.Common.{◌≡◌, ℕ, ◌^◌, ◌<◌, List, [], ◌∷◌, ◌++◌, refl, sym, ◌∙◌, ap, inl, inr, arith, lit<}
 use Rattle.std.specs.Str.Parse.{digits_value}
-use Rattle.nsq_base.specs.Decimal.{IsDecimal}
+use Rattle.nsq_core.specs.Decimal.{IsDecimal}
 use Rattle.queue_image.specs.Places.{IsOrdered}
 use Rattle.queue_image.specs.Metas.{Meta, IsMeta}
 use Rattle.queue_image.specs.Answered.{DigitsLead, NumberLeads}

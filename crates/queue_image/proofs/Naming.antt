@@ -10,7 +10,7 @@ use Rattle.std.proofs.lemmas.Bool.{eqb-false}
 use Rattle.std.proofs.lemmas.List.Elements.{recursion_from_All}
 use Rattle.std.proofs.lemmas.Slice.Eq.{bytes_eq-Decides}
 use Rattle.std.specs.List.{AllByRecursion, AllPass}
-use Rattle.nsq_base.specs.Name.{IsName, is_name_byte, is_ephemeral, ephemeral_suffix}
+use Rattle.nsq_core.specs.Name.{IsName, is_name_byte, is_ephemeral, ephemeral_suffix}
 use Rattle.std.specs.Str.Parse.{IsNumeral, AllDigits, digits_value}
 use Rattle.queue_image.specs.FileNames.{file_digits, data_file, meta_file, meta_temp, set_aside, channel_queue, IsOwnFile, IsFileOf}
 use Rattle.queue_image.specs.FileNames.IsOwnFile.{numbered, metadata, written}

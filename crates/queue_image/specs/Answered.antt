@@ -1,7 +1,7 @@
 -- What the functions of this crate answer, by the cases of their results.
 use Rattle.std.specs.Prelude.{◌≡◌, ◌≢◌, ℕ, ◌^◌, ◌<◌, ◌≤◌, List, ◌∷◌, ◌++◌, length, Option, Some, None}
 use Rattle.std.specs.Str.Parse.{IsNumeral}
-use Rattle.nsq_base.specs.Decimal.{IsDecimal}
+use Rattle.nsq_core.specs.Decimal.{IsDecimal}
 use Rattle.queue_image.specs.FileNames.{data_file}
 use Rattle.queue_image.specs.Metas.{Meta, IsMeta}
 use Rattle.queue_image.specs.declared.positions.Positions.{Positions}

@@ -1,6 +1,6 @@
 -- How the files of a queue are called. The layout is go-diskqueue's.
 use Rattle.std.specs.Prelude.{◌≡◌, ℕ, ◌-◌, ◌^◌, ◌<◌, ◌⊎◌, List, ◌∷◌, ◌++◌, length, replicate, codes, decimal}
-use Rattle.nsq_base.specs.Name.{IsName}
+use Rattle.nsq_core.specs.Name.{IsName}
 
 -- a file's number in decimal, with zeros before it up to six digits
 abbrev pub file_digits : ℕ → List ℕ

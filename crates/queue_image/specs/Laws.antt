@@ -1,6 +1,6 @@
 -- What holds of the definitions, whatever the files.
 use Rattle.std.specs.Prelude.{◌≡◌, ◌≢◌, ℕ, ◌+◌, ◌^◌, ◌<◌, ◌≤◌, ◌↔◌, ◌⊎◌, List, [], ◌∷◌, ◌++◌, length, take, Option, Some}
-use Rattle.nsq_base.specs.Name.{IsName}
+use Rattle.nsq_core.specs.Name.{IsName}
 use Rattle.queue_image.specs.FileNames.{data_file, meta_file, meta_temp, set_aside, channel_queue, IsOwnFile, IsFileOf}
 use Rattle.queue_image.specs.Records.{HasRecord, record_bytes, IsSize, IsRow, IsDamaged}
 use Rattle.queue_image.specs.Places.{IsOrdered, IsInRange, part_start, part_end}

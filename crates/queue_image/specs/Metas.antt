@@ -1,6 +1,6 @@
 -- The text of a queue's metadata.
 use Rattle.std.specs.Prelude.{◌≡◌, ℕ, ◌⊎◌, List, [], ◌∷◌, ◌++◌, decimal, Option, Some, None}
-use Rattle.nsq_base.specs.Decimal.{IsDecimal}
+use Rattle.nsq_core.specs.Decimal.{IsDecimal}
 use Rattle.queue_image.specs.Places.{IsOrdered, IsInRange, IsAtEnd}
 use Rattle.queue_image.specs.declared.positions.Positions.{Positions}
 

@@ -3,7 +3,7 @@ ghost use Rattle.queue_image.specs.FileNames.{file_beginning, data_file, meta_fi
 ghost use Rattle.queue_image.specs.Answered.{NumbersFile, MayNumber};
 
 use crate::decimals::value_up_to;
-use nsq_base::Memory;
+use nsq_core::Memory;
 use std::alloc::Global;
 
 /// How the name of each file of a queue begins: `name.diskqueue.`.

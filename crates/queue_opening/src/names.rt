@@ -3,7 +3,7 @@ ghost use Rattle.nsq_outside.specs.Causes.{DidFails, DidCounts};
 ghost use Rattle.nsq_outside.specs.Files.{Renames};
 ghost use Rattle.queue_image.specs.FileNames.{data_file, set_aside};
 
-use nsq_base::Memory;
+use nsq_core::Memory;
 use nsq_outside::{Did, Folder};
 use queue_files::DataName;
 use std::alloc::Global;

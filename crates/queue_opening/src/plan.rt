@@ -9,7 +9,7 @@ ghost use Rattle.queue_opening.specs.Planned.{SaysWhere, IsUsable, SpoiltWhere, 
 
 use crate::Open;
 use crate::walking::{Walk, walk_files};
-use nsq_base::Memory;
+use nsq_core::Memory;
 use nsq_outside::{Folder, Length, Listing, ReadAt};
 use queue_files::{QueueFiles, QueueOptions};
 use queue_image::{LAST_FILE, Positions, file_names, read_meta};

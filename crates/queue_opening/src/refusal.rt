@@ -1,7 +1,7 @@
 ghost use Rattle.std.specs.Prelude.{◌≡◌};
 ghost use Rattle.queue_opening.specs.declared.refusal.Open.TheVariants.{Memory};
 
-use nsq_base::Memory;
+use nsq_core::Memory;
 use thiserror::Error;
 
 /// Why a queue wasn't opened.

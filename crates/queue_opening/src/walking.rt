@@ -8,7 +8,7 @@ ghost use Rattle.queue_opening.specs.Refusals.{OpenFails, OpenCounts, NotBadMeta
 ghost use Rattle.queue_opening.specs.Walked.{SizeIs, SizeFails, SizeCounts, StandsAt, StandsWithin, StandFails, StandCounts, RowGives, RowWithin, GivesOf, GivesWithin, GivesFails, GivesCounts, IsNextIn, HasRoomFor, WalkAdds, WalksUpTo, WalkFits, HasNumbers};
 
 use crate::Open;
-use nsq_base::Memory;
+use nsq_core::Memory;
 use nsq_outside::{Folder, ReadAt};
 use queue_files::{QueueFiles, QueueOptions, size_spelled};
 use queue_image::Positions;

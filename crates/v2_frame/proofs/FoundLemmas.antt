@@ -1,7 +1,7 @@
 -- What a line starts, and the verdict on it, as the judge finds it.
 use Rattle.std.proofs.Common.{◌≡◌, ℕ, ◌+◌, ◌<◌, ◌≤◌, List, ◌∷◌, ◌++◌, length, drop, Result, Ok, Err, refl, sym, ap, subst, ◌∙◌, arith}
 use Rattle.std.specs.Prelude.{IfOk, OnErr, MatchResult}
-use Rattle.nsq_base.specs.declared.memory.Memory.{Memory}
+use Rattle.nsq_core.specs.declared.memory.Memory.{Memory}
 use Rattle.v2_frame.specs.declared.command.Command.{Command}
 use Rattle.v2_frame.specs.declared.fault.FaultKind.{FaultKind}
 use Rattle.v2_frame.specs.declared.fault.FaultKind.TheVariants.{LineTooLong, BadWord, BadTopic, BadChannel}

@@ -1,6 +1,6 @@
 -- What a reader of a stream in pieces goes on from, and what it is still to give.
 use Rattle.std.specs.Prelude.{◌≡◌, ◌⊎◌, ℕ, ◌+◌, ◌-◌, ◌<◌, ◌≤◌, List, [], ◌++◌, length, take, drop, Result, Ok, Err}
-use Rattle.nsq_base.specs.declared.memory.Memory.{Memory}
+use Rattle.nsq_core.specs.declared.memory.Memory.{Memory}
 use Rattle.v2_frame.specs.declared.command.Command.{Command}
 use Rattle.v2_frame.specs.declared.fault.Fault.{Fault}
 use Rattle.v2_frame.specs.declared.fault.Limits.{Limits}

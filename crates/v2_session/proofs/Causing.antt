@@ -1,6 +1,6 @@
 -- How endings of a part of a round are those of the whole.
 use Rattle.std.proofs.Common.{◌≡◌, ℕ, ◌≤◌, Bool, sym, ap, subst, ◌∙◌, arith, List, Option, Some, None, unwrap_or, Result, Ok, Err}
-use Rattle.nsq_base.specs.declared.memory.Memory.{Memory as NoMemory}
+use Rattle.nsq_core.specs.declared.memory.Memory.{Memory as NoMemory}
 use Rattle.v2_frame.specs.declared.command.Command.{Command}
 use Rattle.v2_frame.specs.declared.got.Got.TheVariants as got
 use Rattle.v2_frame.specs.Reading.{Reading, Gives, IsFed}

@@ -1,7 +1,7 @@
 ghost use Rattle.std.specs.Prelude.{◌≡◌, length};
 ghost use Rattle.broker_history.specs.Talk.{longest_piece};
 
-use nsq_base::Memory;
+use nsq_core::Memory;
 use std::alloc::Global;
 
 /// The most bytes that one read takes.

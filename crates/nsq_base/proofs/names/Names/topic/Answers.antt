@@ -1,5 +1,5 @@
 use Rattle.std.proofs.Common.{◌<◌, List, ℕ, length, sym, subst}
-use Rattle.nsq_base.specs.Name.{IsName}
+use Rattle.nsq_core.specs.Name.{IsName}
 use Rattle.nsq_base.proofs.names.Names.topic.Goals as goal
 
 pub returns-clause-is_name : goal.returns-clause-is_name

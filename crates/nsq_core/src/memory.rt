@@ -1,10 +1,10 @@
-ghost use Rattle.std.specs.Prelude.{◌≡◌, [], ◌∷◌, ◌++◌, Some, OnOk, OnErr, codes};
+ghost use Rattle.std.specs.Prelude.{Some, codes};
 
 use std::alloc::{AllocError, AllocFailed};
 use std::error::Error;
 use std::fmt;
 
-/// Want of memory: an allocation was refused. The one error of this crate.
+/// Want of memory: an allocation was refused. The one error of most crates.
 #[derive(Clone, Copy, Debug)]
 pub struct Memory;
 
@@ -30,13 +30,4 @@ impl<T: Drop> From<AllocFailed<T>> for Memory {
     fn from(_refused: AllocFailed<T>) -> Memory {
         Memory
     }
-}
-
-/// Puts an item at the end of a list. After Memory the list is as before, and the item is dropped.
-pub(crate) fn put_last<T: Drop>(items: &mut Vec<T>, item: T) -> Result<(), Memory>
-    ensures ok { OnOk result (items.new.items ≡ items.old.items ++ item ∷ []) }
-    ensures err { OnErr result (items.new.items ≡ items.old.items) }
-{
-    items.push(item)?;
-    Ok(())
 }

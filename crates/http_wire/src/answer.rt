@@ -2,7 +2,6 @@ ghost use Rattle.std.specs.Prelude.{◌≡◌, ◌++◌, OnOk, OnErr};
 ghost use Rattle.http_wire.specs.Answer.{IsStatus, phrase_of, type_of, answer_of, answer_bytes};
 
 use crate::append::append_all;
-use http::StatusCode;
 use itoa::Buffer;
 use nsq_base::Memory;
 use std::alloc::Global;
@@ -62,17 +61,21 @@ fn append_answer<'a>(
     )
 }
 
-/// The phrase of a status.
+/// The phrase of a status (RFC 9110).
 fn phrase_of(status: u16) -> &'static [u8]
     requires { IsStatus status }
     ensures { result.now ≡ phrase_of status }
 {
-    let Ok(status) = StatusCode::from_u16(status) else {
-        return b"";
-    };
-    match status.canonical_reason() {
-        Some(phrase) => phrase.as_bytes(),
-        None => b"",
+    match status {
+        200 => b"OK",
+        400 => b"Bad Request",
+        404 => b"Not Found",
+        405 => b"Method Not Allowed",
+        411 => b"Length Required",
+        413 => b"Payload Too Large",
+        500 => b"Internal Server Error",
+        503 => b"Service Unavailable",
+        _ => b"",
     }
 }
 

@@ -5,10 +5,10 @@ use Rattle.nsq_outside.specs.Causes.{Rose}
 use Rattle.nsq_outside.specs.Files.{Files}
 use Rattle.path_image.specs.Found.{BadData, EpochSpent, Finding, Found, IsFound, Names}
 use Rattle.path_image.proofs.FindingOnce.{one_found}
-use Rattle.path_opening.specs.Opening.{HaveBytes, IsNamesFinding, IsWhy}
+use Rattle.data_path.specs.Opening.{HaveBytes, IsNamesFinding, IsWhy}
 use Rattle.daemon_endings.specs.declared.ends.Why.{Why}
 use Rattle.daemon_endings.specs.declared.ends.Why.TheVariants as why
-use Rattle.path_closing.specs.Closings.{ShutFails, WhereClean}
+use Rattle.data_path.specs.Closings.{ShutFails, WhereClean}
 use Rattle.daemon_endings.specs.declared.ends.ShutEnd.{ShutEnd}
 use Rattle.daemon_endings.specs.declared.ends.ShutEnd.TheVariants as shut
 use Rattle.daemon_endings.specs.declared.ends.LoopEnd.{LoopEnd}

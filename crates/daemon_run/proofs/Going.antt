@@ -11,15 +11,15 @@ use Rattle.broker_history.specs.Legal.{none}
 use Rattle.broker_history.specs.Moments.{starts}
 use Rattle.broker_history.proofs.Histories.{Legal-append}
 use Rattle.desk.specs.Calls.{has_began}
-use Rattle.path_closing.specs.Standing.{HoldsFor}
+use Rattle.data_path.specs.Standing.{HoldsFor}
 use Rattle.turn_laws.proofs.Laying.{timed_join}
 use Rattle.turn_laws.proofs.Faulting.{faults_join, stuck_join}
-use Rattle.path_closing.specs.Scenes.{Scene}
-use Rattle.path_closing.specs.Leads.{Leads, LedTo, Times}
-use Rattle.path_closing.specs.Held.{Held}
-use Rattle.path_closing.specs.Closings.{HeldBehind}
-use Rattle.path_closing.specs.declared.saving.Saved.{Saved}
-use Rattle.path_closing.specs.declared.saving.Saved.TheVariants as saved
+use Rattle.data_path.specs.Scenes.{Scene}
+use Rattle.data_path.specs.Leads.{Leads, LedTo, Times}
+use Rattle.data_path.specs.Held.{Held}
+use Rattle.data_path.specs.Closings.{HeldBehind}
+use Rattle.data_path.specs.declared.saving.Saved.{Saved}
+use Rattle.data_path.specs.declared.saving.Saved.TheVariants as saved
 use Rattle.daemon_run.specs.Going.{Went}
 
 -- one led to the next

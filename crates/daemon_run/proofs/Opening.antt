@@ -6,9 +6,9 @@ use Rattle.broker_history.specs.Entries.{History, own}
 use Rattle.broker_history.specs.Found.{start}
 use Rattle.broker_history.specs.Moments.{moment_of}
 use Rattle.desk.specs.Calls.{has_began}
-use Rattle.path_closing.specs.Standing.{HoldsFor}
-use Rattle.path_closing.specs.Scenes.{Scene, Stands}
-use Rattle.path_opening.specs.Opening.{OnlyOpeningFiles}
+use Rattle.data_path.specs.Standing.{HoldsFor}
+use Rattle.data_path.specs.Scenes.{Scene, Stands}
+use Rattle.data_path.specs.Opening.{OnlyOpeningFiles}
 use Rattle.daemon_run.specs.Sights.{Sight}
 use Rattle.daemon_run.proofs.Running.{Opened, Stood}
 

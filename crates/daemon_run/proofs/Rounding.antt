@@ -8,8 +8,8 @@ use Rattle.nsq_outside.specs.declared.host.Accept.TheVariants.{Caller}
 use Rattle.broker_history.specs.Entries.{History, own}
 use Rattle.broker_history.proofs.Own.{own-append}
 use Rattle.turn_laws.proofs.Laying.{turns_of}
-use Rattle.path_closing.specs.Scenes.{Scene}
-use Rattle.path_closing.specs.Leads.{Leads}
+use Rattle.data_path.specs.Scenes.{Scene}
+use Rattle.data_path.specs.Leads.{Leads}
 use Rattle.daemon_run.specs.Going.{Went}
 use Rattle.daemon_run.specs.Rounds.{Rounds, Ticks, ticks_of}
 use Rattle.daemon_callers.specs.Served.{HasServed, IsServed, OnlyCallersChange, UpTo, Views}

@@ -19,10 +19,10 @@ use Rattle.broker_history.proofs.Timing.{turns_read}
 use Rattle.turn_laws.specs.Laws.{IsOf, RoseBy}
 use Rattle.turn_laws.proofs.Faulting.{apart_few}
 use Rattle.turn_laws.proofs.Laying.{turns_of}
-use Rattle.path_closing.specs.Leads.{LedTo}
-use Rattle.path_closing.specs.Scenes.{Scene, Stands}
-use Rattle.path_opening.specs.Opening.{HaveBytes, OnlyOpeningFiles}
-use Rattle.path_closing.specs.Closings.{Leaves}
+use Rattle.data_path.specs.Leads.{LedTo}
+use Rattle.data_path.specs.Scenes.{Scene, Stands}
+use Rattle.data_path.specs.Opening.{HaveBytes, OnlyOpeningFiles}
+use Rattle.data_path.specs.Closings.{Leaves}
 use Rattle.daemon_run.specs.Going.{Went}
 use Rattle.daemon_run.specs.Rounds.{IsHalted, WhyOver, ticks_of}
 use Rattle.daemon_callers.specs.Served.{HasServed, UpTo, Views}

@@ -17,8 +17,8 @@ use Rattle.broker_history.specs.Moments.{HasReadings, IsTimed, moment_of}
 use Rattle.broker_history.specs.State.{State}
 use Rattle.turn_laws.specs.Laws.{RoseBy}
 use Rattle.turn_laws.proofs.Laying.{all_so}
-use Rattle.path_closing.specs.Closings.{Leaves}
-use Rattle.path_opening.specs.Opening.{FindsAgain, HaveBytes}
+use Rattle.data_path.specs.Closings.{Leaves}
+use Rattle.data_path.specs.Opening.{FindsAgain, HaveBytes}
 use Rattle.daemon_run.specs.Rounds.{IsHalted, ticks_of}
 use Rattle.daemon_callers.specs.Served.{UpTo, Views}
 use Rattle.daemon_run.specs.Asked.{StartsOnce}

@@ -3,7 +3,7 @@ use Rattle.std.specs.Prelude.{◌≡◌, ◌⊎◌, Bool, IsTrue}
 use Rattle.nsq_outside.specs.Causes.{Rose}
 use Rattle.nsq_outside.specs.Files.{Files}
 use Rattle.path_image.specs.Found.{BadData, EpochSpent, Finding, Found, IsFound, Names}
-use Rattle.path_opening.specs.Opening.{HaveBytes, IsNamesFinding}
+use Rattle.data_path.specs.Opening.{HaveBytes, IsNamesFinding}
 use Rattle.daemon_endings.specs.declared.serving.ServeEnd.{ServeEnd}
 use Rattle.daemon_endings.specs.declared.serving.ServeEnd.TheVariants as end
 use Rattle.daemon_run.specs.Sights.{Counts, NoFault}

@@ -1,9 +1,9 @@
 -- What turns of whatever numbers lead to, with the file of names saved between them.
 use Rattle.std.specs.Prelude.{◌≤◌, ℕ, Bool, IsTrue}
 use Rattle.broker_history.specs.State.{State}
-use Rattle.path_closing.specs.Scenes.{IsAt, Scene, Stands}
-use Rattle.path_closing.specs.Leads.{LedTo, Times}
-use Rattle.path_closing.specs.Closings.{ShutChanges}
+use Rattle.data_path.specs.Scenes.{IsAt, Scene, Stands}
+use Rattle.data_path.specs.Leads.{LedTo, Times}
+use Rattle.data_path.specs.Closings.{ShutChanges}
 
 -- what turns may lead to, of whatever numbers, where the journal tells, the folder tells and the clock tells: the entries that were noted are legal from
 -- each state that the floor stood for, to one that it stands for now, and have their moments from the readings that the turns made; no file changes but those

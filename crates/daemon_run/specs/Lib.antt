@@ -7,4 +7,4 @@ pub mod Callers
 pub mod Runs
 pub mod Parts
 pub use Rattle.daemon_callers.specs.Served
-pub use Rattle.path_opening.specs.Opening
+pub use Rattle.data_path.specs.Opening

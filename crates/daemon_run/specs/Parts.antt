@@ -6,10 +6,10 @@ use Rattle.nsq_outside.specs.Files.{Files}
 use Rattle.nsq_outside.specs.Hosts.{HostContent, HostState}
 use Rattle.broker_history.specs.Entries.{has_stop, History, own}
 use Rattle.broker_history.specs.State.{State}
-use Rattle.path_closing.specs.Standing.{HoldsFor}
-use Rattle.path_closing.specs.Leads.{Leads}
-use Rattle.path_closing.specs.Scenes.{Scene}
-use Rattle.path_closing.specs.Closings.{Leaves, ShutChanges, ShutFails, WhereClean}
+use Rattle.data_path.specs.Standing.{HoldsFor}
+use Rattle.data_path.specs.Leads.{Leads}
+use Rattle.data_path.specs.Scenes.{Scene}
+use Rattle.data_path.specs.Closings.{Leaves, ShutChanges, ShutFails, WhereClean}
 use Rattle.daemon_endings.specs.declared.ends.ShutEnd.{ShutEnd}
 use Rattle.daemon_run.specs.Rounds.{Rounds, WhyOver}
 use Rattle.daemon_callers.specs.Served.{Views}

@@ -4,7 +4,7 @@ use Rattle.nsq_base.specs.declared.options.Options.{Options}
 use Rattle.nsq_outside.specs.Causes.{Rose}
 use Rattle.nsq_outside.specs.Hosts.{HostContent}
 use Rattle.broker_history.specs.Entries.{History, has_stop, own}
-use Rattle.path_closing.specs.Scenes.{Scene}
+use Rattle.data_path.specs.Scenes.{Scene}
 pub use Rattle.daemon_tick.specs.Ticks.{IsTicked, Ticks, ticked_of, ticks_of}
 use Rattle.daemon_run.specs.Going.{Went}
 use Rattle.daemon_callers.specs.Served.{HasServed, OnlyCallersChange, UpTo, Views}

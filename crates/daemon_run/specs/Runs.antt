@@ -10,8 +10,8 @@ use Rattle.broker_history.specs.Legal.{Legal}
 use Rattle.broker_history.specs.Moments.{HasReadings, IsTimed, moment_of}
 use Rattle.broker_history.specs.State.{State}
 use Rattle.turn_laws.specs.Laws.{RoseBy}
-use Rattle.path_opening.specs.Opening.{FindsAgain, HaveBytes, OnlyOpeningFiles}
-use Rattle.path_closing.specs.Closings.{Leaves}
+use Rattle.data_path.specs.Opening.{FindsAgain, HaveBytes, OnlyOpeningFiles}
+use Rattle.data_path.specs.Closings.{Leaves}
 use Rattle.daemon_run.specs.Rounds.{IsHalted}
 use Rattle.daemon_callers.specs.Served.{Views}
 use Rattle.daemon_run.specs.Asked.{StartsOnce}

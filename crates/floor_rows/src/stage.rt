@@ -18,13 +18,12 @@ use crate::texts::{
 use backlog::Flushed;
 use broker_floor::Floor;
 use broker_history::Entry;
+use data_path::{Refused, Saved, ShutEnd, Why, open, save, shut};
 use desk::{Call, Turned};
 use names_file::{KeptChannel, KeptTopic};
 use nsq_base::Options;
 use nsq_fakes::{Failing, MemFolder};
 use nsq_outside::End;
-use path_closing::{Saved, ShutEnd, save, shut};
-use path_opening::{Refused, Why, open};
 use path_plain::NamedFile;
 use std::alloc::Global;
 use std::mem;

@@ -1,6 +1,6 @@
 use Rattle.std.proofs.Common.{◌≡◌, false}
 use Rattle.nsq_outside.specs.Hosts.{OnlyAcceptFaults}
-use Rattle.path_closing.specs.Floors.{flushed_of, scene_of}
+use Rattle.data_path.specs.Floors.{flushed_of, scene_of}
 use Rattle.daemon_run.specs.Rounds.{Rounds}
 use Rattle.daemon_callers.specs.Served.{views, AllTell}
 use Rattle.daemon_run.proofs.callers.serve_callers.Given as goal

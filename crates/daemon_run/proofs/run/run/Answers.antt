@@ -1,5 +1,5 @@
 use Rattle.std.proofs.Common.{◌∙◌, ap}
-use Rattle.path_closing.specs.Floors.{scene_of}
+use Rattle.data_path.specs.Floors.{scene_of}
 use Rattle.daemon_run.proofs.Causes.{parts}
 use Rattle.daemon_run.proofs.run.run.Goals as goal
 

@@ -1,6 +1,6 @@
 use Rattle.std.proofs.Common.{inl, refl, ap, arith}
 use Rattle.nsq_outside.specs.Hosts.{HostContent, HostState}
-use Rattle.path_opening.specs.Opening.{HaveBytes}
+use Rattle.data_path.specs.Opening.{HaveBytes}
 use Rattle.daemon_run.specs.Endings.{IsCaused, IsComplete}
 use Rattle.daemon_run.specs.Runs.{Runs}
 use Rattle.daemon_run.specs.Sights.{sight_of}

@@ -1,0 +1,12 @@
+pub mod Orders
+pub mod Finding
+pub mod Decoding
+pub mod Joining
+pub mod Idling
+pub mod Ending
+pub mod Texts
+pub mod Apart
+pub mod Named
+pub mod Leaving
+pub mod Storing
+pub use Rattle.broker_floor.proofs.Leading

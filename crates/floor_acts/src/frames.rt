@@ -1,6 +1,6 @@
 ghost use Rattle.std.specs.Prelude.{◌≡◌, ◌<◌, ◌≤◌, ◌+◌, ◌++◌, ◌^◌, length, IfOk};
 ghost use Rattle.broker_history.specs.Reply.{beat_frame, closes, error, leaves_open, message_frame, ok_frame, refusal, wrong_state};
-ghost use Rattle.floor_replies.specs.Replies.{IsShortFrame};
+ghost use Rattle.floor_acts.specs.Replies.{IsShortFrame};
 
 use nsq_base::{Body, Memory};
 use std::alloc::Global;

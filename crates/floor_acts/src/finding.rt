@@ -1,7 +1,7 @@
 ghost use Rattle.std.specs.Prelude.{◌≡◌, option_copied};
 ghost use Rattle.floor_rooms.specs.Rooms.{client_in, room_in, stall_at};
 ghost use Rattle.floor_rooms.specs.Sound.{IsSound};
-ghost use Rattle.floor_replies.specs.Replies.{flies_in, stall_of};
+ghost use Rattle.floor_acts.specs.Replies.{flies_in, stall_of};
 
 use channel_core::Look;
 use floor_clients::Client;

@@ -9,9 +9,9 @@ use Rattle.broker_history.specs.State.{Client, Phase}
 use Rattle.broker_history.specs.Reply.{flight_reply, has_in_flight, reply_by}
 use Rattle.floor_rooms.specs.declared.hall.Hall.{Hall}
 use Rattle.negotiation.specs.declared.identity.Identity.{Identity}
-use Rattle.floor_replies.specs.Replies.{IsShort, KnowsOf, RepliesTo, flies_in, reply_in}
-use Rattle.floor_replies.specs.declared.command.Replied.{Replied}
-use Rattle.floor_replies.proofs.Found.{flies_alike}
+use Rattle.floor_acts.specs.Replies.{IsShort, KnowsOf, RepliesTo, flies_in, reply_in}
+use Rattle.floor_acts.specs.declared.command.Replied.{Replied}
+use Rattle.floor_acts.proofs.Found.{flies_alike}
 
 -- a reply rests on nothing but which ids fly
 same_reply : (o : Options) (used : ℕ) (phase : Phase) (f g : List ℕ → Bool) → ((id : List ℕ) → f id ≡ g id) → (command : Command) → reply_by o used phase f command ≡ reply_by o used phase g command

@@ -3,8 +3,8 @@ use Rattle.v2_frame.specs.declared.message.Message.{Message}
 use Rattle.channel_core.specs.Answers.{Looks}
 use Rattle.channel_core.specs.Seen.{channel_with}
 use Rattle.channel_core.specs.declared.answers.Look.TheVariants.{Yours, NotYours, NotInFlight}
-use Rattle.floor_replies.proofs.Found.{looked}
-use Rattle.floor_replies.proofs.finding.flies.Goals as goal
+use Rattle.floor_acts.proofs.Found.{looked}
+use Rattle.floor_acts.proofs.finding.flies.Goals as goal
 
 pub returns-in-Yours : goal.returns-in-Yours
 returns-in-Yours c =

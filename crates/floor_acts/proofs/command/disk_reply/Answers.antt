@@ -3,7 +3,7 @@ use Rattle.std.specs.Prelude.{IfOk}
 use Rattle.v2_frame.specs.declared.command.Command.{Command}
 use Rattle.v2_frame.specs.declared.frame.Frame.{Frame}
 use Rattle.broker_history.specs.Reply.{disk_reply}
-use Rattle.floor_replies.proofs.command.disk_reply.Goals as goal
+use Rattle.floor_acts.proofs.command.disk_reply.Goals as goal
 
 pub returns-in-Pub-clause-value : goal.returns-in-Pub-clause-value
 returns-in-Pub-clause-value c = subst (λ (command : Command). IfOk c.disk_error.result (λ (reply : Option Frame). reply ≡ disk_reply command)) (sym c.in-Pub.is) c.disk_error.ensures.value

@@ -5,7 +5,7 @@ ghost use Rattle.broker_history.specs.Identify.{identity_of};
 ghost use Rattle.broker_history.specs.Reply.{disk_fault, disk_reply, flight_reply, identified, wrong_state};
 ghost use Rattle.broker_history.specs.Step.{is_error};
 ghost use Rattle.floor_rooms.specs.Sound.{IsSound};
-ghost use Rattle.floor_replies.specs.Replies.{IsShort, KnowsOf, RepliesTo, SaysOf, flies_in, reply_in};
+ghost use Rattle.floor_acts.specs.Replies.{IsShort, KnowsOf, RepliesTo, SaysOf, flies_in, reply_in};
 
 use crate::finding::flies;
 use crate::frames::{error, wrong_state};

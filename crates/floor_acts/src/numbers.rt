@@ -1,6 +1,6 @@
 ghost use Rattle.std.specs.Prelude.{◌≡◌};
 ghost use Rattle.broker_history.specs.Reply.{are_left};
-ghost use Rattle.floor_replies.specs.Replies.{is_count_to, is_span_to};
+ghost use Rattle.floor_acts.specs.Replies.{is_count_to, is_span_to};
 
 /// Whether so many further ids are left, where so many were used.
 pub fn are_left(used: u64, count: u64) -> bool

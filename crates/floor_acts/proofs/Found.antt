@@ -25,7 +25,7 @@ use Rattle.floor_rooms.specs.Places.{IsThere}
 use Rattle.floor_rooms.specs.Rooms.{channel_name, topic_name, room_in, stall_at, stall_in}
 use Rattle.floor_rooms.specs.Standing.{IsStallOf, IsRoomOf, HoldsFor}
 use Rattle.floor_rooms.proofs.Staying.{room_named, stall_named}
-use Rattle.floor_replies.specs.Replies.{copies_at, flies_in, stall_of, stall_on}
+use Rattle.floor_acts.specs.Replies.{copies_at, flies_in, stall_of, stall_on}
 
 -- the topic of a name is there in both, or in neither
 pub found_room : (h : Hall) (files : Files) (s : State) → HoldsFor h files s → (topic : List ℕ) → IfBoth (IsRoomOf files) (room_in h.rooms.items topic) (topic_of s topic)

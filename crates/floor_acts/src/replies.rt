@@ -1,7 +1,7 @@
 ghost use Rattle.std.specs.Prelude.{◌≡◌, ◌≤◌, if◌then◌else◌, codes, length, IfOk};
 ghost use Rattle.broker_history.specs.State.{is_fresh, is_subscribed};
 ghost use Rattle.broker_history.specs.Reply.{delayed_reply, flight_reply, ok_frame, publish_reply, ready_reply, response, wrong_state};
-ghost use Rattle.floor_replies.specs.Replies.{IsShort, IsShortFrame};
+ghost use Rattle.floor_acts.specs.Replies.{IsShort, IsShortFrame};
 
 use crate::frames::{error, frame, ok_frame, wrong_state};
 use crate::numbers::{are_left, is_count_to, is_span_to};

@@ -2,10 +2,10 @@ use Rattle.std.proofs.Common.{◌≡◌, Option, Some, None, refl, subst, sym, a
 use Rattle.std.specs.Prelude.{IfOk}
 use Rattle.v2_frame.specs.declared.command.Command.{Command}
 use Rattle.v2_frame.specs.declared.frame.Frame.{Frame}
-use Rattle.floor_replies.specs.Replies.{KnowsOf, reply_in}
-use Rattle.floor_replies.specs.declared.command.Replied.{Replied}
-use Rattle.floor_replies.proofs.Replying.{handed_said, handed_short, handed_value}
-use Rattle.floor_replies.proofs.command.answer.Goals as goal
+use Rattle.floor_acts.specs.Replies.{KnowsOf, reply_in}
+use Rattle.floor_acts.specs.declared.command.Replied.{Replied}
+use Rattle.floor_acts.proofs.Replying.{handed_said, handed_short, handed_value}
+use Rattle.floor_acts.proofs.command.answer.Goals as goal
 
 pub returns-in-Sub : goal.returns-in-Sub
 returns-in-Sub c = record {

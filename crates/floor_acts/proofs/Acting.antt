@@ -17,7 +17,7 @@ use Rattle.channel_core.specs.Drawing.{timeout_of}
 use Rattle.floor_clients.specs.Seen.{held_channel}
 use Rattle.floor_laws.specs.Lifting.{Lift}
 use Rattle.floor_laws.proofs.Lifting.{finishes, touches}
-use Rattle.floor_replies.specs.Replies.{copies_at, flies_in, stall_on}
+use Rattle.floor_acts.specs.Replies.{copies_at, flies_in, stall_on}
 use Rattle.floor_rooms.specs.declared.stall.Stall.{Stall}
 use Rattle.floor_rooms.specs.declared.room.Room.{Room}
 use Rattle.floor_rooms.specs.declared.hall.Hall.{Hall}
@@ -29,7 +29,7 @@ use Rattle.floor_acts.specs.Acts.{ChangesAt, DoesAt, FliesAt}
 use Rattle.floor_acts.specs.Flights.{FliesStall}
 use Rattle.floor_acts.specs.Spots.{IsSpotOf, StandsIn}
 use Rattle.floor_acts.proofs.Putting.{carries_client, changed_range, changed_read, found_at_place, holds_read, read_holds}
-use Rattle.floor_acts.proofs.Finding.{held_route, member_here, spot_some, yours_here}
+use Rattle.floor_acts.proofs.Spotting.{held_route, member_here, spot_some, yours_here}
 use Rattle.floor_acts.proofs.Flying.{carries_same, flown_keeps, flown_row, flown_stall, own_acts, same_stall, spot_holds, spot_range, spot_stall_range}
 
 -- where nothing of the client's stands, nothing flies with it

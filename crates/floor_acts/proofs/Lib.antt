@@ -1,5 +1,7 @@
+pub mod Found
+pub mod Replying
 pub mod Putting
-pub mod Finding
+pub mod Spotting
 pub mod Flying
 pub mod Acting
 pub mod Returning

@@ -34,7 +34,7 @@ use Rattle.floor_acts.specs.Acts.{DoesAt}
 use Rattle.floor_acts.specs.Flights.{ReadiesStall}
 use Rattle.floor_acts.specs.Spots.{GetsOf, IsSpotFor}
 use Rattle.floor_acts.proofs.Putting.{SameMember, carries_ordered, clients_rest, found_at_place, holds_read, put_at_place, read_at, read_holds}
-use Rattle.floor_acts.proofs.Finding.{member_here, on_its}
+use Rattle.floor_acts.proofs.Spotting.{member_here, on_its}
 use Rattle.floor_acts.proofs.Flying.{same_stall, stays_rooms, topic_there, channel_there}
 use Rattle.floor_acts.proofs.Belonging.{Regroups, and_false, sound_regrouped}
 

@@ -10,7 +10,7 @@ use Rattle.channel_core.specs.declared.answers.Requeue.{Requeue}
 use Rattle.channel_core.specs.declared.answers.Requeue.TheVariants as requeue
 use Rattle.floor_rooms.specs.declared.hall.Hall.{Hall}
 use Rattle.floor_rooms.specs.Standing.{Carries}
-use Rattle.floor_replies.specs.Replies.{flies_in}
+use Rattle.floor_acts.specs.Replies.{flies_in}
 
 -- the client at a place became another one, and all others stay, each at its place
 abbrev pub ChangesAt : (k : ℕ) → (Client → Client) → (old new : List Client) → Type 0

@@ -1,3 +1,4 @@
+pub mod Replies
 pub mod Acts
 pub mod Spots
 pub mod Flights

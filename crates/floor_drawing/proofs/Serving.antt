@@ -41,7 +41,7 @@ use Rattle.floor_turns.specs.Moves.{Keeps}
 use Rattle.floor_acts.specs.declared.spots.Spot.{Spot}
 use Rattle.floor_acts.specs.Sending.{DrawsStall, HasDrawn}
 use Rattle.floor_acts.specs.Spots.{StandsIn}
-use Rattle.floor_acts.proofs.Finding.{member_here, room_here}
+use Rattle.floor_acts.proofs.Spotting.{member_here, room_here}
 use Rattle.floor_acts.proofs.Flying.{channel_there, topic_there}
 use Rattle.floor_drawing.specs.Drawing.{IsServedAt}
 

@@ -20,7 +20,7 @@ use Rattle.floor_topics.specs.Losing.{LosesStall}
 use Rattle.floor_topics.proofs.LostPlaces.{among_lost}
 use Rattle.floor_topics.proofs.SeatPlaces.{client_found}
 use Rattle.floor_topics.specs.Deleting.{GoesEmpty}
-use Rattle.floor_topics.proofs.Losing.{among_empty}
+use Rattle.floor_topics.proofs.LosingChannels.{among_empty}
 use Rattle.floor_topics.proofs.Marks.{some_same}
 use Rattle.floor_members.specs.Going.{NoneComes, is_deserted}
 use Rattle.floor_members.proofs.Deserted.{goes_there, none_has, none_lost, stays_there}

@@ -6,5 +6,5 @@ pub use Rattle.floor_topics.specs.Emptying
 pub use Rattle.floor_topics.specs.declared.published.Published
 pub use Rattle.floor_topics.specs.declared.deleted.Deleted
 pub use Rattle.floor_topics.specs.Seating
-pub use Rattle.floor_topics.specs.Lost
+pub use Rattle.floor_topics.specs.declared.lost.Lost
 pub use Rattle.floor_acts.specs.Acts

@@ -23,9 +23,9 @@ use Rattle.floor_rooms.proofs.Changing.{all_found}
 use Rattle.floor_rooms.proofs.Forming.{no_topic, topic_there}
 use Rattle.floor_rooms.proofs.Orders.{channels_order, topics_order}
 use Rattle.floor_rooms.proofs.Dating.{AreAmong, among_before, among_without, since_shrunk}
-use Rattle.floor_changes.specs.declared.lost.Lost.{Lost}
-use Rattle.floor_changes.specs.declared.lost.Lost.TheVariants as losing
-use Rattle.floor_changes.specs.Going.{DropsRoom}
+use Rattle.floor_topics.specs.declared.lost.Lost.{Lost}
+use Rattle.floor_topics.specs.declared.lost.Lost.TheVariants as losing
+use Rattle.floor_topics.specs.Going.{DropsRoom}
 use Rattle.floor_topics.specs.Deleting.{DeletesFirst, LosesFirst, kept_without_all}
 use Rattle.floor_topics.proofs.Marks.{stands_now}
 use Rattle.floor_topics.proofs.Steps.{all_read}

@@ -10,7 +10,7 @@ use Rattle.nsq_base.proofs.PutBy.{Less-from_before, byte_order-flip, filter_all,
 use Rattle.broker_history.specs.State.{State, Topic, is_empty, topic_of, with_topic}
 use Rattle.broker_history.specs.Changes.{deleted, deleted_in, lost, with_fewer, without_channel, without_topic}
 use Rattle.broker_history.proofs.Lists.{exact_bytes, find_passes, find_put, same_bytes}
-use Rattle.floor_changes.specs.Losing.{LosesChannel}
+use Rattle.floor_topics.specs.Losing.{LosesChannel}
 
 module _ {X : Type 0} (key : X → List ℕ) (k : List ℕ) where
   abbrev others : X → Bool

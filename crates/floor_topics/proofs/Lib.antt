@@ -1,3 +1,12 @@
+pub mod Goes
+pub mod LostClients
+pub mod LostStalls
+pub mod LostPlaces
+pub mod LostWhole
+pub mod SeatNumbers
+pub mod Seated
+pub mod SeatPlaces
+pub mod SeatLeaves
 pub mod Bodies
 pub mod Frames
 pub mod Marks
@@ -11,10 +20,8 @@ pub mod Channels
 pub mod Emptied
 pub mod Copies
 pub mod Fewer
-pub mod Losing
+pub mod LosingChannels
 pub mod Whole
 pub mod Steps
 pub mod Dropping
 pub mod Numbers
-pub use Rattle.floor_changes.proofs.SeatPlaces
-pub use Rattle.floor_changes.proofs.LostPlaces

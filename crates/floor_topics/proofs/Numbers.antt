@@ -4,9 +4,9 @@ use Rattle.broker_history.specs.State.{Client, Lost as IsLost, has_channel}
 use Rattle.broker_history.specs.Changes.{lost}
 use Rattle.floor_clients.proofs.Putting.{found_map}
 use Rattle.floor_rooms.specs.Rooms.{client_in}
-use Rattle.floor_changes.specs.Losing.{LosesClients}
-use Rattle.floor_changes.specs.declared.lost.Lost.{Lost}
-use Rattle.floor_changes.specs.declared.lost.Lost.TheVariants.{Done, Fault}
+use Rattle.floor_topics.specs.Losing.{LosesClients}
+use Rattle.floor_topics.specs.declared.lost.Lost.{Lost}
+use Rattle.floor_topics.specs.declared.lost.Lost.TheVariants.{Done, Fault}
 
 one_lost : (b : Bool) (c : Client) → (if b then record c { phase = IsLost } else c).number ≡ c.number
 one_lost true c = refl

@@ -21,8 +21,8 @@ use Rattle.floor_rooms.proofs.Placing.{at_place}
 use Rattle.floor_rooms.proofs.Dating.{AreAmong, among_before, keeps_same, since_kept, since_shrunk}
 use Rattle.floor_rooms.proofs.Filing.{only_then}
 use Rattle.floor_rooms.proofs.Naming.{names_then}
-use Rattle.floor_changes.specs.Losing.{LosesChannel, LosesStall}
-use Rattle.floor_changes.proofs.LostPlaces.{among_lost}
+use Rattle.floor_topics.specs.Losing.{LosesChannel, LosesStall}
+use Rattle.floor_topics.proofs.LostPlaces.{among_lost}
 use Rattle.floor_topics.specs.Deleting.{LosesFirst, LosesOn, LosesSoFar, kept_without, kept_without_all}
 use Rattle.floor_topics.proofs.Marks.{some_same, stands_now}
 use Rattle.floor_topics.proofs.Whole.{kept_is}

@@ -11,7 +11,7 @@ use Rattle.nsq_base.proofs.PutBy.{IsAscendingBy-put_by, Less-from_before, filter
 use Rattle.broker_history.specs.State.{Channel, State, Topic, channel_of, is_empty, topic_of, with_topic}
 use Rattle.broker_history.specs.Changes.{deleted_channel, deleted_channels, deleted_in, lost, with_fewer, without_channel, without_topic}
 use Rattle.broker_history.proofs.Lists.{exact_bytes, find_passes, find_put, same_bytes}
-use Rattle.floor_changes.specs.Losing.{LosesChannel}
+use Rattle.floor_topics.specs.Losing.{LosesChannel}
 use Rattle.floor_topics.specs.Deleting.{kept_in, kept_without, kept_without_all}
 use Rattle.floor_topics.proofs.Fewer.{gone_put}
 

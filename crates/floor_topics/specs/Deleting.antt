@@ -12,8 +12,8 @@ use Rattle.floor_rooms.specs.Sound.{IsSound}
 use Rattle.floor_rooms.specs.Standing.{HoldsFor}
 use Rattle.floor_rooms.specs.Changes.{AtRoom, KeepsSince, OnlyQueueFiles}
 use Rattle.floor_rooms.specs.Kept.{NamesTold}
-use Rattle.floor_changes.specs.declared.lost.Lost.{Lost}
-use Rattle.floor_changes.specs.declared.lost.Lost.TheVariants as losing
+use Rattle.floor_topics.specs.declared.lost.Lost.{Lost}
+use Rattle.floor_topics.specs.declared.lost.Lost.TheVariants as losing
 use Rattle.floor_topics.specs.declared.deleted.Deleted.{Deleted}
 use Rattle.floor_topics.specs.declared.deleted.Deleted.TheVariants.{Done, Fault}
 

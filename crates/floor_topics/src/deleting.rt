@@ -2,16 +2,17 @@ ghost use Rattle.std.specs.Prelude.{◌≡◌, ◌≤◌, ◌<◌, ◌&&◌, ℕ
 ghost use Rattle.nsq_base.specs.Name.{is_ephemeral};
 ghost use Rattle.broker_history.specs.State.{is_empty};
 ghost use Rattle.nsq_outside.specs.Files.{Files};
-ghost use Rattle.floor_changes.specs.Going.{LostFails};
 ghost use Rattle.floor_rooms.specs.Changes.{KeepsSince, OnlyQueueFiles};
 ghost use Rattle.floor_rooms.specs.Kept.{NamesTold};
 ghost use Rattle.floor_rooms.specs.Rooms.{channel_name, client_in, stall_names, topic_name};
 ghost use Rattle.floor_rooms.specs.Sound.{IsSound};
 ghost use Rattle.floor_rooms.specs.Standing.{Carries};
+ghost use Rattle.floor_topics.specs.Going.{LostFails};
 ghost use Rattle.floor_topics.specs.Deleting.{DeletesChannel, DeletesTopic, DeletionFails, GoesEmpty, IsWithin, LosesAll, LosesSoFar, deleted_of, without_empty};
 
-use crate::Deleted;
-use floor_changes::{Lost, drop_room, forget_room, lose_stall};
+use crate::going::{drop_room, forget_room};
+use crate::losing::lose_stall;
+use crate::{Deleted, Lost};
 use floor_rooms::{Hall, Room};
 use nsq_base::{Chan, Topic};
 use nsq_outside::Folder;

@@ -21,7 +21,7 @@ use Rattle.floor_turns.specs.declared.plan.Plan.TheVariants as leads
 use Rattle.floor_turns.specs.declared.due.NextDue.TheVariants as due
 use Rattle.floor_turns.specs.Dues.{IsDueTo}
 use Rattle.floor_turns.specs.Plans.{IsAllowedPlan, IsCommandAct, OfNumber, is_strange}
-use Rattle.floor_replies.specs.Replies.{reply_in}
+use Rattle.floor_acts.specs.Replies.{reply_in}
 use Rattle.std.specs.Prelude.{MatchBool, Option}
 use Rattle.v2_frame.specs.declared.command.Command.{Command}
 use Rattle.floor_turns.proofs.Sending.{nothing_gets}

@@ -6,7 +6,7 @@ use Rattle.broker_history.specs.State.{State, Topic, channel_of, topic_of}
 use Rattle.broker_history.specs.Reply.{are_left, has_ids}
 use Rattle.broker_history.specs.Said.{said_in, said_made, said_of}
 use Rattle.floor_laws.proofs.Pairs.{IfBoth}
-use Rattle.floor_replies.proofs.Found.{found_room, found_stall}
+use Rattle.floor_acts.proofs.Found.{found_room, found_stall}
 use Rattle.floor_rooms.specs.declared.room.Room.{Room}
 use Rattle.floor_rooms.specs.declared.hall.Hall.{Hall}
 use Rattle.floor_rooms.specs.Rooms.{room_in, stall_in}

@@ -12,8 +12,8 @@ use Rattle.floor_rooms.specs.declared.room.Room.{Room}
 use Rattle.floor_rooms.specs.declared.hall.Hall.{Hall}
 use Rattle.floor_rooms.specs.Rooms.{room_in, stall_at, stall_in}
 use Rattle.floor_rooms.specs.Standing.{HoldsFor, IsStallOf}
-use Rattle.floor_replies.specs.Replies.{stall_of, stall_on}
-use Rattle.floor_replies.proofs.Found.{found_channel, held_route}
+use Rattle.floor_acts.specs.Replies.{stall_of, stall_on}
+use Rattle.floor_acts.proofs.Found.{found_channel, held_route}
 
 -- a client that is neither lost nor silent, and to which no heartbeat is due, is quiet
 pub quiet : (at : ℕ) (c : Client) → is_lost c.phase ≡ false → is_silent at c ≡ false → is_beat_due at c ≡ false → is_quiet at c ≡ true

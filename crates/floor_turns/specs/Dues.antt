@@ -5,7 +5,7 @@ use Rattle.broker_history.specs.Credit.{is_beat_due, is_quiet, is_silent}
 use Rattle.floor_rooms.specs.declared.hall.Hall.{Hall}
 use Rattle.floor_rooms.specs.Places.{IsThere}
 use Rattle.floor_rooms.specs.Rooms.{channel_name, topic_name}
-use Rattle.floor_replies.specs.Replies.{stall_of}
+use Rattle.floor_acts.specs.Replies.{stall_of}
 use Rattle.floor_turns.specs.declared.due.NextDue.{NextDue}
 use Rattle.floor_turns.specs.declared.due.NextDue.TheVariants.{Dropped, Silent, Beat, Nothing, Message}
 

@@ -17,4 +17,4 @@ pub use Rattle.floor_moves.specs.Due
 pub use Rattle.floor_moves.specs.Holding
 pub use Rattle.floor_moves.specs.Moves
 pub use Rattle.floor_moves.specs.declared.due.Place
-pub use Rattle.floor_replies.specs.Replies
+pub use Rattle.floor_acts.specs.Replies

@@ -17,7 +17,7 @@ use Rattle.negotiation.specs.declared.identity.Identity.{Identity}
 use Rattle.floor_rooms.specs.declared.hall.Hall.{Hall}
 use Rattle.floor_rooms.specs.Rooms.{client_in, hall_names}
 use Rattle.floor_rooms.specs.Standing.{HoldsFor}
-use Rattle.floor_replies.specs.Replies.{IsShort, IsShortFrame, KnowsOf, reply_in}
+use Rattle.floor_acts.specs.Replies.{IsShort, IsShortFrame, KnowsOf, reply_in}
 use Rattle.floor_turns.specs.Dues.{GetsFrom, IsDueTo}
 use Rattle.floor_turns.specs.declared.due.NextDue.TheVariants as due
 use Rattle.broker_history.specs.Credit.{is_quiet}

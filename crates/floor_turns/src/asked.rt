@@ -11,7 +11,7 @@ ghost use Rattle.floor_turns.specs.Asked.{found_where, made_where};
 
 use crate::told::stats;
 use broker_history::{Ask, Said};
-use floor_replies::{are_left, find_room, find_stall};
+use floor_acts::{are_left, find_room, find_stall};
 use floor_rooms::Hall;
 use nsq_base::{Bodies, Chan, Memory, Topic};
 use std::alloc::Global;

@@ -6,7 +6,7 @@
 //!
 //! `specs/Paying.antt` says what is paid before an act, `specs/Turns.antt` what one turn does as a whole, `specs/Leads.antt` what turns of a number lead to.
 //!
-//! It hands on what the parts of a turn are made of: the replies and frames of `floor_replies`, the moves of `floor_moves`, and what `floor_files` saves.
+//! It hands on what the parts of a turn are made of: the replies and frames of `floor_acts`, the moves of `floor_moves`, and what `floor_files` saves.
 #![tactic(auto)]
 
 mod asked;
@@ -21,9 +21,9 @@ mod told;
 pub use asked::said_to;
 pub use due::{NextDue, next_due_to};
 pub use durable::kept;
+pub use floor_acts::{are_left, beat_frame, closes, message_frame};
 pub use floor_files::{flush_all, sync_all};
 pub use floor_moves::{Place, hold_back};
-pub use floor_replies::{are_left, beat_frame, closes, message_frame};
 pub use laws::{leads, once, payments};
 pub use listed::names;
 pub use paying::{Paid, pay};

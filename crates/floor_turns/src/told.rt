@@ -9,7 +9,7 @@ ghost use Rattle.floor_rooms.specs.Standing.{HoldsFor};
 ghost use Rattle.floor_turns.specs.Stats.{IsToldOfClient, IsToldOfNumber, IsToldOfRoom, IsToldOfStall};
 
 use broker_history::{ChannelStats, ClientStats, Items, Stats, TopicStats};
-use floor_replies::find_client;
+use floor_acts::find_client;
 use floor_rooms::{Hall, Room, Stall};
 use nsq_base::{Chan, Memory, Topic};
 use std::alloc::Global;

@@ -1,4 +1,4 @@
-use Rattle.floor_acts.proofs.Finding.{lost_stall, spot_found}
+use Rattle.floor_acts.proofs.Spotting.{lost_stall, spot_found}
 use Rattle.floor_acts.proofs.spots.spot_of.Goals as goal
 
 pub returns-in_default-stall_place : goal.returns-in_default-stall_place

@@ -4,7 +4,7 @@ use Rattle.broker_history.specs.State.{is_ephemeral_channel}
 use Rattle.floor_rooms.specs.Rooms.{channel_name, topic_name}
 use Rattle.floor_rooms.proofs.Forming.{some_at}
 use Rattle.floor_rooms.proofs.Naming.{names_then}
-use Rattle.floor_topics.proofs.Losing.{lost_room, lost_since, lost_told, lost_within}
+use Rattle.floor_topics.proofs.LosingChannels.{lost_room, lost_since, lost_told, lost_within}
 use Rattle.floor_members.proofs.Leaving.{deserted_ephemeral, forgot_all, forgot_rest, lost_moment, none_came}
 use Rattle.floor_members.proofs.going.forget_channel.Goals as goal
 

@@ -2,7 +2,7 @@ use Rattle.std.proofs.Common.{◌<◌, length, get_or, refl, sym, subst, ◌∙�
 use Rattle.floor_rooms.specs.declared.room.Room.{Room}
 use Rattle.floor_rooms.proofs.Forming.{some_at}
 use Rattle.floor_topics.proofs.Frames.{same_names, same_since}
-use Rattle.floor_topics.proofs.Losing.{no_channel_deleted, no_topic_deleted}
+use Rattle.floor_topics.proofs.LosingChannels.{no_channel_deleted, no_topic_deleted}
 use Rattle.floor_members.proofs.Deserted.{absent_left}
 use Rattle.floor_members.proofs.Leaving.{goes_left, none_same, stays_left, tested}
 use Rattle.floor_members.proofs.going.forget_deserted.Goals as goal

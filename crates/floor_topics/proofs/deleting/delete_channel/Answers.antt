@@ -4,7 +4,7 @@ use Rattle.floor_rooms.specs.Standing.{Carries}
 use Rattle.floor_rooms.proofs.Forming.{some_at}
 use Rattle.floor_topics.specs.Deleting.{DeletesChannel}
 use Rattle.floor_topics.proofs.Frames.{same_names, same_since}
-use Rattle.floor_topics.proofs.Losing.{no_channel_deleted, no_topic_deleted}
+use Rattle.floor_topics.proofs.LosingChannels.{no_channel_deleted, no_topic_deleted}
 use Rattle.floor_topics.proofs.deleting.delete_channel.Goals as goal
 
 pub returns-in_default : goal.returns-in_default

@@ -1,6 +1,6 @@
 use Rattle.std.proofs.Common.{inl, inr, refl, sym, ◌∙◌}
 use Rattle.floor_topics.proofs.Frames.{same_names, same_since}
-use Rattle.floor_topics.proofs.Losing.{left_ephemeral, left_goes, left_none, left_stays}
+use Rattle.floor_topics.proofs.LosingChannels.{left_ephemeral, left_goes, left_none, left_stays}
 use Rattle.floor_topics.proofs.deleting.forget_empty.Goals as goal
 
 pub forget_room-requires-clause-none : goal.forget_room-requires-clause-none

@@ -1,6 +1,6 @@
 use Rattle.std.proofs.Common.{◌≡◌, ◌+◌, suc, length, get_or, refl, subst, arith}
 use Rattle.broker_history.specs.State.{State}
-use Rattle.floor_changes.specs.declared.lost.Lost.TheVariants.{Done, Fault}
+use Rattle.floor_topics.specs.declared.lost.Lost.TheVariants.{Done, Fault}
 use Rattle.floor_rooms.specs.Rooms.{channel_name, topic_name}
 use Rattle.floor_rooms.specs.Standing.{HoldsFor}
 use Rattle.floor_rooms.proofs.Forming.{some_at}

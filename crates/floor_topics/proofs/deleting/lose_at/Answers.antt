@@ -1,11 +1,11 @@
 use Rattle.std.proofs.Common.{get_or, is_some, ap, ◌∙◌}
 use Rattle.floor_rooms.specs.declared.hall.Hall.{Hall}
-use Rattle.floor_changes.specs.declared.lost.Lost.TheVariants.{Done, Fault}
+use Rattle.floor_topics.specs.declared.lost.Lost.TheVariants.{Done, Fault}
 use Rattle.floor_rooms.specs.Rooms.{channel_name, client_in, topic_name}
 use Rattle.floor_rooms.proofs.Forming.{some_at}
 use Rattle.floor_rooms.proofs.Naming.{names_then}
 use Rattle.floor_topics.proofs.Frames.{frame_lost}
-use Rattle.floor_topics.proofs.Losing.{lost_room, lost_since, lost_told, lost_within}
+use Rattle.floor_topics.proofs.LosingChannels.{lost_room, lost_since, lost_told, lost_within}
 use Rattle.floor_topics.proofs.Numbers.{numbers_lost}
 use Rattle.floor_topics.proofs.deleting.lose_at.Goals as goal
 

@@ -1,5 +1,5 @@
 use Rattle.std.proofs.Common.{inr, sym, ◌∙◌}
-use Rattle.floor_replies.proofs.Found.{none_at}
+use Rattle.floor_acts.proofs.Found.{none_at}
 use Rattle.floor_turns.proofs.Sending.{quiet, none_of, no_room}
 use Rattle.floor_turns.proofs.due.next_due_to.Goals as goal
 

@@ -1,9 +1,0 @@
-pub mod Goes
-pub mod LostClients
-pub mod LostStalls
-pub mod LostPlaces
-pub mod LostWhole
-pub mod Numbers
-pub mod Seated
-pub mod SeatPlaces
-pub mod SeatLeaves

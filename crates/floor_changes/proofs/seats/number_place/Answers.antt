@@ -1,5 +1,0 @@
-use Rattle.floor_changes.proofs.Numbers.{number_place_of}
-use Rattle.floor_changes.proofs.seats.number_place.Goals as goal
-
-pub returns : goal.returns
-returns c = number_place_of c.args.numbers.now c.args.number c.binary_search.result c.requires c.binary_search.ensures.position c.binary_search.ensures.bound

@@ -6,16 +6,16 @@ use Rattle.nsq_base.specs.declared.options.Options.{Options}
 use Rattle.nsq_outside.specs.Causes.{Rose}
 use Rattle.nsq_outside.specs.Files.{Files}
 use Rattle.nsq_outside.specs.Hosts.{HostContent, HostState, OnlyPrintFaults, OnlyTellFaults}
-use Rattle.drill.specs.Served.{Views}
+use Rattle.daemon_run.specs.Served.{Views}
 use Rattle.daemon_endings.specs.Endings.{status_of as serve_status}
 use Rattle.daemon_endings.specs.Prints.{PrintsSo, PrintsTo, part as to_part, whole as to_whole}
 use Rattle.daemon_endings.specs.Statuses.{line_of, status_of}
 use Rattle.broker_history.specs.Entries.{History}
-use Rattle.drill.specs.Runs.{NoCaller}
-use Rattle.drill.specs.Sights.{Both, Sight, sight_of}
+use Rattle.daemon_run.specs.Runs.{NoCaller}
+use Rattle.daemon_run.specs.Sights.{Both, Sight, sight_of}
 use Rattle.daemon_endings.specs.declared.serving.ServeEnd.{ServeEnd}
 use Rattle.daemon_endings.specs.declared.serving.ServeEnd.TheVariants as end
-use Rattle.drill.proofs.Asking.{no_caller_then}
+use Rattle.daemon_run.proofs.Asking.{no_caller_then}
 use Rattle.daemon_main.specs.Doing.{CanDo, Does, DoesNothing, DrillsSo, Obeys, ServesSo}
 use Rattle.daemon_main.specs.Endings.{IsUnserved, TellsLine}
 use Rattle.daemon_main.specs.Programs.{IsAsked, IsPlainRun, IsPrinted, PrintsDrill, StaysHome, part, shown, unshown, version_text, wants, whole}

@@ -8,13 +8,13 @@ use Rattle.daemon_endings.specs.Prints.{PrintsSo}
 use Rattle.daemon_endings.specs.declared.ending.Ending.{Ending}
 use Rattle.daemon_endings.specs.declared.ending.Ending.TheVariants.{BadOptions, Memory, Served}
 use Rattle.daemon_endings.specs.declared.serving.ServeEnd.{ServeEnd}
-use Rattle.drill.specs.Served.{Views}
-use Rattle.drill.specs.Asked.{HasAsked}
-use Rattle.drill.specs.Endings.{IsCaused}
-use Rattle.drill.specs.Parts.{KeepsFaults}
-use Rattle.drill.specs.Runs.{Runs}
-use Rattle.drill.specs.Sights.{Both, Sight}
-use Rattle.daemon_main.specs.Drills.{ShowsDrill}
+use Rattle.daemon_run.specs.Served.{Views}
+use Rattle.daemon_run.specs.Asked.{HasAsked}
+use Rattle.daemon_run.specs.Endings.{IsCaused}
+use Rattle.daemon_run.specs.Parts.{KeepsFaults}
+use Rattle.daemon_run.specs.Runs.{Runs}
+use Rattle.daemon_run.specs.Sights.{Both, Sight}
+use Rattle.daemon_main.specs.DrillTexts.{ShowsDrill}
 use Rattle.nsqd_words.specs.declared.request.Request.{Request}
 use Rattle.nsqd_words.specs.declared.request.Request.TheVariants as request
 

@@ -1,4 +1,5 @@
 pub mod Drills
+pub mod DrillTexts
 pub mod Endings
 pub mod Programs
 pub mod Doing

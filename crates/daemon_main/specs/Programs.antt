@@ -3,16 +3,16 @@ use Rattle.std.specs.Prelude.{◌≡◌, ℕ, Bool, IsTrue, List, [], ◌∷◌,
 use Rattle.nsq_base.specs.declared.options.Options.{Options}
 use Rattle.nsq_outside.specs.Causes.{Rose}
 use Rattle.nsq_outside.specs.Hosts.{HostContent, HostState}
-use Rattle.drill.specs.Opening.{HaveBytes}
-use Rattle.drill.specs.Served.{Views}
-use Rattle.drill.specs.Asked.{HasAsked}
+use Rattle.daemon_run.specs.Opening.{HaveBytes}
+use Rattle.daemon_run.specs.Served.{Views}
+use Rattle.daemon_run.specs.Asked.{HasAsked}
 use Rattle.daemon_endings.specs.Endings.{status_of as serve_status}
 use Rattle.daemon_endings.specs.Statuses.{line_of, status_of}
-use Rattle.drill.specs.Endings.{IsCaused, IsComplete}
-use Rattle.drill.specs.Runs.{NoCaller, Runs}
-use Rattle.drill.specs.Sights.{Sight}
+use Rattle.daemon_run.specs.Endings.{IsCaused, IsComplete}
+use Rattle.daemon_run.specs.Runs.{NoCaller, Runs}
+use Rattle.daemon_run.specs.Sights.{Sight}
 use Rattle.daemon_endings.specs.declared.serving.ServeEnd.{ServeEnd}
-use Rattle.daemon_main.specs.Drills.{ShowsDrill}
+use Rattle.daemon_main.specs.DrillTexts.{ShowsDrill}
 use Rattle.daemon_main.specs.Endings.{IsTold, IsUnserved}
 use Rattle.daemon_endings.specs.declared.ending.Ending.{Ending}
 use Rattle.daemon_endings.specs.declared.ending.Ending.TheVariants.{Served}

@@ -4,17 +4,18 @@ ghost use Rattle.nsq_base.specs.declared.options.Options.{Options as SaidOptions
 ghost use Rattle.nsq_outside.specs.Causes.{Rose};
 ghost use Rattle.nsq_outside.specs.Hosts.{OnlyPrintFaults, OnlyTellFaults};
 ghost use Rattle.daemon_endings.specs.Statuses.{line_of, status_of};
-ghost use Rattle.drill.specs.Served.{ListenersFailedLast};
-ghost use Rattle.drill.specs.Sights.{Both};
+ghost use Rattle.daemon_run.specs.Served.{ListenersFailedLast};
+ghost use Rattle.daemon_run.specs.Sights.{Both};
 ghost use Rattle.daemon_main.specs.Doing.{CanDo, Does, DrillsSo, Obeys};
-ghost use Rattle.daemon_main.specs.Drills.{ShowsDrill, drill_text};
+ghost use Rattle.daemon_main.specs.DrillTexts.{ShowsDrill, drill_text};
 ghost use Rattle.daemon_main.specs.Endings.{TellsLine};
 ghost use Rattle.daemon_main.specs.Programs.{IsAsked, IsPlainRun, StaysHome};
 ghost use Rattle.nsqd_words.specs.Requests.{Asks, IsUnknown, SaysOptions};
 
+use crate::drill_run::{Drilled, drill};
 use broker_history::Entry;
 use daemon_endings::{Ending, line, print, status};
-use drill::{Drilled, Watched, drill, serve};
+use daemon_run::{Watched, serve};
 use nsq_base::Memory;
 use nsq_outside::Host;
 use nsqd_words::{

@@ -1,6 +1,6 @@
 use Rattle.std.proofs.Common.{◌∙◌, ap, arith, map, string_bytes, sym}
 use Rattle.nsq_outside.specs.Hosts.{HostState}
-use Rattle.drill.proofs.Asking.{failed_wider}
+use Rattle.daemon_run.proofs.Asking.{failed_wider}
 use Rattle.daemon_endings.specs.Statuses.{line_of}
 use Rattle.daemon_main.proofs.Asking.{Excludes, asked_then, asked_words, plain_words, rose_then, status_rose, status_unknown, stays_then, stays_words}
 use Rattle.daemon_main.proofs.Telling.{KeepsAll, tells_keeps}

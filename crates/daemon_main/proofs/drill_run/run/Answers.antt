@@ -1,6 +1,6 @@
 use Rattle.std.proofs.Common.{refl}
-use Rattle.drill.proofs.Running.{has_run_home}
-use Rattle.drill.proofs.run.run.Goals as goal
+use Rattle.daemon_main.proofs.Running.{has_run_home}
+use Rattle.daemon_main.proofs.drill_run.run.Goals as goal
 
 pub returns-then-has_no_fault : goal.returns-then-has_no_fault
 returns-then-has_no_fault g c =

@@ -33,7 +33,7 @@ use Rattle.drill_parts.proofs.Talking.{all_push}
 use Rattle.drill_parts.specs.Callers.{consumer, publisher, senders, those_to}
 use Rattle.drill_parts.specs.Hosts.{drill_options, stream_of}
 use Rattle.drill_parts.specs.declared.draws.Publish.{Publish}
-use Rattle.drill.proofs.Entering.{IsSender, all_so, among, at_place, calls, consumer_sends, daemon_so, drill_limits, numbered, takes_of}
+use Rattle.daemon_main.proofs.Entering.{IsSender, all_so, among, at_place, calls, consumer_sends, daemon_so, drill_limits, numbered, takes_of}
 use Rattle.drill_parts.proofs.Spelling.{fin_of, pub_of}
 use Rattle.drill_parts.proofs.Tallying.{IsActed, IsEntered, Sends, only_c}
 

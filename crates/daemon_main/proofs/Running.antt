@@ -33,11 +33,11 @@ use Rattle.drill_parts.specs.Conserving.{HaveOnes}
 use Rattle.drill_parts.specs.Replying.{tried}
 use Rattle.drill_parts.proofs.Conserved.{no_topics}
 use Rattle.drill_parts.proofs.Replying.{replied}
-use Rattle.drill.specs.Drills.{HasRunDrill, NeverFailed, seen, seen_with}
+use Rattle.daemon_main.specs.Drills.{HasRunDrill, NeverFailed, seen, seen_with}
 use Rattle.drill_parts.specs.Hosts.{IsDrillHost, MemKit, drill_options}
 use Rattle.drill_parts.specs.declared.draws.Publish.{Publish}
 use Rattle.drill_parts.specs.Callers.{senders}
-use Rattle.drill.proofs.Entering.{all_entered, all_send, calls}
+use Rattle.daemon_main.proofs.Entering.{all_entered, all_send, calls}
 use Rattle.drill_parts.proofs.Spelling.{IsShort}
 use Rattle.drill_parts.proofs.Tallying.{AreTallied, IsEntered, only_c, tallied}
 

@@ -23,12 +23,12 @@ use Rattle.drill_parts.proofs.Publishing.{publishers_publish}
 use Rattle.drill_parts.specs.Callers.{publisher}
 use Rattle.drill_parts.specs.Counting.{published_in}
 use Rattle.drill_parts.specs.Draws.{behind, publish_from, publishes}
-use Rattle.drill.specs.Drills.{AcceptsAll, HasRunDrill, NeverFailed, PublisherWants, seen}
+use Rattle.daemon_main.specs.Drills.{AcceptsAll, HasRunDrill, NeverFailed, PublisherWants, seen}
 use Rattle.drill_parts.specs.Hosts.{drill_options, stream_of}
 use Rattle.drill_parts.specs.declared.draws.Publish.{Publish}
-use Rattle.drill.proofs.Entering.{among, drill_limits, numbered, publisher_sends, spell_of}
-use Rattle.drill.proofs.Publishing.{Stands, all_calm, all_pubs, all_stand, at_zero, ends_well, first_served, no_callers_stop, nobody_left, publishes_alone, some_came, unstopped}
-use Rattle.drill.proofs.Running.{all_came, begun, moment, notes, notes_entered, notes_tallied, ones_begun}
+use Rattle.daemon_main.proofs.Entering.{among, drill_limits, numbered, publisher_sends, spell_of}
+use Rattle.daemon_main.proofs.Publishing.{Stands, all_calm, all_pubs, all_stand, at_zero, ends_well, first_served, no_callers_stop, nobody_left, publishes_alone, some_came, unstopped}
+use Rattle.daemon_main.proofs.Running.{all_came, begun, moment, notes, notes_entered, notes_tallied, ones_begun}
 use Rattle.drill_parts.proofs.Spelling.{IsShort, pub_of}
 use Rattle.drill_parts.proofs.Tallying.{entries_keep, only_c}
 

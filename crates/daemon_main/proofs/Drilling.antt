@@ -16,17 +16,17 @@ use Rattle.broker_history.specs.State.{State}
 use Rattle.drill_parts.specs.Counts.{left_in, left_of}
 use Rattle.drill_parts.proofs.Conserved.{conserved, ones_stay}
 use Rattle.drill_parts.proofs.Replying.{stays}
-use Rattle.drill.specs.Drills.{AcceptsAll, HasCounted, HasDrilled, HasNames, HasRunDrill, PublisherWants}
+use Rattle.daemon_main.specs.Drills.{AcceptsAll, HasCounted, HasDrilled, HasNames, HasRunDrill, PublisherWants}
 use Rattle.drill_parts.specs.Draws.{publishes}
 use Rattle.drill_parts.specs.declared.draws.Publish.{Publish}
-use Rattle.drill.specs.declared.run.Drilled.{Drilled}
+use Rattle.daemon_main.specs.declared.drill_run.Drilled.{Drilled}
 use Rattle.drill_parts.specs.Counting.{finished_in, published_in}
 use Rattle.drill_parts.specs.Left.{messages_in}
 use Rattle.drill_parts.proofs.Leaving.{all_found}
 use Rattle.drill_parts.proofs.Spelling.{IsShort, publishes_short}
 use Rattle.drill_parts.proofs.Tallying.{entries_keep, only_c}
-use Rattle.drill.proofs.Running.{begun, found_nothing, no_topics_begun, notes, notes_entered, notes_tallied, ones_begun}
-use Rattle.drill.proofs.Counted.{accepts_all, all_accepted, length-publishes, nobody_to_serve}
+use Rattle.daemon_main.proofs.Running.{begun, found_nothing, no_topics_begun, notes, notes_entered, notes_tallied, ones_begun}
+use Rattle.daemon_main.proofs.Counted.{accepts_all, all_accepted, length-publishes, nobody_to_serve}
 
 -- all that a drill left is found, and that is what was published and not finished
 pub record FindsLeft {all : List Publish} {host : MemHost Entry} (r : HasRunDrill all host) : Type 0 where

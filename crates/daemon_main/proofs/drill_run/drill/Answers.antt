@@ -1,10 +1,10 @@
 use Rattle.std.proofs.Common.{◌≡◌, subst, sym, ◌∙◌}
 use Rattle.std.specs.List.{AllByRecursion}
 use Rattle.drill_parts.specs.Draws.{publishes}
-use Rattle.drill.specs.Drills.{HasRunDrill}
-use Rattle.drill.proofs.Drilling.{has_drilled, home_names}
+use Rattle.daemon_main.specs.Drills.{HasRunDrill}
+use Rattle.daemon_main.proofs.Drilling.{has_drilled, home_names}
 use Rattle.drill_parts.proofs.Spelling.{IsShort, publishes_short}
-use Rattle.drill.proofs.run.drill.Goals as goal
+use Rattle.daemon_main.proofs.drill_run.drill.Goals as goal
 
 pub conclude-requires-clause-names : goal.conclude-requires-clause-names
 conclude-requires-clause-names g c =

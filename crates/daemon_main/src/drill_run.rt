@@ -2,7 +2,7 @@ ghost use Rattle.std.specs.List.{AllByRecursion};
 ghost use Rattle.std.specs.Prelude.{◌≡◌, ◌≤◌, ◌^◌, ◌↔◌, IfOk, IfSome, IsSome, IsTrue};
 ghost use Rattle.nsq_fakes.specs.MemHosts.{content_of, state_of};
 ghost use Rattle.daemon_endings.specs.declared.serving.ServeEnd.TheVariants.{Clean};
-ghost use Rattle.drill.specs.Drills.{HasCounted, HasDrilled, HasNames, HasRunDrill, NeverFailed};
+ghost use Rattle.daemon_main.specs.Drills.{HasCounted, HasDrilled, HasNames, HasRunDrill, NeverFailed};
 ghost use Rattle.drill_parts.specs.Left.{CountsAll};
 ghost use Rattle.nsq_fakes.specs.MemFolders.{faults_of, files_in};
 

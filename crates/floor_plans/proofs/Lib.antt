@@ -1,0 +1,8 @@
+pub mod KeptNames
+pub mod Members
+pub mod Naming
+pub mod Planning
+pub mod Saying
+pub mod Sending
+pub mod Telling
+pub use Rattle.floor_replies.proofs.Found

@@ -1,0 +1,24 @@
+//! What a call comes to before anything is changed, over a hall that stays as it is: the act that it leads to, what is said to what is asked over HTTP,
+//! the statistics, the names of all topics and channels, and what of them is kept on disk.
+//!
+//! Each answer is the definition's, for every state that the hall stands for. Want of memory is the only error.
+//!
+//! `specs/Plans.antt` says which act a call leads to, `specs/Dues.antt` what a client is to be sent, `specs/Stats.antt` what is told of a hall's parts.
+//!
+//! It hands on the replies and frames of `floor_replies`.
+#![tactic(auto)]
+
+mod asked;
+mod due;
+mod durable;
+mod listed;
+mod plan;
+mod told;
+
+pub use asked::said_to;
+pub use due::{NextDue, next_due_to};
+pub use durable::kept;
+pub use floor_replies::{are_left, beat_frame, closes, message_frame};
+pub use listed::names;
+pub use plan::{Plan, Planned, is_strange, plan_call};
+pub use told::stats;

@@ -9,5 +9,3 @@ pub mod Whole
 pub use Rattle.floor_files.proofs.Raising
 pub use Rattle.floor_moves.proofs.Keeping
 pub use Rattle.floor_plans.proofs.Found
-pub use Rattle.floor_plans.proofs.KeptNames
-pub use Rattle.floor_plans.proofs.Saying

@@ -11,8 +11,6 @@ mod paying;
 
 pub use floor_files::{flush_all, sync_all};
 pub use floor_moves::{Place, hold_back};
-pub use floor_plans::{
-    Plan, Planned, are_left, beat_frame, closes, is_strange, kept, message_frame, names, plan_call,
-};
+pub use floor_plans::message_frame;
 pub use laws::{leads, once, payments};
 pub use paying::{Paid, pay};

@@ -5,4 +5,3 @@ pub mod Planning
 pub mod Saying
 pub mod Sending
 pub mod Telling
-pub use Rattle.floor_replies.proofs.Found

@@ -16,11 +16,11 @@ use Rattle.desk.specs.declared.call.Call.{Call}
 use Rattle.desk.specs.declared.call.Call.TheVariants as call
 use Rattle.broker_history.specs.declared.entry.Act.{Act}
 use Rattle.broker_history.specs.declared.entry.Act.TheVariants as act
-use Rattle.floor_plans.specs.declared.plan.Plan.{Plan}
-use Rattle.floor_plans.specs.declared.plan.Plan.TheVariants as leads
-use Rattle.floor_plans.specs.declared.due.NextDue.TheVariants as due
-use Rattle.floor_plans.specs.Dues.{IsDueTo}
-use Rattle.floor_plans.specs.Plans.{IsAllowedPlan, IsCommandAct, OfNumber, is_strange}
+use Rattle.floor_replies.specs.declared.plan.Plan.{Plan}
+use Rattle.floor_replies.specs.declared.plan.Plan.TheVariants as leads
+use Rattle.floor_replies.specs.declared.due.NextDue.TheVariants as due
+use Rattle.floor_replies.specs.Dues.{IsDueTo}
+use Rattle.floor_replies.specs.Plans.{IsAllowedPlan, IsCommandAct, OfNumber, is_strange}
 use Rattle.floor_replies.specs.Replies.{reply_in}
 use Rattle.std.specs.Prelude.{MatchBool, Option}
 use Rattle.v2_frame.specs.declared.command.Command.{Command}

@@ -1,5 +1,4 @@
 pub mod Asked
-pub mod Dues
-pub mod Plans
 pub mod Stats
+pub use Rattle.floor_replies.specs.Plans
 pub use Rattle.floor_replies.specs.Replies

@@ -1,23 +1,9 @@
 ghost use Rattle.floor_rooms.specs.Sound.{IsSound};
-ghost use Rattle.floor_plans.specs.Dues.{IsDueTo};
+ghost use Rattle.floor_replies.specs.Dues.{IsDueTo};
 
 use floor_clients::Client;
+use floor_replies::NextDue;
 use floor_rooms::Hall;
-
-/// What a client that is ready for it is to be sent.
-#[derive(Clone, Copy)]
-pub enum NextDue {
-    /// Its channel was deleted.
-    Dropped,
-    /// It was silent for too long.
-    Silent,
-    /// A heartbeat.
-    Beat,
-    /// Nothing: it has no channel, or gets no more messages.
-    Nothing,
-    /// A message of the channel at these places of the hall, if it may get one.
-    Message(usize, usize),
-}
 
 /// What is to be sent to this client at the hall's moment, as far as its channel's copies don't decide: the first that holds.
 pub fn next_due_to(hall: &Hall, client: &Client) -> NextDue

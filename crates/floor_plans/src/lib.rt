@@ -3,9 +3,10 @@
 //!
 //! Each answer is the definition's, for every state that the hall stands for. Want of memory is the only error.
 //!
-//! `specs/Plans.antt` says which act a call leads to, `specs/Dues.antt` what a client is to be sent, `specs/Stats.antt` what is told of a hall's parts.
+//! `floor_replies`' `specs/Plans.antt` says which act a call leads to, its `specs/Dues.antt` what a client is to be sent; `specs/Stats.antt` says what is
+//! told of a hall's parts.
 //!
-//! It hands on the replies and frames of `floor_replies`.
+//! It hands on the plans, replies and frames of `floor_replies`.
 #![tactic(auto)]
 
 mod asked;
@@ -16,9 +17,9 @@ mod plan;
 mod told;
 
 pub use asked::said_to;
-pub use due::{NextDue, next_due_to};
+pub use due::next_due_to;
 pub use durable::kept;
-pub use floor_replies::{are_left, beat_frame, closes, message_frame};
+pub use floor_replies::{Plan, Planned, are_left, beat_frame, closes};
 pub use listed::names;
-pub use plan::{Plan, Planned, is_strange, plan_call};
+pub use plan::{is_strange, plan_call};
 pub use told::stats;

@@ -1,40 +1,21 @@
 ghost use Rattle.std.specs.Prelude.{◌≡◌, IfOk, IsSome, false, is_some};
 ghost use Rattle.desk.specs.declared.call.Call.TheVariants as call;
-ghost use Rattle.floor_plans.specs.declared.plan.Plan.TheVariants as leads;
+ghost use Rattle.floor_replies.specs.declared.plan.Plan.TheVariants as leads;
 ghost use Rattle.floor_rooms.specs.Rooms.{client_in};
 ghost use Rattle.floor_rooms.specs.Sound.{IsSound};
-ghost use Rattle.floor_plans.specs.Plans.{IsAllowedPlan, IsPlanOf, IsShortPlan, KnowsPlan, Serves, is_strange};
+ghost use Rattle.floor_replies.specs.Plans.{IsAllowedPlan, IsPlanOf, IsShortPlan, KnowsPlan, Serves, is_strange};
 
 use crate::asked::said_to;
-use crate::due::{NextDue, next_due_to};
+use crate::due::next_due_to;
 use crate::listed::names;
 use broker_history::{Act, Ask};
 use desk::Call;
 use floor_clients::Client;
-use floor_replies::{find_client, refusal, reply_to};
+use floor_replies::{NextDue, Plan, Planned, find_client, refusal, reply_to};
 use floor_rooms::Hall;
-use negotiation::Identity;
 use nsq_base::Memory;
 use std::alloc::Global;
 use v2_frame::{Command, Fault};
-
-/// An act that a call leads to, with what an IDENTIFY that is accepted said.
-#[derive(Drop)]
-pub struct Planned {
-    /// The act.
-    pub act: Act,
-    /// What the client said of itself.
-    pub said: Option<Identity>,
-}
-
-/// What a call leads to.
-#[derive(Drop)]
-pub enum Plan {
-    /// This act.
-    Act(Planned),
-    /// A message of the channel at these places of the hall is to be sent, if the client may get one.
-    Draw(usize, usize),
-}
 
 /// Whether a call doesn't fit its number: the client of that number isn't there, or the one that is to begin is.
 pub fn is_strange(hall: &Hall, number: u64, call: &Call) -> bool

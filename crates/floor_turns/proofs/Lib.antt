@@ -8,4 +8,4 @@ pub mod Tying
 pub mod Whole
 pub use Rattle.floor_files.proofs.Raising
 pub use Rattle.floor_moves.proofs.Keeping
-pub use Rattle.floor_plans.proofs.Found
+pub use Rattle.floor_replies.proofs.Found

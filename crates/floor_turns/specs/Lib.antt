@@ -12,5 +12,5 @@ pub use Rattle.floor_moves.specs.Due
 pub use Rattle.floor_moves.specs.Holding
 pub use Rattle.floor_moves.specs.Moves
 pub use Rattle.floor_moves.specs.declared.due.Place
-pub use Rattle.floor_plans.specs.Plans
-pub use Rattle.floor_plans.specs.Replies
+pub use Rattle.floor_replies.specs.Plans
+pub use Rattle.floor_replies.specs.Replies

@@ -3,7 +3,7 @@
 //! `specs/Paying.antt` says what is paid before an act, `specs/Acting.antt` what a call does behind that, `specs/Turns.antt` what one turn does as a whole,
 //! `specs/Leads.antt` what turns of a number lead to.
 //!
-//! It hands on what the parts of a turn are made of: the plans, replies and frames of `floor_plans`, the moves of `floor_moves`, and what `floor_files` saves.
+//! It hands on what the parts of a turn are made of: the plans, replies and frames of `floor_replies`, the moves of `floor_moves`, and what `floor_files` saves.
 #![tactic(auto)]
 
 mod laws;
@@ -11,6 +11,6 @@ mod paying;
 
 pub use floor_files::{flush_all, sync_all};
 pub use floor_moves::{Place, hold_back};
-pub use floor_plans::message_frame;
+pub use floor_replies::message_frame;
 pub use laws::{leads, once, payments};
 pub use paying::{Paid, pay};

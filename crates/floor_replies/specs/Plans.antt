@@ -18,11 +18,11 @@ use Rattle.floor_rooms.specs.declared.hall.Hall.{Hall}
 use Rattle.floor_rooms.specs.Rooms.{client_in, hall_names}
 use Rattle.floor_rooms.specs.Standing.{HoldsFor}
 use Rattle.floor_replies.specs.Replies.{IsShort, IsShortFrame, KnowsOf, reply_in}
-use Rattle.floor_plans.specs.Dues.{GetsFrom, IsDueTo}
-use Rattle.floor_plans.specs.declared.due.NextDue.TheVariants as due
+use Rattle.floor_replies.specs.Dues.{GetsFrom, IsDueTo}
+use Rattle.floor_replies.specs.declared.due.NextDue.TheVariants as due
 use Rattle.broker_history.specs.Credit.{is_quiet}
-use Rattle.floor_plans.specs.declared.plan.Plan.{Plan}
-use Rattle.floor_plans.specs.declared.plan.Plan.TheVariants as plan
+use Rattle.floor_replies.specs.declared.plan.Plan.{Plan}
+use Rattle.floor_replies.specs.declared.plan.Plan.TheVariants as plan
 
 -- whether a call doesn't fit its number: the client of that number isn't there, or the one that is to begin is
 abbrev pub is_strange : Call → (there : Bool) → Bool

@@ -6,8 +6,8 @@ use Rattle.floor_rooms.specs.declared.hall.Hall.{Hall}
 use Rattle.floor_rooms.specs.Places.{IsThere}
 use Rattle.floor_rooms.specs.Rooms.{channel_name, topic_name}
 use Rattle.floor_replies.specs.Replies.{stall_of}
-use Rattle.floor_plans.specs.declared.due.NextDue.{NextDue}
-use Rattle.floor_plans.specs.declared.due.NextDue.TheVariants.{Dropped, Silent, Beat, Nothing, Message}
+use Rattle.floor_replies.specs.declared.due.NextDue.{NextDue}
+use Rattle.floor_replies.specs.declared.due.NextDue.TheVariants.{Dropped, Silent, Beat, Nothing, Message}
 
 -- the client gets messages of the channel at these places
 pub record GetsFrom (h : Hall) (c : Client) (i j : ℕ) : Type 0 where

@@ -1,4 +1,6 @@
 pub mod Replies
+pub mod Dues
+pub mod Plans
 pub mod Acts
 pub mod Spots
 pub mod Flights

@@ -21,12 +21,12 @@ use Rattle.floor_rooms.specs.Sound.{IsSound}
 use Rattle.floor_rooms.specs.Standing.{Carries}
 use Rattle.floor_rooms.proofs.Dating.{keeps_same}
 use Rattle.floor_rooms.proofs.Forming.{some_at}
-use Rattle.floor_carrying.specs.Plans.{IsShortAct}
+use Rattle.floor_plans.specs.Plans.{IsShortAct}
 use Rattle.floor_drawing.specs.Acting.{LeavesClients, SameClients, StaysSet, answer_of, there_after}
 use Rattle.floor_drawing.proofs.Carrying.{entry_of}
-use Rattle.floor_carrying.specs.declared.carried.Carried.{Carried}
-use Rattle.floor_carrying.specs.Carrying.{Around, Basis, CarriesOut, IsLeft, basis}
-use Rattle.floor_carrying.proofs.Staying.{around_same, stays_kept}
+use Rattle.floor_serving.specs.declared.carried.Carried.{Carried}
+use Rattle.floor_serving.specs.Carrying.{Around, Basis, CarriesOut, IsLeft, basis}
+use Rattle.floor_serving.proofs.Staying.{around_same, stays_kept}
 
 -- what was kept aside, by the act and the number that it is read with
 pub kept_so : (tells : Bool) (kept : Option Entry) (n m at : ℕ) (a b : Act) → (IsTrue tells → kept ≡ Some (entry_of n at a)) → b ≡ a → n ≡ m → IsTrue tells → kept ≡ Some (entry_of m at b)

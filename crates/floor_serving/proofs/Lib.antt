@@ -1,6 +1,13 @@
+pub mod Asking
+pub mod Bodies
 pub mod Closing
+pub mod Commanding
+pub mod Conditions
+pub mod Planning
+pub mod Returning
 pub mod Settling
+pub mod Staying
 pub use Rattle.floor_drawing.proofs.Following
 pub use Rattle.floor_drawing.proofs.Tying
 pub use Rattle.floor_drawing.proofs.Leading
-pub use Rattle.floor_carrying.proofs.KeptNames
+pub use Rattle.floor_plans.proofs.KeptNames

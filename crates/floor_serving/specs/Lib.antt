@@ -1,4 +1,7 @@
 pub mod Ticks
+pub mod Carrying
+pub mod Commands
+pub mod Asks
 pub use Rattle.floor_drawing.specs.Acting
 pub use Rattle.floor_drawing.specs.Turning
 pub use Rattle.floor_drawing.specs.Timely
@@ -6,5 +9,5 @@ pub use Rattle.floor_drawing.specs.Turns
 pub use Rattle.floor_drawing.specs.Scenes
 pub use Rattle.floor_drawing.specs.Leads
 pub use Rattle.floor_drawing.specs.Moves
-pub use Rattle.floor_carrying.specs.Plans
+pub use Rattle.floor_plans.specs.Plans
 pub use Rattle.floor_drawing.specs.Flushing

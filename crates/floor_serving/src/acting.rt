@@ -5,12 +5,15 @@ ghost use Rattle.floor_drawing.specs.Moves.{sight};
 ghost use Rattle.desk.specs.declared.call.Call.{Call};
 ghost use Rattle.floor_drawing.specs.Acting.{Acts, IsPlanned, IsPlannedFor, conn_of};
 ghost use Rattle.negotiation.specs.declared.identity.Identity.{Identity};
-ghost use Rattle.floor_carrying.specs.Carrying.{CarriesOut, IsNoCommand, basis};
+ghost use Rattle.floor_serving.specs.Carrying.{CarriesOut, IsNoCommand, basis};
 
 use crate::acts::{carry_beat, carry_begin, carry_gone, carry_stop, leave};
+use crate::asked::carry_asked;
+use crate::carried::Carried;
+use crate::commands::carry_command;
 use broker_history::{Act, Entry};
 use desk::Turned;
-use floor_carrying::{Carried, Planned, carry_asked, carry_command};
+use floor_plans::Planned;
 use floor_rooms::Hall;
 use negotiation::Identity;
 use nsq_base::{Memory, Steps};

@@ -5,11 +5,13 @@ ghost use Rattle.nsq_outside.specs.declared.journal.End.TheVariants as end;
 ghost use Rattle.floor_rooms.specs.Rooms.{client_in};
 ghost use Rattle.floor_rooms.specs.Sound.{IsSound};
 ghost use Rattle.floor_drawing.specs.Acting.{answer_of};
-ghost use Rattle.floor_carrying.specs.Carrying.{CarriesOut, IsLeft, basis};
+ghost use Rattle.floor_serving.specs.Carrying.{CarriesOut, IsLeft, basis};
 
+use crate::carried::Carried;
 use broker_history::Act;
 use desk::Turned;
-use floor_carrying::{Carried, beat, beat_frame, begin, gone, stop};
+use floor_members::{beat, begin, gone, stop};
+use floor_plans::beat_frame;
 use floor_rooms::Hall;
 use nsq_base::Memory;
 use nsq_outside::{End, Folder};

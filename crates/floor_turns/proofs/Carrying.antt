@@ -28,8 +28,8 @@ use Rattle.floor_rooms.specs.Sound.{IsSound}
 use Rattle.floor_rooms.specs.Standing.{Carries}
 use Rattle.floor_rooms.proofs.Dating.{keeps_same as rooms_same, since_kept}
 use Rattle.floor_rooms.proofs.Orders.{holds_at}
-use Rattle.floor_turns.specs.Plans.{IsAllowedPlan, IsCallsAct, IsNextAct, Serves, number_of}
-use Rattle.floor_turns.specs.declared.plan.Plan.TheVariants as plan
+use Rattle.floor_acts.specs.Plans.{IsAllowedPlan, IsCallsAct, IsNextAct, Serves, number_of}
+use Rattle.floor_acts.specs.declared.plan.Plan.TheVariants as plan
 use Rattle.floor_moves.specs.Moves.{RoseBy, sight}
 use Rattle.floor_turns.specs.Acting.{ActCarries, Acts, FaultRose, IsNoted, IsPlanned, IsPlannedFor, LeavesClients, SameClients, StaysSet, answer_of, answer_to, conn_of}
 

@@ -13,7 +13,7 @@ use Rattle.desk.specs.declared.call.Call.TheVariants as call
 use Rattle.desk.specs.declared.turned.Turned.{Turned}
 use Rattle.desk.specs.Calls.{MayCall, has_began}
 use Rattle.floor_rooms.specs.Standing.{HoldsFor}
-use Rattle.floor_turns.specs.Plans.{MayBegin}
+use Rattle.floor_acts.specs.Plans.{MayBegin}
 use Rattle.turn_laws.specs.Laid.{IsLaid}
 use Rattle.turn_laws.specs.Laid as laid
 use Rattle.turn_laws.specs.Laws.{RoseBy}

@@ -1,16 +1,9 @@
 pub mod Carrying
 pub mod Clearing
 pub mod Following
-pub mod KeptNames
 pub mod Leading
 pub mod Marking
-pub mod Members
-pub mod Naming
 pub mod Owing
-pub mod Planning
-pub mod Saying
-pub mod Sending
-pub mod Telling
 pub mod Tying
 pub mod Whole
 pub use Rattle.floor_files.proofs.Raising

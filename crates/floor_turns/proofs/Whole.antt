@@ -38,7 +38,7 @@ use Rattle.floor_rooms.proofs.Sounding.{Lowers, room_lowered}
 use Rattle.floor_rooms.proofs.Dating.{since_kept, since_kept_then}
 use Rattle.floor_rooms.proofs.Naming.{names_kept, names_then}
 use Rattle.floor_rooms.specs.Standing.{HoldsFor}
-use Rattle.floor_turns.specs.Plans.{MayBegin, Serves, is_strange}
+use Rattle.floor_acts.specs.Plans.{MayBegin, Serves, is_strange}
 use Rattle.floor_moves.specs.Moves.{Keeps, RoseBy, Sight}
 use Rattle.turn_laws.specs.Laid.{AreActsFor, AreHeldBack, AreMoved, AreStuck, EndsStuck, IsLaid, IsMoved}
 use Rattle.turn_laws.proofs.Allowing.{moves_allow}

@@ -25,8 +25,8 @@ use Rattle.floor_rooms.specs.Rooms.{client_in}
 use Rattle.floor_rooms.specs.Changes.{KeepsSince}
 use Rattle.floor_rooms.specs.Kept.{NamesTold}
 use Rattle.floor_rooms.specs.Standing.{HoldsFor}
-use Rattle.floor_turns.specs.Plans.{IsAllowedPlan, IsCallsAct, IsShortAct, KnowsAct, MayBegin, Serves, number_of}
-use Rattle.floor_turns.specs.declared.plan.Plan.TheVariants as plan
+use Rattle.floor_acts.specs.Plans.{IsAllowedPlan, IsCallsAct, IsShortAct, KnowsAct, MayBegin, Serves, number_of}
+use Rattle.floor_acts.specs.declared.plan.Plan.TheVariants as plan
 use Rattle.floor_moves.specs.Moves.{Sight, RoseBy}
 use Rattle.turn_laws.specs.Laid.{AreHeldBack, IsActFor}
 

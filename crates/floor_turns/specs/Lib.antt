@@ -1,15 +1,10 @@
 pub mod Acting
-pub mod Asked
-pub mod Dues
 pub mod Leads
 pub mod Paying
-pub mod Plans
 pub mod Scenes
-pub mod Stats
 pub mod Timely
 pub mod Turning
 pub mod Turns
-pub use Rattle.channel_core.specs.Seen
 pub use Rattle.floor_files.specs.Flushing
 pub use Rattle.floor_files.specs.Saving
 pub use Rattle.floor_files.specs.Timely as TimelySaving
@@ -17,4 +12,5 @@ pub use Rattle.floor_moves.specs.Due
 pub use Rattle.floor_moves.specs.Holding
 pub use Rattle.floor_moves.specs.Moves
 pub use Rattle.floor_moves.specs.declared.due.Place
+pub use Rattle.floor_acts.specs.Plans
 pub use Rattle.floor_acts.specs.Replies

@@ -16,7 +16,7 @@ use Rattle.floor_rooms.specs.Rooms.{client_in, room_in, stall_at}
 use Rattle.floor_rooms.specs.Changes.{room_since, stall_since}
 use Rattle.floor_rooms.specs.Kept.{NamesTold}
 use Rattle.floor_rooms.specs.Standing.{HoldsFor}
-use Rattle.floor_turns.specs.Plans.{MayBegin, Serves, is_strange}
+use Rattle.floor_acts.specs.Plans.{MayBegin, Serves, is_strange}
 use Rattle.floor_moves.specs.Moves.{RoseBy, Sight}
 use Rattle.floor_files.specs.Saving.{MarksGo}
 use Rattle.turn_laws.specs.Laid.{IsLaid}

@@ -1,8 +1,8 @@
 use Rattle.std.proofs.Common.{subst, sym}
 use Rattle.broker_history.specs.declared.entry.Act.{Act}
 use Rattle.floor_drawing.specs.Acting.{IsPlanned}
-use Rattle.floor_carrying.specs.Carrying.{CarriesOut, basis}
-use Rattle.floor_carrying.proofs.Planning.{no_command, planned_most}
+use Rattle.floor_serving.specs.Carrying.{CarriesOut, basis}
+use Rattle.floor_serving.proofs.Planning.{no_command, planned_most}
 use Rattle.floor_serving.proofs.acting.carry_out.Goals as goal
 
 pub carry_command-requires-clause-plan : goal.carry_command-requires-clause-plan

@@ -3,9 +3,9 @@ use Rattle.broker_history.specs.State.{Client}
 use Rattle.broker_history.specs.Changes.{at_client}
 use Rattle.broker_history.specs.declared.entry.Act.TheVariants.{Beat}
 use Rattle.desk.specs.declared.turned.Turned.TheVariants as turned
-use Rattle.floor_carrying.specs.Carrying.{basis}
+use Rattle.floor_serving.specs.Carrying.{basis}
 use Rattle.floor_serving.proofs.Closing.{act_made, act_not, beat_leaves, by_number, is_placed}
-use Rattle.floor_carrying.proofs.Staying.{around_clients, around_same, same_changed, same_hall}
+use Rattle.floor_serving.proofs.Staying.{around_clients, around_same, same_changed, same_hall}
 use Rattle.floor_serving.proofs.acts.carry_beat.Goals as goal
 
 pub returns-in_default : goal.returns-in_default

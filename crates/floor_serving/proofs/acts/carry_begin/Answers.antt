@@ -1,9 +1,9 @@
 use Rattle.std.proofs.Common.{refl}
 use Rattle.broker_history.specs.declared.entry.Act.TheVariants.{Began}
 use Rattle.desk.specs.declared.turned.Turned.TheVariants as turned
-use Rattle.floor_carrying.specs.Carrying.{basis}
+use Rattle.floor_serving.specs.Carrying.{basis}
 use Rattle.floor_serving.proofs.Closing.{act_made, act_not, begin_leaves}
-use Rattle.floor_carrying.proofs.Staying.{around_clients, same_equal}
+use Rattle.floor_serving.proofs.Staying.{around_clients, same_equal}
 use Rattle.floor_serving.proofs.acts.carry_begin.Goals as goal
 
 pub returns-in-Err : goal.returns-in-Err

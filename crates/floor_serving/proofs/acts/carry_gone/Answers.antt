@@ -4,9 +4,9 @@ use Rattle.broker_history.specs.Changes.{gone}
 use Rattle.broker_history.specs.declared.entry.Act.TheVariants.{Gone}
 use Rattle.desk.specs.declared.turned.Turned.TheVariants as turned
 use Rattle.floor_rooms.specs.Standing.{Carries}
-use Rattle.floor_carrying.specs.Carrying.{basis}
+use Rattle.floor_serving.specs.Carrying.{basis}
 use Rattle.floor_serving.proofs.Closing.{act_made, act_not, by_number, gone_leaves, is_placed, without_number}
-use Rattle.floor_carrying.proofs.Staying.{same_equal, stays_by}
+use Rattle.floor_serving.proofs.Staying.{same_equal, stays_by}
 use Rattle.floor_serving.proofs.acts.carry_gone.Goals as goal
 
 pub unreachable-requires : goal.unreachable-requires

@@ -1,9 +1,9 @@
 use Rattle.std.proofs.Common.{refl}
 use Rattle.broker_history.specs.declared.entry.Act.TheVariants.{Stop}
 use Rattle.desk.specs.declared.turned.Turned.TheVariants as turned
-use Rattle.floor_carrying.specs.Carrying.{basis}
+use Rattle.floor_serving.specs.Carrying.{basis}
 use Rattle.floor_serving.proofs.Closing.{act_made, stop_leaves, stop_stays}
-use Rattle.floor_carrying.proofs.Staying.{around_kept}
+use Rattle.floor_serving.proofs.Staying.{around_kept}
 use Rattle.floor_serving.proofs.acts.carry_stop.Goals as goal
 
 pub returns : goal.returns

@@ -1,0 +1,4 @@
+pub mod Asked
+pub mod Stats
+pub use Rattle.floor_acts.specs.Plans
+pub use Rattle.floor_acts.specs.Replies

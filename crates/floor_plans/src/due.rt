@@ -1,8 +1,8 @@
 ghost use Rattle.floor_rooms.specs.Sound.{IsSound};
 ghost use Rattle.floor_acts.specs.Dues.{IsDueTo};
 
-use floor_clients::Client;
 use floor_acts::NextDue;
+use floor_clients::Client;
 use floor_rooms::Hall;
 
 /// What is to be sent to this client at the hall's moment, as far as its channel's copies don't decide: the first that holds.

@@ -9,8 +9,8 @@
 mod laws;
 mod paying;
 
+pub use floor_acts::message_frame;
 pub use floor_files::{flush_all, sync_all};
 pub use floor_moves::{Place, hold_back};
-pub use floor_acts::message_frame;
 pub use laws::{leads, once, payments};
 pub use paying::{Paid, pay};

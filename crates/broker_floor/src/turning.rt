@@ -65,7 +65,7 @@ impl<F: Folder, C: Clock, J: Journal<Entry>> Floor<F, C, J> {
 impl<F: Folder, C: Clock, J: Journal<Entry>> Turner for Floor<F, C, J> {
     ghost use Rattle.std.proofs.Common.{◌≡◌, ◌∙◌, refl};
     ghost use Rattle.floor_serving.specs.Leads.{Leads};
-    ghost use Rattle.floor_serving.proofs.Following.{leads_follow, leads_stay};
+    ghost use Rattle.floor_turns.proofs.Following.{leads_follow, leads_stay};
     ghost use Rattle.broker_floor.specs.Floors.{flushed_of, notes_of, scene_of};
 
     ghost tells = { J.tells_notes };

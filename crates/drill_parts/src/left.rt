@@ -8,9 +8,9 @@ use names_file::{KeptChannel, KeptTopic};
 use names_reading::{Unread, read_names};
 use nsq_base::{Memory, Topic};
 use nsq_fakes::MemFolder;
-use path_plain::{Row, records_of};
 use queue_image::file_names::{channel_queue, data_file, meta_file};
 use queue_image::{Positions, read_meta};
+use queue_records::{Row, records_of};
 use std::alloc::Global;
 
 /// The fewest bytes of a record: those of a message without a body.

@@ -7,10 +7,10 @@ ghost use Rattle.path_plain.specs.Folders.{files_of};
 ghost use Rattle.path_plain.specs.Answered.{finding_of, Adds, WalksTo, PartIs, IsNextNumber};
 
 use crate::NamedFile;
-use crate::records::{Row, records_of};
 use nsq_base::{Bodies, Memory};
 use queue_image::file_names::{data_file, meta_file, number_of};
 use queue_image::{Positions, read_meta};
+use queue_records::{Row, records_of};
 use std::alloc::Global;
 
 /// What an opening finds of a queue.

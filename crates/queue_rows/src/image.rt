@@ -14,8 +14,9 @@ use crate::folders::named_files;
 use crate::plain::are;
 use crate::text::{bytes_of, cut, number, part, size, unknown};
 use crate::{check, is, same};
-use path_plain::{Found, Listing, Row, found_queue, records_of};
+use path_plain::{Found, Listing, found_queue};
 use queue_image::{Positions, file_names, laws, read_meta};
+use queue_records::{Row, records_of};
 use std::alloc::Global;
 use std::process::Abort;
 

@@ -1,6 +1,6 @@
 use Rattle.std.proofs.Common.{arith}
-use Rattle.path_plain.proofs.Heads.{record_at_head}
-use Rattle.path_plain.proofs.records.first_record.Goals as goal
+use Rattle.queue_records.proofs.Heads.{record_at_head}
+use Rattle.queue_records.proofs.records.first_record.Goals as goal
 
 pub returns-in-Some-get : goal.returns-in-Some-get
 returns-in-Some-get c =

@@ -1,7 +1,7 @@
 use Rattle.std.proofs.Common.{length, arith}
 use Rattle.queue_image.proofs.RowLemmas.{row_next}
-use Rattle.path_plain.proofs.Rows.{row_begins, row_ends, some_left, less_left, damaged_here}
-use Rattle.path_plain.proofs.records.records_of.Goals as goal
+use Rattle.queue_records.proofs.Rows.{row_begins, row_ends, some_left, less_left, damaged_here}
+use Rattle.queue_records.proofs.records.records_of.Goals as goal
 
 pub loop-place-preserved : goal.loop-place-preserved
 loop-place-preserved c =

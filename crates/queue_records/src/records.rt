@@ -1,5 +1,5 @@
 ghost use Rattle.std.specs.Prelude.{◌≡◌, ◌<◌, length, IfOk};
-ghost use Rattle.path_plain.specs.Answered.{SplitsInto, StandsFirst};
+ghost use Rattle.queue_records.specs.Answered.{SplitsInto, StandsFirst};
 
 use nsq_base::{Bodies, Body, Memory};
 use std::alloc::Global;

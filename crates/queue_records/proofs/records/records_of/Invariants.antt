@@ -1,6 +1,6 @@
 use Rattle.std.proofs.Common.{◌≤◌, ◌-◌, length, take}
 use Rattle.queue_image.specs.Records.{IsRow}
-use Rattle.path_plain.proofs.records.records_of.Given as goal
+use Rattle.queue_records.proofs.records.records_of.Given as goal
 
 abbrev pub invariant-loop-place : goal.invariant-loop-place
 invariant-loop-place l = record {

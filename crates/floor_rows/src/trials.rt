@@ -147,6 +147,7 @@ fn base_of(rt: &impl Abort, stage: &mut Stage) -> Base {
     }
 }
 
+// These bytes once more.
 fn copy_of(rt: &impl Abort, alloc: Global, bytes: &[u8]) -> Vec<u8> {
     Vec::from_slice(alloc, bytes).expect(rt, "memory")
 }

@@ -4,8 +4,8 @@ ghost use Rattle.turnstile.specs.Passes.{number, own_of};
 ghost use Rattle.base_rows.specs.Keeps.{KeepsNumbers, IsReady};
 
 use crate::check;
-use crate::turnstiles::pairs::{Pairs, append, same};
-use crate::turnstiles::scripts::made;
+use crate::turnstiles::pairs::{Pairs, same};
+use crate::turnstiles::scripts::{made, turn};
 use std::alloc::Global;
 use std::process::Abort;
 use std::sync::Wait;
@@ -50,9 +50,7 @@ fn append_own<R: Abort + Wait>(
     ensures kept { KeepsNumbers pass.old pass.new }
     ensures own { own_of pass.new ≡ (whose, value) ∷ [] }
 {
-    let mut held = turnstile.take(rt, pass);
-    append(rt, &mut held.value, &[(whose, value), (0, 9)]);
-    turnstile.give(held, pass);
+    turn(rt, turnstile, pass, &[], &[(whose, value), (0, 9)]);
 }
 
 fn holds<R: Abort + Wait>(rt: &R, alloc: Global, row: &Row) -> bool {

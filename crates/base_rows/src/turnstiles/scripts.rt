@@ -3,8 +3,8 @@
 //! A row has a name, the list with which the turnstile is made, the turns with a `;` between them, and the list at close. A turn is the number
 //! of its pass, the list that it finds behind a `:`, and what it appends behind a `>`. An entry is its number and its value, with a `.` between
 //! them.
-ghost use Rattle.std.specs.Prelude.{◌≡◌, ◌⊎◌, IsTrue, All};
-ghost use Rattle.turnstile.specs.Passes.{number};
+ghost use Rattle.std.specs.Prelude.{◌≡◌, ◌⊎◌, ◌++◌, IsTrue, All};
+ghost use Rattle.turnstile.specs.Passes.{number, own_in, own_of};
 ghost use Rattle.base_rows.specs.Keeps.{KeepsNumbers, IsReady, IsUnsplit};
 
 use crate::text::{check_row, cut, number_of, rows_of};
@@ -52,6 +52,7 @@ pub fn turn<R: Abort + Wait>(
     requires adds { All (λ e. (e.0 ≡ 0) ⊎ (e.0 ≡ number pass.old)) adds.now }
     ensures ready { IsReady turnstile.now pass.new }
     ensures kept { KeepsNumbers pass.old pass.new }
+    ensures own { own_of pass.new ≡ own_of pass.old ++ own_in pass.old adds.now }
 {
     let mut held = turnstile.take(rt, pass);
     let found = same(&held.value.list, finds);

@@ -24,10 +24,14 @@ pub(crate) fn rows_of(
     end: u8,
 ) -> Vec<&'static [u8]> {
     let mut rows = Vec::new(alloc);
-    for row in text.split(|byte| *byte == end) {
+    let mut left = text;
+    // Each piece that isn't empty takes a byte of the text.
+    for _ in 0..text.len() {
+        let (row, behind) = cut(left, end);
         if !row.is_empty() {
             rows.push(row).expect(rt, "memory");
         }
+        left = behind;
     }
     rows
 }

@@ -169,7 +169,11 @@ impl<L: Ledger> Stage<L> {
                 scratch,
                 steps,
             }),
-            Err(Memory) => Err(Memory),
+            Err(Memory) => {
+                let_setup_go(setup);
+                let_folder_go(folder);
+                Err(Memory)
+            }
         }
     }
 

@@ -242,9 +242,14 @@ fn let_copies_go(_copies: Vec<MessageCopy>) {}
 fn forget_copies(alloc: Global, states: &mut [State]) {
     for state in states {
         for topic in &mut state.topics {
-            for channel in &mut topic.channels {
-                let_copies_go(std::mem::replace(&mut channel.copies, Vec::new(alloc)));
-            }
+            forget_of(alloc, topic);
         }
+    }
+}
+
+// The same of one topic's channels.
+fn forget_of(alloc: Global, topic: &mut TopicState) {
+    for channel in &mut topic.channels {
+        let_copies_go(std::mem::replace(&mut channel.copies, Vec::new(alloc)));
     }
 }

@@ -14,6 +14,9 @@ use std::alloc::Global;
 use std::process::Abort;
 use v2_frame::{Fault, FaultKind, Frame, Message};
 
+/// The words of what is asked over HTTP.
+static ASKED: [&'static str; 6] = ["publish", "create", "delete", "empty", "pause", "unpause"];
+
 /// The features, as a client that negotiates is told them.
 const FEATURES: &str =
     r#"{"auth_required":false,"deflate":false,"deflate_level":0,"max_deflate_level":0,"max_msg_timeout":900000,"max_rdy_count":2500,"msg_timeout":60000,"sample_rate":0,"snappy":false,"tls_v1":false,"version":"1.0.0"}"#;
@@ -136,10 +139,10 @@ fn behind(text: &str, count: usize) -> &str {
 fn answered(rt: &impl Abort, alloc: Global, what: &str) -> Act {
     let (what, answer) = halves(what, " => ");
     let (word, rest) = cut(what);
+    if is_asked(word) {
+        return Act::Asked(ask_of(rt, alloc, word, words(rest)), said_of(rt, answer));
+    }
     match word {
-        "publish" | "create" | "delete" | "empty" | "pause" | "unpause" => {
-            Act::Asked(ask_of(rt, alloc, word, words(rest)), said_of(rt, answer))
-        }
         "refused" => {
             let (kind, at) = cut(rest);
             Act::Refused(fault_of(rt, kind, at), frame(rt, alloc, answer))
@@ -149,6 +152,16 @@ fn answered(rt: &impl Abort, alloc: Global, what: &str) -> Act {
             Act::Did(command_of(rt, alloc, word, rest), reply)
         }
     }
+}
+
+// Whether this is the word of what is asked over HTTP.
+fn is_asked(word: &str) -> bool {
+    for asked in &ASKED {
+        if is(word, asked) {
+            return true;
+        }
+    }
+    false
 }
 
 // A fault of a client's bytes of this kind, at this place.

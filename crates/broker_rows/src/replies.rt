@@ -242,19 +242,31 @@ fn holds(rt: &impl Abort, alloc: Global, row: &str) -> bool {
     let (sends, gets) = halves(rest, " => ");
     let (word, sent) = cut(sends);
     let (phase, flies) = cut(client);
-    let options = Options::defaults(alloc).expect(rt, "memory");
     let command = command_of(rt, alloc, word, sent);
-    let answer = reply(
-        alloc,
-        &options,
-        used_of(rt, used),
-        phase_of(rt, phase),
-        !flies.is_empty(),
-        &command,
-    )
-    .expect(rt, "memory");
+    let used = used_of(rt, used);
+    let phase = phase_of(rt, phase);
+    let gets_so = is_answered(rt, alloc, used, phase, !flies.is_empty(), &command, gets);
+    let_command_go(command);
+    gets_so
+}
+
+// Whether a client in this phase is answered so, where so many ids were used, and the message that it names is in flight with it or isn't.
+fn is_answered(
+    rt: &impl Abort,
+    alloc: Global,
+    used: u64,
+    phase: Phase,
+    flies: bool,
+    command: &Command,
+    gets: &str,
+) -> bool {
+    let options = Options::defaults(alloc).expect(rt, "memory");
+    let answer = reply(alloc, &options, used, phase, flies, command).expect(rt, "memory");
     is_got(&answer, gets)
 }
+
+// Takes a command apart, once for all that made one.
+fn let_command_go(_command: Command) {}
 
 // Stops at the first of these bodies, a line each, with which a fresh client's IDENTIFY isn't answered so.
 fn all_get(rt: &impl Abort, alloc: Global, bodies: &'static str, gets: &str) {
@@ -264,10 +276,10 @@ fn all_get(rt: &impl Abort, alloc: Global, bodies: &'static str, gets: &str) {
 }
 
 fn is_answered_so(rt: &impl Abort, alloc: Global, body: &str, gets: &str) -> bool {
-    let options = Options::defaults(alloc).expect(rt, "memory");
     let command = Command::Identify(copy(rt, alloc, body.as_bytes()));
-    let answer = reply(alloc, &options, 0, Phase::Fresh, false, &command).expect(rt, "memory");
-    is_got(&answer, gets)
+    let gets_so = is_answered(rt, alloc, 0, Phase::Fresh, false, &command, gets);
+    let_command_go(command);
+    gets_so
 }
 
 #[test]

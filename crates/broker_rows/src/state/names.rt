@@ -3,6 +3,7 @@
 use crate::made::{check, let_state_go, part, same};
 use crate::state::given::state;
 use broker_files::{KeptNames, kept_names, names_text, read_names};
+use broker_state::State;
 use std::alloc::Global;
 use std::process::Abort;
 
@@ -34,13 +35,19 @@ fn is_text_of(rt: &impl Abort, alloc: Global, text: &[u8], kept: &KeptNames) -> 
     same(&written, text)
 }
 
+/// Whether this is the text of what is kept of a state.
+pub fn keeps(rt: &impl Abort, alloc: Global, state: &State, text: &[u8]) -> bool {
+    let kept = kept_names(alloc, state).expect(rt, "memory");
+    is_text_of(rt, alloc, text, &kept)
+}
+
 fn holds(rt: &impl Abort, alloc: Global, row: &str) -> bool {
     let (_, rest) = part(rt, row, "\n");
     let (given, text) = part(rt, rest, "=> ");
     let state = state(rt, alloc, given.trim());
-    let kept = kept_names(alloc, &state).expect(rt, "memory");
+    let keeps = keeps(rt, alloc, &state, text.as_bytes());
     let_state_go(state);
-    is_text_of(rt, alloc, text.as_bytes(), &kept) && stays(rt, alloc, text.as_bytes())
+    keeps && stays(rt, alloc, text.as_bytes())
 }
 
 #[test]

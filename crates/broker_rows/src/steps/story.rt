@@ -41,30 +41,24 @@ const EMPTY: Start = Start {
 
 // What a run of these words starts from.
 fn start_named(rt: &impl Abort, words: &str) -> Start {
+    let mut start = EMPTY;
     match words {
-        "given" => EMPTY,
-        "given no memory" => Start { mem: 0, ..EMPTY },
-        "given memory for one" => Start { mem: 1, ..EMPTY },
-        "given a second for a message" => Start {
-            msg_timeout: SECOND,
-            ..EMPTY
-        },
-        "given no ids" => Start {
-            ids_used: 1 << 40,
-            ..EMPTY
-        },
-        "given a message twice" => Start {
-            found: &[(0, 0), (0, 0)],
-            ids_used: 1,
-            ..EMPTY
-        },
-        "given three messages in a second run" => Start {
-            epoch: 2,
-            found: &[(2, 0), (1, 1), (0, 1)],
-            ..EMPTY
-        },
-        _ => unknown(rt, words),
+        "given" => {}
+        "given no memory" => start.mem = 0,
+        "given memory for one" => start.mem = 1,
+        "given a second for a message" => start.msg_timeout = SECOND,
+        "given no ids" => start.ids_used = 1 << 40,
+        "given a message twice" => {
+            start.found = &[(0, 0), (0, 0)];
+            start.ids_used = 1;
+        }
+        "given three messages in a second run" => {
+            start.epoch = 2;
+            start.found = &[(2, 0), (1, 1), (0, 1)];
+        }
+        _ => return unknown(rt, words),
     }
+    start
 }
 
 // Whether the row's story is legal, and leads on as it says.

@@ -2,7 +2,8 @@
 
 use crate::folders::{files_of, listed, names_in, started};
 use crate::made::{check, let_files_go, let_names_go, let_state_go, same};
-use broker_files::{FoundNames, kept_names, names_text};
+use crate::state::names::keeps;
+use broker_files::FoundNames;
 use broker_state::{State, queued};
 use nsq_base::Options;
 use path_plain::NamedFile;
@@ -41,11 +42,9 @@ fn queued_first(state: &State) -> usize {
 fn starts(rt: &impl Abort, alloc: Global, names: &FoundNames) -> bool {
     let options = Options::defaults(alloc).expect(rt, "memory");
     let state = started(rt, alloc, names, &options, 0);
-    let kept = kept_names(alloc, &state).expect(rt, "memory");
-    let text = names_text(alloc, &kept).expect(rt, "memory");
     let starts = queued_first(&state) == 3
         && state.ids_used == 0
-        && same(&text, listed(rt, "NEXT_EPOCH"));
+        && keeps(rt, alloc, &state, listed(rt, "NEXT_EPOCH"));
     let_state_go(state);
     starts
 }

@@ -46,6 +46,39 @@ pub(crate) fn number_of(rt: &impl Abort, digits: &'static [u8]) -> u64 {
     text_of(rt, digits).parse::<u64>().expect(rt, "a number")
 }
 
+/// Bytes in UTF-8 as a word; no word where they aren't.
+pub(crate) fn word_in(bytes: &'static [u8]) -> &'static str {
+    match str::from_utf8(bytes) {
+        Ok(word) => word,
+        Err(_) => "",
+    }
+}
+
+/// The number of these digits, where they are some.
+pub(crate) fn number_in(digits: &'static [u8]) -> Option<u64> {
+    match word_in(digits).parse::<u64>() {
+        Ok(number) => Some(number),
+        Err(_) => None,
+    }
+}
+
+/// Whether these digits say the number.
+pub(crate) fn is_number(number: u64, digits: &'static [u8]) -> bool {
+    match number_in(digits) {
+        Some(said) => said == number,
+        None => false,
+    }
+}
+
+/// Whether a word says what is: the first of two where it is so, else the second.
+pub(crate) fn says(word: &[u8], so: bool, first: &[u8], second: &[u8]) -> bool {
+    if so {
+        same(word, first)
+    } else {
+        same(word, second)
+    }
+}
+
 /// Whether a word is the first of two; it is one of them.
 pub(crate) fn is_first(rt: &impl Abort, word: &[u8], first: &[u8], second: &[u8]) -> bool {
     let is_first = same(word, first);

@@ -52,17 +52,21 @@ fn put<L: Ledger>(both: &mut Both, due: u64, item: u64, steps: &mut Steps<L>) ->
     true
 }
 
+// Pops what is due from the plain list.
+fn pop_due(plain: &mut Vec<Plain>, now: u64) -> Option<Plain> {
+    match first_of(plain) {
+        Some((i, due)) if i < plain.len() && due <= now => Some(plain.remove(i)),
+        _ => None,
+    }
+}
+
 // Pops what is due from both, and says whether it is the same.
 fn pops_the_same<L: Ledger>(both: &mut Both, now: u64, steps: &mut Steps<L>) -> bool {
     let popped = both.heap.pop_due(now, steps);
-    let Some((i, _)) = first_of(&both.plain) else {
-        return popped.is_none();
-    };
-    if i >= both.plain.len() || both.plain[i].due > now {
-        return popped.is_none();
+    match pop_due(&mut both.plain, now) {
+        Some(entry) => popped == Some(entry.item) && both.heap.get(entry.key).is_none(),
+        None => popped.is_none(),
     }
-    let entry = both.plain.remove(i);
-    popped == Some(entry.item) && both.heap.get(entry.key).is_none()
 }
 
 // Takes one item out of both, and says whether it is the same.

@@ -2,8 +2,7 @@
 //! the `default` all the same or `other`, and whether each has a value `in range` or one is `out of range`. Times are in nanoseconds.
 
 use crate::same;
-use crate::text::{check_row, cut, is_first, number_of, rows_of, text_of};
-use crate::words::unknown;
+use crate::text::{check_row, cut, number_in, rows_of, says, word_in};
 use nsq_base::{Body, Options};
 use std::alloc::Global;
 use std::process::Abort;
@@ -19,23 +18,42 @@ an address without a port|tcp-address 0.0.0.0:|other|out of range~\
 a stop over HTTP|http-stop true|other|in range~\
 ";
 
-// Puts a text in the place of another one.
-fn put(rt: &impl Abort, alloc: Global, place: &mut Body, text: &[u8]) {
-    *place = Body::copy(alloc, text).expect(rt, "memory");
+// Puts a text in the place of another one. False where memory is wanting.
+fn put(alloc: Global, place: &mut Body, text: &[u8]) -> bool {
+    let Ok(text) = Body::copy(alloc, text) else {
+        return false;
+    };
+    *place = text;
+    true
 }
 
-fn give(rt: &impl Abort, alloc: Global, options: &mut Options, word: &str, value: &'static [u8]) {
+// Puts what a word says in its place. False where nobody knows the word.
+fn put_word(place: &mut bool, word: &[u8]) -> bool {
+    *place = same(word, b"true");
+    says(word, *place, b"true", b"false")
+}
+
+// Gives an option. False where nobody knows it, or where it can't have this value.
+fn give(alloc: Global, options: &mut Options, word: &str, value: &'static [u8]) -> bool {
     match word {
-        "tcp-address" => put(rt, alloc, &mut options.tcp_address, value),
-        "http-address" => put(rt, alloc, &mut options.http_address, value),
-        "broadcast-address" => put(rt, alloc, &mut options.broadcast_address, value),
-        "data-path" => put(rt, alloc, &mut options.data_path, value),
-        "http-stop" => options.http_stop = is_first(rt, value, b"true", b"false"),
-        _ => give_number(rt, options, word, number_of(rt, value)),
+        "tcp-address" => put(alloc, &mut options.tcp_address, value),
+        "http-address" => put(alloc, &mut options.http_address, value),
+        "broadcast-address" => put(alloc, &mut options.broadcast_address, value),
+        "data-path" => put(alloc, &mut options.data_path, value),
+        "http-stop" => put_word(&mut options.http_stop, value),
+        _ => give_digits(options, word, value),
     }
 }
 
-fn give_number(rt: &impl Abort, options: &mut Options, word: &str, number: u64) {
+// Gives an option that is a number.
+fn give_digits(options: &mut Options, word: &str, digits: &'static [u8]) -> bool {
+    match number_in(digits) {
+        Some(number) => give_number(options, word, number),
+        None => false,
+    }
+}
+
+fn give_number(options: &mut Options, word: &str, number: u64) -> bool {
     match word {
         "mem-queue-size" => options.mem_queue_size = number,
         "sync-every" => options.sync_every = number,
@@ -43,44 +61,68 @@ fn give_number(rt: &impl Abort, options: &mut Options, word: &str, number: u64) 
         "msg-timeout" => options.msg_timeout = number,
         "max-msg-timeout" => options.max_msg_timeout = number,
         "max-req-timeout" => options.max_req_timeout = number,
-        _ => give_small(
-            rt,
-            options,
-            word,
-            u32::try_from(number).expect(rt, "a number"),
-        ),
+        _ => return give_small(options, word, number),
     }
+    true
 }
 
-fn give_small(rt: &impl Abort, options: &mut Options, word: &str, number: u32) {
+fn give_small(options: &mut Options, word: &str, number: u64) -> bool {
+    let Ok(number) = u32::try_from(number) else {
+        return false;
+    };
     match word {
         "max-msg-size" => options.max_msg_size = number,
         "max-body-size" => options.max_body_size = number,
         "max-rdy-count" => options.max_rdy_count = number,
-        _ => unknown(rt, word),
+        _ => return false,
+    }
+    true
+}
+
+// Gives each of these options, one after another.
+fn give_each(alloc: Global, options: &mut Options, given: &[&'static [u8]]) -> bool {
+    let mut all = true;
+    for it in given {
+        let (word, value) = cut(it, b' ');
+        all = all && give(alloc, options, word_in(word), value);
+    }
+    all
+}
+
+// Whether the options are what the words say beside the defaults.
+fn are(options: &Options, defaults: &Options, words: &'static [u8]) -> bool {
+    let (default, range) = cut(words, b'|');
+    says(default, *options == *defaults, b"default", b"other")
+        && says(range, options.in_range(), b"in range", b"out of range")
+}
+
+// Whether a copy of the defaults, with what is given in their place, is what the words say.
+fn is_copy(
+    alloc: Global,
+    defaults: &Options,
+    given: &[&'static [u8]],
+    words: &'static [u8],
+) -> bool {
+    match defaults.copy(alloc) {
+        Ok(mut options) => {
+            give_each(alloc, &mut options, given) && are(&options, defaults, words)
+        }
+        Err(_) => false,
     }
 }
 
-// A copy of the defaults, with what is given in their place.
-fn options_of(rt: &impl Abort, alloc: Global, given: &'static [u8]) -> Options {
-    let defaults = Options::defaults(alloc).expect(rt, "memory");
-    let mut options = defaults.copy(alloc).expect(rt, "memory");
-    drop(defaults);
-    for it in &rows_of(rt, alloc, given, b';') {
-        let (word, value) = cut(it, b' ');
-        give(rt, alloc, &mut options, text_of(rt, word), value);
+// Whether the defaults, with what is given in their place, are what the words say.
+fn is_given(alloc: Global, given: &[&'static [u8]], words: &'static [u8]) -> bool {
+    match Options::defaults(alloc) {
+        Ok(defaults) => is_copy(alloc, &defaults, given, words),
+        Err(_) => false,
     }
-    options
 }
 
 fn holds(rt: &impl Abort, alloc: Global, row: &'static [u8]) -> bool {
     let (_, rest) = cut(row, b'|');
-    let (given, rest) = cut(rest, b'|');
-    let (default, range) = cut(rest, b'|');
-    let options = options_of(rt, alloc, given);
-    let defaults = Options::defaults(alloc).expect(rt, "memory");
-    (options == defaults) == is_first(rt, default, b"default", b"other")
-        && options.in_range() == is_first(rt, range, b"in range", b"out of range")
+    let (given, words) = cut(rest, b'|');
+    is_given(alloc, &rows_of(rt, alloc, given, b';'), words)
 }
 
 #[test]

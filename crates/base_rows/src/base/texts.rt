@@ -1,9 +1,9 @@
 //! Texts of the base types. A row is a name, a text, and what it is.
 
-use crate::text::{check_row, cut, number_of, rows_of};
+use crate::text::{check_row, cut, is_number, rows_of};
 use crate::{check, same};
 use nsq_base::{Chan, Memory, MsgId, Topic, is_address, port};
-use std::process::Abort;
+use std::alloc::Global;
 
 // Addresses, each with its port, or `none`.
 static ADDRESSES: &[u8] = b"\
@@ -51,11 +51,11 @@ a channel that isn't|c|name~\
 ";
 
 // Whether the text is an address with this port, or none.
-fn is_port(rt: &impl Abort, text: &[u8], wanted: &'static [u8]) -> bool {
+fn is_port(text: &[u8], wanted: &'static [u8]) -> bool {
     if !is_address(text) {
         return same(wanted, b"none");
     }
-    !same(wanted, b"none") && u64::from(port(text)) == number_of(rt, wanted)
+    is_number(u64::from(port(text)), wanted)
 }
 
 // The number of hexadecimal digits.
@@ -125,36 +125,46 @@ fn is_channel(given: &[u8], wanted: &[u8]) -> bool {
     }
 }
 
-// The fields of a row: its name, a text, and what it is.
-fn fields(row: &'static [u8]) -> [&'static [u8]; 3] {
-    let (name, rest) = cut(row, b'|');
-    let (text, wanted) = cut(rest, b'|');
-    [name, text, wanted]
+// What a table is of.
+enum Kind {
+    Address,
+    Id,
+    Name,
+}
+
+fn table_of(kind: &Kind) -> &'static [u8] {
+    match kind {
+        Kind::Address => ADDRESSES,
+        Kind::Id => IDS,
+        Kind::Name => NAMES,
+    }
+}
+
+// Whether a text is what the row says behind its name.
+fn holds(kind: &Kind, row: &'static [u8]) -> bool {
+    let (text, wanted) = cut(row, b'|');
+    match kind {
+        Kind::Address => is_port(text, wanted),
+        Kind::Id => is_id(text, wanted),
+        Kind::Name => is_topic(text, wanted) && is_channel(text, wanted),
+    }
+}
+
+// Whether want of memory is told so.
+fn is_told(alloc: Global) -> bool {
+    match format!(in alloc; "{}", Memory) {
+        Ok(told) => same(told.as_bytes(), b"out of memory"),
+        Err(_) => false,
+    }
 }
 
 #[test]
 fn rows(rt: HostRuntime) {
-    let alloc = rt.alloc();
-    for row in &rows_of(&rt, alloc, ADDRESSES, b'~') {
-        let [name, text, wanted] = fields(row);
-        check_row(&rt, is_port(&rt, text, wanted), name);
+    for kind in &[Kind::Address, Kind::Id, Kind::Name] {
+        for row in &rows_of(&rt, rt.alloc(), table_of(kind), b'~') {
+            let (name, rest) = cut(row, b'|');
+            check_row(&rt, holds(kind, rest), name);
+        }
     }
-    for row in &rows_of(&rt, alloc, IDS, b'~') {
-        let [name, text, wanted] = fields(row);
-        check_row(&rt, is_id(text, wanted), name);
-    }
-    for row in &rows_of(&rt, alloc, NAMES, b'~') {
-        let [name, text, wanted] = fields(row);
-        check_row(
-            &rt,
-            is_topic(text, wanted) && is_channel(text, wanted),
-            name,
-        );
-    }
-    let told = format!(in alloc; "{}", Memory).expect(&rt, "memory");
-    check(
-        &rt,
-        same(told.as_bytes(), b"out of memory"),
-        "want of memory",
-    );
+    check(&rt, is_told(rt.alloc()), "want of memory");
 }

@@ -23,11 +23,11 @@ fn channels_of(names: &Names, topic: Topic) -> Option<usize> {
     None
 }
 
-// Puts it in. False where it has no names, or where after Memory the names weren't as before.
-fn puts(rt: &impl Abort, names: &mut Names, given: &'static [u8]) -> bool {
+// Puts it in, where there is memory. False where it has no names, or where after Memory the names weren't as before.
+fn puts(names: &mut Names, given: &'static [u8]) -> Option<bool> {
     let (topic, channel) = cut(given, b' ');
     let Some(topic) = Topic::read(topic) else {
-        return false;
+        return Some(false);
     };
     let before = names.count();
     let channels = channels_of(names, topic);
@@ -35,54 +35,62 @@ fn puts(rt: &impl Abort, names: &mut Names, given: &'static [u8]) -> bool {
         None => names.add(topic),
         Some(channel) => names.add_channel(topic, channel),
     };
-    match done {
-        Ok(()) => true,
-        Err(_) if names.count() != before || channels_of(names, topic) != channels => false,
-        Err(_) => panic!(rt; "memory"),
+    if done.is_ok() {
+        return Some(true);
     }
+    if names.count() == before && channels_of(names, topic) == channels {
+        None
+    } else {
+        Some(false)
+    }
+}
+
+// Puts all of it in, in this order.
+fn puts_all(rt: &impl Abort, alloc: Global, names: &mut Names, given: &'static [u8]) -> bool {
+    let mut all = true;
+    for it in &rows_of(rt, alloc, given, b';') {
+        all = all && puts(names, it).expect(rt, "memory");
+    }
+    all
 }
 
 // Whether the channels are these.
-fn are_channels(channels: &[Chan], want: &[&[u8]]) -> bool {
-    if channels.len() != want.len() {
-        return false;
-    }
+fn are_channels(channels: &[Chan], want: &'static [u8]) -> bool {
+    let mut rest = want;
     let mut all = true;
-    for i in 0..want.len() {
-        all = all && same(channels[i].bytes(), want[i]);
+    for channel in channels {
+        let (name, behind) = cut(rest, b' ');
+        all &= same(channel.bytes(), name);
+        rest = behind;
     }
-    all
+    all && rest.is_empty()
 }
 
 // Whether the topics are these, with their channels.
-fn are_topics(rt: &impl Abort, alloc: Global, names: &Names, want: &[&'static [u8]]) -> bool {
-    if names.count() != want.len() {
-        return false;
-    }
+fn are_topics(names: &Names, want: &'static [u8]) -> bool {
+    let mut rest = want;
     let mut all = true;
-    for i in 0..want.len() {
-        let (topic, channels) = cut(want[i], b' ');
-        let channels = rows_of(rt, alloc, channels, b' ');
-        all = all
-            && same(names.topic(i).bytes(), topic)
-            && are_channels(names.channels(i), &channels);
+    for i in 0..names.count() {
+        let (it, behind) = cut(rest, b';');
+        let (topic, channels) = cut(it, b' ');
+        all &= same(names.topic(i).bytes(), topic) & are_channels(names.channels(i), channels);
+        rest = behind;
     }
-    all
+    all && rest.is_empty()
+}
+
+// Whether the topics of the names and of their copy are these.
+fn are_both(names: &Names, copy: &Names, want: &'static [u8]) -> bool {
+    *copy == *names && are_topics(names, want) && are_topics(copy, want)
 }
 
 fn holds(rt: &impl Abort, alloc: Global, row: &'static [u8]) -> bool {
     let (_, rest) = cut(row, b'|');
     let (given, topics) = cut(rest, b'|');
-    let topics = rows_of(rt, alloc, topics, b';');
     let mut names = Names::new(alloc);
-    let mut all = true;
-    for it in &rows_of(rt, alloc, given, b';') {
-        all = all && puts(rt, &mut names, it);
-    }
+    let all = puts_all(rt, alloc, &mut names, given);
     let copy = names.copy(alloc).expect(rt, "memory");
-    all && copy == names
-        && are_topics(rt, alloc, &names, &topics)
-        && are_topics(rt, alloc, &copy, &topics)
+    all & are_both(&names, &copy, topics)
 }
 
 #[test]

@@ -85,7 +85,7 @@ fn holds(
 ) -> bool {
     let bytes = bytes_of(rt, alloc, bytes);
     let plain = request_of(alloc, limit, &bytes).expect(rt, "memory");
-    is_wanted(rt, alloc, &plain, wanted) && is_read(rt, alloc, limit, &bytes, &plain)
+    is_wanted(rt, alloc, &plain, wanted) && is_read(alloc, limit, &bytes, &plain)
 }
 
 /// Checks a row.

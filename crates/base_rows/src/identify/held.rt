@@ -4,56 +4,67 @@
 
 use crate::identify::{read, refused, shapes};
 use crate::same;
-use crate::text::{check_row, cut, is_first, number_of, rows_of};
+use crate::text::{check_row, cut, is_number, number_in, rows_of, says};
 use broker_state::{Phase, reply};
 use negotiation::{Identity, identify_reply, read_identity};
 use nsq_base::{Body, Options};
 use std::alloc::Global;
-use std::process::Abort;
 use v2_frame::{Command, Frame, FrameKind};
 
 /// What a client gets that says nothing.
 const NOTHING: &[u8] = b"^^ 30000000000 60000000000 plain OK";
 
 // Whether a body is read so with these options, and is answered so, by the plain program too.
-fn is_got(
-    rt: &impl Abort,
-    alloc: Global,
-    options: &Options,
-    body: &[u8],
-    wanted: &'static [u8],
-) -> bool {
-    let found = read_identity(alloc, options, body).expect(rt, "memory");
-    let frame = identify_reply(alloc, options, found.as_ref()).expect(rt, "memory");
-    is_read(rt, &found, &frame, wanted) && is_plain(rt, alloc, options, body, &frame)
-}
-
-// Whether the plain program answers so.
-fn is_plain(rt: &impl Abort, alloc: Global, options: &Options, body: &[u8], frame: &Frame) -> bool {
-    let command = Command::Identify(Body::copy(alloc, body).expect(rt, "memory"));
-    match reply(alloc, options, 0, Phase::Fresh, false, &command).expect(rt, "memory") {
-        Some(plain) => is_frame(&plain, frame.kind, frame.body.bytes()),
-        None => false,
+fn is_got(alloc: Global, options: &Options, body: &[u8], wanted: &'static [u8]) -> bool {
+    match read_identity(alloc, options, body) {
+        Ok(found) => is_answered(alloc, options, body, &found, wanted),
+        Err(_) => false,
     }
 }
 
-fn is_read(
-    rt: &impl Abort,
+// Whether what a body is read as is this, and is answered so.
+fn is_answered(
+    alloc: Global,
+    options: &Options,
+    body: &[u8],
     found: &Option<Identity>,
-    frame: &Frame,
     wanted: &'static [u8],
 ) -> bool {
+    match identify_reply(alloc, options, found.as_ref()) {
+        Ok(frame) => is_read(found, &frame, wanted) && is_plain(alloc, options, body, &frame),
+        Err(_) => false,
+    }
+}
+
+// Whether the plain program answers so.
+fn is_plain(alloc: Global, options: &Options, body: &[u8], frame: &Frame) -> bool {
+    match Body::copy(alloc, body) {
+        Ok(body) => is_reply(alloc, options, &Command::Identify(body), frame),
+        Err(_) => false,
+    }
+}
+
+// Whether the plain program answers the command so.
+fn is_reply(alloc: Global, options: &Options, command: &Command, frame: &Frame) -> bool {
+    match reply(alloc, options, 0, Phase::Fresh, false, command) {
+        Ok(Some(plain)) => is_frame(&plain, frame.kind, frame.body.bytes()),
+        _ => false,
+    }
+}
+
+// Whether what was found is this, and is answered so.
+fn is_read(found: &Option<Identity>, frame: &Frame, wanted: &'static [u8]) -> bool {
     match found {
         None => same(wanted, b"refused")
             && is_frame(frame, FrameKind::Error, b"E_BAD_BODY bad JSON"),
         Some(_) if same(wanted, b"refused") => false,
-        Some(identity) if same(wanted, b"nothing") => is_said(rt, identity, frame, NOTHING),
-        Some(identity) => is_said(rt, identity, frame, wanted),
+        Some(identity) if same(wanted, b"nothing") => is_said(identity, frame, NOTHING),
+        Some(identity) => is_said(identity, frame, wanted),
     }
 }
 
 // Whether an identity says this, and is answered so.
-fn is_said(rt: &impl Abort, identity: &Identity, frame: &Frame, wanted: &'static [u8]) -> bool {
+fn is_said(identity: &Identity, frame: &Frame, wanted: &'static [u8]) -> bool {
     let (client, rest) = cut(wanted, b'^');
     let (host, rest) = cut(rest, b'^');
     let (agent, rest) = cut(rest, b' ');
@@ -61,18 +72,18 @@ fn is_said(rt: &impl Abort, identity: &Identity, frame: &Frame, wanted: &'static
     let (timeout, rest) = cut(rest, b' ');
     let (how, answer) = cut(rest, b' ');
     same(identity.client_id.bytes(), client)
-        && same(identity.hostname.bytes(), host)
-        && same(identity.user_agent.bytes(), agent)
-        && is_beat(rt, identity.heartbeat, heartbeat)
-        && identity.timeout == number_of(rt, timeout)
-        && identity.negotiates == is_first(rt, how, b"json", b"plain")
-        && is_frame(frame, FrameKind::Response, answer)
+        & same(identity.hostname.bytes(), host)
+        & same(identity.user_agent.bytes(), agent)
+        & is_beat(identity.heartbeat, heartbeat)
+        & is_number(identity.timeout, timeout)
+        & says(how, identity.negotiates, b"json", b"plain")
+        & is_frame(frame, FrameKind::Response, answer)
 }
 
-fn is_beat(rt: &impl Abort, heartbeat: Option<u64>, wanted: &'static [u8]) -> bool {
+fn is_beat(heartbeat: Option<u64>, wanted: &'static [u8]) -> bool {
     match heartbeat {
         None => same(wanted, b"off"),
-        Some(time) => !same(wanted, b"off") && time == number_of(rt, wanted),
+        Some(time) => is_number(time, wanted),
     }
 }
 
@@ -81,36 +92,70 @@ fn is_frame(frame: &Frame, kind: FrameKind, text: &[u8]) -> bool {
 }
 
 // Whether a body is read so with the default options.
-fn holds(rt: &impl Abort, alloc: Global, body: &[u8], wanted: &'static [u8]) -> bool {
-    let options = Options::defaults(alloc).expect(rt, "memory");
-    is_got(rt, alloc, &options, body, wanted)
+fn holds(alloc: Global, body: &[u8], wanted: &'static [u8]) -> bool {
+    match Options::defaults(alloc) {
+        Ok(options) => is_got(alloc, &options, body, wanted),
+        Err(_) => false,
+    }
 }
 
-// A body of an unknown member with so many lists, one inside the other: with the object itself it nests one deeper.
-fn nested(rt: &impl Abort, alloc: Global, lists: u64) -> Vec<u8> {
-    let mut body = br#"{"unknown":"#.to_vec(alloc).expect(rt, "memory");
-    for _ in 0..lists {
-        body.push(b'[').expect(rt, "memory");
+// Appends a byte, so many times. False where memory is wanting.
+fn append(bytes: &mut Vec<u8>, byte: u8, count: u64) -> bool {
+    for _ in 0..count {
+        if bytes.push(byte).is_err() {
+            return false;
+        }
     }
-    for _ in 0..lists {
-        body.push(b']').expect(rt, "memory");
-    }
-    body.push(b'}').expect(rt, "memory");
-    body
+    true
 }
 
-// With other options: the longest heartbeat interval and time for a message, and the time for a message where none is said, in
-// nanoseconds.
-fn holds_other(rt: &impl Abort, alloc: Global, row: &'static [u8]) -> bool {
+// Whether a body of an unknown member with so many lists, one inside the other, is read so: with the object itself it nests one
+// deeper.
+fn holds_nested(alloc: Global, lists: &'static [u8], wanted: &'static [u8]) -> bool {
+    let Some(lists) = number_in(lists) else {
+        return false;
+    };
+    match br#"{"unknown":"#.to_vec(alloc) {
+        Ok(mut body) => {
+            append(&mut body, b'[', lists)
+                && append(&mut body, b']', lists)
+                && append(&mut body, b'}', 1)
+                && holds(alloc, &body, wanted)
+        }
+        Err(_) => false,
+    }
+}
+
+// Puts the number of these digits in a place. False where they are none.
+fn put(place: &mut u64, digits: &'static [u8]) -> bool {
+    match number_in(digits) {
+        Some(number) => {
+            *place = number;
+            true
+        }
+        None => false,
+    }
+}
+
+// Puts the numbers in front of a row into the options, and says whether a body is read so with them: the longest heartbeat interval
+// and time for a message, and the time for a message where none is said, in nanoseconds.
+fn holds_with(alloc: Global, options: &mut Options, row: &'static [u8]) -> bool {
     let (longest_beat, rest) = cut(row, b'|');
     let (longest_wait, rest) = cut(rest, b'|');
     let (wait, rest) = cut(rest, b'|');
     let (body, wanted) = cut(rest, b'|');
-    let mut options = Options::defaults(alloc).expect(rt, "memory");
-    options.max_heartbeat_interval = number_of(rt, longest_beat);
-    options.max_msg_timeout = number_of(rt, longest_wait);
-    options.msg_timeout = number_of(rt, wait);
-    is_got(rt, alloc, &options, body, wanted)
+    put(&mut options.max_heartbeat_interval, longest_beat)
+        && put(&mut options.max_msg_timeout, longest_wait)
+        && put(&mut options.msg_timeout, wait)
+        && is_got(alloc, options, body, wanted)
+}
+
+// Whether a row holds that has other options than the default ones.
+fn holds_other(alloc: Global, row: &'static [u8]) -> bool {
+    match Options::defaults(alloc) {
+        Ok(mut options) => holds_with(alloc, &mut options, row),
+        Err(_) => false,
+    }
 }
 
 #[test]
@@ -126,26 +171,32 @@ fn rows(rt: HostRuntime) {
     for table in tables {
         for row in &rows_of(&rt, alloc, table, b'\n') {
             let (body, wanted) = cut(row, b'|');
-            check_row(&rt, holds(&rt, alloc, body, wanted), row);
+            check_row(&rt, holds(alloc, body, wanted), row);
         }
     }
-    for row in &rows_of(&rt, alloc, read::OTHERS, b'\n') {
-        check_row(&rt, holds_other(&rt, alloc, row), row);
+}
+
+#[test]
+fn other_rows(rt: HostRuntime) {
+    for row in &rows_of(&rt, rt.alloc(), read::OTHERS, b'\n') {
+        check_row(&rt, holds_other(rt.alloc(), row), row);
     }
 }
 
 #[test]
 fn named_rows(rt: HostRuntime) {
-    let alloc = rt.alloc();
-    for row in &rows_of(&rt, alloc, shapes::NAMED, b'~') {
+    for row in &rows_of(&rt, rt.alloc(), shapes::NAMED, b'~') {
         let (name, rest) = cut(row, b'|');
         let (body, wanted) = cut(rest, b'|');
-        check_row(&rt, holds(&rt, alloc, body, wanted), name);
+        check_row(&rt, holds(rt.alloc(), body, wanted), name);
     }
-    for row in &rows_of(&rt, alloc, shapes::NESTED, b'~') {
+}
+
+#[test]
+fn nested_rows(rt: HostRuntime) {
+    for row in &rows_of(&rt, rt.alloc(), shapes::NESTED, b'~') {
         let (name, wanted) = cut(row, b'|');
         let (lists, _) = cut(name, b' ');
-        let body = nested(&rt, alloc, number_of(&rt, lists));
-        check_row(&rt, holds(&rt, alloc, &body, wanted), row);
+        check_row(&rt, holds_nested(rt.alloc(), lists, wanted), row);
     }
 }

@@ -2,7 +2,7 @@ ghost use Rattle.std.specs.Prelude.{◌≡◌, ◌^◌, ◌<◌, IfSome};
 ghost use Rattle.v2_frame.specs.Writing.{CanWrite};
 
 use crate::same;
-use crate::text::{check_row, cut, rows_of, text_of};
+use crate::text::{check_row, cut, rows_of};
 use std::alloc::Global;
 use std::process::Abort;
 use v2_frame::{Command, Found, Limits, judge_front, write_command};
@@ -38,24 +38,35 @@ fn command_of(rt: &impl Abort, alloc: Global, bytes: &[u8]) -> Option<Command>
 }
 
 // Whether the command prints as this.
-fn prints(rt: &impl Abort, alloc: Global, command: &Command, want: &str) -> bool {
-    let text = format!(in alloc; "{command:?}").expect(rt, "memory");
-    same(text.as_bytes(), want.as_bytes())
+fn prints(alloc: Global, command: &Command, want: &[u8]) -> bool {
+    match format!(in alloc; "{command:?}") {
+        Ok(text) => same(text.as_bytes(), want),
+        Err(_) => false,
+    }
 }
 
-// Whether the command that is spelled prints as the row says, and is written behind what is there as its canonical spelling.
+// Whether the command is written behind what is there as its canonical spelling.
+fn is_written(alloc: Global, command: &Command, canonical: &[u8]) -> bool
+    requires { CanWrite command.now }
+{
+    let Ok(mut out) = b"  V2".to_vec(alloc) else {
+        return false;
+    };
+    let done = write_command(alloc, command, &mut out).is_ok();
+    match out.strip_prefix(b"  V2") {
+        Some(written) => done & same(written, canonical),
+        None => false,
+    }
+}
+
+// Whether the command that is spelled prints as the row says, and is written as it says.
 fn holds(rt: &impl Abort, alloc: Global, row: &'static [u8]) -> bool {
     let (_, rest) = cut(row, b'|');
     let (spelled, rest) = cut(rest, b'|');
     let (prints_as, canonical) = cut(rest, b'|');
-    let Some(command) = command_of(rt, alloc, spelled) else {
-        return false;
-    };
-    let mut out = b"  V2".to_vec(alloc).expect(rt, "memory");
-    write_command(alloc, &command, &mut out).expect(rt, "memory");
-    match out.strip_prefix(b"  V2") {
-        Some(written) => {
-            same(written, canonical) && prints(rt, alloc, &command, text_of(rt, prints_as))
+    match command_of(rt, alloc, spelled) {
+        Some(command) => {
+            is_written(alloc, &command, canonical) & prints(alloc, &command, prints_as)
         }
         None => false,
     }

@@ -3,6 +3,7 @@
 use crate::http::stats::told::stats_of;
 use crate::same;
 use crate::text::{check_row, cut, number_of, rows_of};
+use broker_history::Stats;
 use http_stats::stats_text;
 use serde_json::Value;
 use std::alloc::Global;
@@ -60,23 +61,33 @@ fn holds(rt: &impl Abort, alloc: Global, row: &'static [u8]) -> bool {
     let (began, rest) = cut(rest, b'|');
     let (topics, wanted) = cut(rest, b'|');
     let stats = stats_of(rt, alloc, topics);
-    let mut out = BEFORE.to_vec(alloc).expect(rt, "memory");
-    stats_text(alloc, &stats, number_of(rt, began), &mut out).expect(rt, "memory");
+    is_told(alloc, &stats, number_of(rt, began), wanted)
+}
+
+// Whether this text is told of the statistics.
+fn is_told(alloc: Global, stats: &Stats, began: u64, wanted: &[u8]) -> bool {
+    let Ok(mut out) = BEFORE.to_vec(alloc) else {
+        return false;
+    };
+    let done = stats_text(alloc, stats, began, &mut out).is_ok();
     match out.strip_prefix(BEFORE) {
-        Some(text) => same(text, wanted) && is_read(rt, alloc, text),
+        Some(text) => done && same(text, wanted) && is_read(alloc, text),
         None => false,
     }
 }
 
 // Whether a reader of JSON reads the text as an object of four members.
-fn is_read(rt: &impl Abort, alloc: Global, text: &[u8]) -> bool {
+fn is_read(alloc: Global, text: &[u8]) -> bool {
     match Value::from_slice(alloc, text) {
-        Ok(value) => match value.as_object() {
-            Some(members) => members.len() == 4,
-            None => false,
-        },
-        Err(error) if error.is_memory() => panic!(rt; "memory"),
+        Ok(value) => has_four(&value),
         Err(_) => false,
+    }
+}
+
+fn has_four(value: &Value) -> bool {
+    match value.as_object() {
+        Some(members) => members.len() == 4,
+        None => false,
     }
 }
 

@@ -132,6 +132,7 @@ enum Kind {
     Name,
 }
 
+// The rows of such a table.
 fn table_of(kind: &Kind) -> &'static [u8] {
     match kind {
         Kind::Address => ADDRESSES,

@@ -55,7 +55,7 @@ texts that aren't UTF-8|0|t 0 0 0 on&c 0 0 0 0 0 0 0 on;0 0 0 0 0 \xff^a\xc3^\xe
 \"version\":\"1.0.0\"}~\
 ";
 
-// Whether a row holds: the text stands behind what stood there, and a reader of JSON reads it.
+// Whether a row holds: the text stands behind what stood there, and a reader of JSON reads it as an object of four members.
 fn holds(rt: &impl Abort, alloc: Global, row: &'static [u8]) -> bool {
     let (_, rest) = cut(row, b'|');
     let (began, rest) = cut(rest, b'|');
@@ -76,7 +76,7 @@ fn is_told(alloc: Global, stats: &Stats, began: u64, wanted: &[u8]) -> bool {
     }
 }
 
-// Whether a reader of JSON reads the text as an object of four members.
+// Whether a reader of JSON reads the text as such an object.
 fn is_read(alloc: Global, text: &[u8]) -> bool {
     match Value::from_slice(alloc, text) {
         Ok(value) => has_four(&value),
@@ -84,6 +84,7 @@ fn is_read(alloc: Global, text: &[u8]) -> bool {
     }
 }
 
+// Whether it is an object of four members.
 fn has_four(value: &Value) -> bool {
     match value.as_object() {
         Some(members) => members.len() == 4,

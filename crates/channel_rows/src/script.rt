@@ -142,16 +142,9 @@ pub fn shows<L: Ledger>(rt: &impl Abort, stage: &Stage<L>, what: &str, wanted: &
         "next-due" => is_next_due(rt, stage.channel.next_due(), wanted),
         "places" => are_places(rt, &stage.channel, rest),
         "events" => are_events(rt, &stage.channel, rest),
-        _ => folder_shows(rt, &stage.folder, word, rest),
-    }
-}
-
-// The same of a look at the folder.
-fn folder_shows(rt: &impl Abort, folder: &MemFolder, word: &str, rest: &str) -> bool {
-    match word {
-        "has" => has_file(folder, rest, b""),
-        "has-lines" => has_file(folder, rest, b"\n"),
-        "absent" => folder.file(rest).is_none(),
+        "has" => has_file(&stage.folder, rest, b""),
+        "has-lines" => has_file(&stage.folder, rest, b"\n"),
+        "absent" => stage.folder.file(rest).is_none(),
         _ => unknown(rt, word),
     }
 }

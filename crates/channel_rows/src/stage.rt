@@ -169,11 +169,7 @@ impl<L: Ledger> Stage<L> {
                 scratch,
                 steps,
             }),
-            Err(Memory) => {
-                let_setup_go(setup);
-                let_folder_go(folder);
-                Err(Memory)
-            }
+            Err(Memory) => Err(Memory),
         }
     }
 

@@ -188,13 +188,6 @@ fn is_ask(a: &Ask, b: &Ask) -> bool {
     match (a, b) {
         (Ask::Publish(a, c, e), Ask::Publish(b, d, f)) => a == b && c == d && e == f,
         (Ask::Stats(a, c), Ask::Stats(b, d)) => a == b && c == d,
-        _ => is_change(a, b),
-    }
-}
-
-// The same of what is asked of one topic or channel.
-fn is_change(a: &Ask, b: &Ask) -> bool {
-    match (a, b) {
         (Ask::Create(a, c), Ask::Create(b, d))
         | (Ask::Delete(a, c), Ask::Delete(b, d))
         | (Ask::Empty(a, c), Ask::Empty(b, d))

@@ -253,7 +253,7 @@ fn make_turns(rt: &impl Abort, stage: &mut Stage, seed: u64) {
 
 // Tells what is wrong with the turns that were answered rightly.
 fn judge(rt: &impl Abort, stage: &mut Stage, options: &Options) {
-    if let Some(place) = out_of_order(rt, stage.alloc, &stage.done, stage.entries()) {
+    if let Some(place) = out_of_order(rt, stage) {
         return tell(rt, stage, b"not in order", place);
     }
     let wrong = wrong_in(rt, stage.alloc, options, stage.run(), None);
@@ -263,14 +263,9 @@ fn judge(rt: &impl Abort, stage: &mut Stage, options: &Options) {
 }
 
 // The place of the first turn whose entries aren't in order.
-fn out_of_order(
-    rt: &impl Abort,
-    alloc: Global,
-    turns: &[Done],
-    entries: &[(Entry, End)],
-) -> Option<usize> {
-    for (place, done) in turns.iter().enumerate() {
-        if !is_in_order(rt, alloc, done, entries) {
+fn out_of_order(rt: &impl Abort, stage: &Stage) -> Option<usize> {
+    for (place, done) in stage.done.iter().enumerate() {
+        if !is_in_order(rt, stage.alloc, done, stage.entries()) {
             return Some(place);
         }
     }

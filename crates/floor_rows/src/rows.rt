@@ -1,6 +1,6 @@
 //! Rows: how their lines are run, whether what happened is what they say, and the tests over all tables.
 //!
-//! Rows stand in a text with an empty line between them. A row's first line is its name; two strokes and a space begin a remark.
+//! Rows stand in a text with an empty line between them. A row's first line is its name; two strokes begin a remark.
 //!
 //! What a run begins with: `file NAME BYTES` is a file of its folder, `long-file SIZE NAME BYTES` one with spaces behind its bytes up to this size;
 //! `memory N` says how many messages a topic or a channel keeps in memory, `timeout MOMENT` how long a client has for a message, `unsaved MOMENT` how
@@ -15,20 +15,18 @@
 //! `shut => END`, `flush => END` and `leave => left` end a run; behind it copies that were held back are told, `; held TOPIC CHANNEL ID`. Then
 //! `leaves NAME BYTES` and `lacks NAME` ask files, and another run may begin with those that are there.
 
-use crate::done::{Done, is_in_order, put_done};
+use crate::done::{is_in_order, put_done};
 use crate::files::{put_text_file, same_file};
 use crate::judged::{may_refuse, wrong_in};
 use crate::outside::Dials;
-use crate::settings::{Setting, options_of};
+use crate::settings::options_of;
 use crate::stage::Stage;
 use crate::texts::{
     check, halves, moment, number, parted, put, put_bytes, put_id, put_line, put_word, same,
 };
 use crate::{restarts, tables};
-use broker_history::{Act, Entry};
+use broker_history::Act;
 use nsq_fakes::{Failing, FolderCall};
-use nsq_outside::End;
-use path_plain::NamedFile;
 use std::alloc::Global;
 use std::process::Abort;
 
@@ -36,7 +34,7 @@ use std::process::Abort;
 fn run(rt: &impl Abort, stage: &mut Stage, lines: &str) {
     for line in lines.lines() {
         let line = line.trim();
-        if !does(rt, stage, line) {
+        if !line.is_empty() && !line.starts_with("//") && !does(rt, stage, line) {
             stage.tell(rt, line, b"is no line");
         }
         if !stage.wrong.is_empty() {
@@ -55,42 +53,32 @@ fn does(rt: &impl Abort, stage: &mut Stage, line: &str) -> bool {
     gives(rt, stage, word, rest) || makes(rt, stage, word, rest, wanted) || stage.call(rt, line)
 }
 
-// What a run is given; nothing by an empty line or a remark.
+// What a run is given.
 fn gives(rt: &impl Abort, stage: &mut Stage, word: &str, rest: &str) -> bool {
     match word {
-        "" | "//" => {}
         "at" => stage.show(rt, moment(rt, rest)),
-        "file" => put_given(rt, stage.alloc, &mut stage.files, "0", rest),
+        "file" => put_given(rt, stage, "0", rest),
         "long-file" => {
             let (size, rest) = parted(rest);
-            put_given(rt, stage.alloc, &mut stage.files, size, rest);
+            put_given(rt, stage, size, rest);
         }
-        "fails" => return put_failing(rt, &mut stage.fails, rest),
-        _ => return sets(rt, &mut stage.setting, word, rest),
-    }
-    true
-}
-
-// Which options a run is given.
-fn sets(rt: &impl Abort, setting: &mut Setting, word: &str, rest: &str) -> bool {
-    match word {
-        "memory" => setting.memory = number(rt, rest),
-        "timeout" => setting.timeout = moment(rt, rest),
-        "unsaved" => setting.unsaved = moment(rt, rest),
+        "fails" => return put_failing(rt, stage, rest),
+        "memory" => stage.setting.memory = number(rt, rest),
+        "timeout" => stage.setting.timeout = moment(rt, rest),
+        "unsaved" => stage.setting.unsaved = moment(rt, rest),
         _ => return false,
     }
     true
 }
 
 // A file, with so many bytes at least.
-fn put_given(rt: &impl Abort, alloc: Global, files: &mut Vec<NamedFile>, size: &str, file: &str) {
+fn put_given(rt: &impl Abort, stage: &mut Stage, size: &str, file: &str) {
     let size = number(rt, size) as usize;
     let (name, bytes) = parted(file);
-    put_text_file(rt, alloc, files, name, bytes, size);
+    put_text_file(rt, stage.alloc, &mut stage.files, name, bytes, size);
 }
 
-// A range of calls that fail. Whether there is such a method.
-fn put_failing(rt: &impl Abort, fails: &mut Vec<Failing>, text: &str) -> bool {
+fn put_failing(rt: &impl Abort, stage: &mut Stage, text: &str) -> bool {
     let (method, range) = parted(text);
     let (from, to) = parted(range);
     let call = match method {
@@ -103,7 +91,10 @@ fn put_failing(rt: &impl Abort, fails: &mut Vec<Failing>, text: &str) -> bool {
     };
     let from = number(rt, from);
     let to = number(rt, to);
-    fails.push(Failing { call, from, to }).expect(rt, "memory");
+    stage
+        .fails
+        .push(Failing { call, from, to })
+        .expect(rt, "memory");
     true
 }
 
@@ -141,26 +132,23 @@ fn open(rt: &impl Abort, stage: &mut Stage, wanted: &str) {
 // Ends a run, which has to end so, and compares what was done in it.
 fn end(rt: &impl Abort, stage: &mut Stage, how: &str, wanted: &str) {
     let end = stage.end(how);
-    let told = told_end(rt, stage.alloc, end, stage.entries());
-    if same(&told, wanted.as_bytes()) {
-        compare_calls(rt, stage);
-    } else {
-        stage.tell(rt, "the end", &told);
+    let mut told = Vec::new(stage.alloc);
+    put(rt, &mut told, end);
+    put_all_held(rt, &mut told, stage);
+    if !same(&told, wanted.as_bytes()) {
+        return stage.tell(rt, "the end", &told);
     }
-    drop(told);
+    compare_calls(rt, stage);
     if stage.wrong.is_empty() {
         judge(rt, stage, same(end, b"clean"));
     }
 }
 
-// How a run ended, and the copies that were held back, in order: the topic, the channel and the id of each.
-fn told_end(rt: &impl Abort, alloc: Global, end: &[u8], entries: &[(Entry, End)]) -> Vec<u8> {
-    let mut told = Vec::new(alloc);
-    put(rt, &mut told, end);
-    for (entry, _) in entries {
-        put_held(rt, &mut told, &entry.act);
+// The copies that were held back, in order: the topic, the channel and the id of each.
+fn put_all_held(rt: &impl Abort, text: &mut Vec<u8>, stage: &Stage) {
+    for (entry, _) in stage.entries() {
+        put_held(rt, text, &entry.act);
     }
-    told
 }
 
 fn put_held(rt: &impl Abort, text: &mut Vec<u8>, act: &Act) {
@@ -176,15 +164,8 @@ fn put_held(rt: &impl Abort, text: &mut Vec<u8>, act: &Act) {
 // What differs from the lines that are calls.
 fn compare_calls(rt: &impl Abort, stage: &mut Stage) {
     let mut text = Vec::new(stage.alloc);
-    for done in &stage.done {
-        compare_call(
-            rt,
-            stage.alloc,
-            &mut text,
-            done,
-            stage.opened,
-            stage.entries(),
-        );
+    for place in 0..stage.done.len() {
+        compare_call(rt, &mut text, stage, place);
         if !text.is_empty() {
             break;
         }
@@ -192,28 +173,23 @@ fn compare_calls(rt: &impl Abort, stage: &mut Stage) {
     stage.wrong = text;
 }
 
-// What differs from the line of a call. At a floor that wasn't opened its entries stand there too, and have to be in order.
-fn compare_call(
-    rt: &impl Abort,
-    alloc: Global,
-    text: &mut Vec<u8>,
-    done: &Done,
-    is_opened: bool,
-    entries: &[(Entry, End)],
-) {
-    let mut told = Vec::new(alloc);
-    if is_opened {
+fn compare_call(rt: &impl Abort, text: &mut Vec<u8>, stage: &Stage, place: usize) {
+    let Some(done) = stage.done.get(place) else {
+        return;
+    };
+    let mut told = Vec::new(stage.alloc);
+    if stage.opened {
         put(rt, &mut told, &done.answer);
     } else {
-        put_done(rt, &mut told, done, entries);
+        put_done(rt, &mut told, done, stage.entries());
     }
     let (_, wanted) = halves(&done.line, " => ");
     if !same(&told, wanted.as_bytes()) {
-        put_line(rt, text, &done.line, &told);
-    } else if !is_opened && !is_in_order(rt, alloc, done, entries) {
+        return put_line(rt, text, &done.line, &told);
+    }
+    if !stage.opened && !is_in_order(rt, stage.alloc, done, stage.entries()) {
         put_line(rt, text, &done.line, b"isn't in order");
     }
-    drop(told);
 }
 
 // What differs in what a run noted and left. Then its files are those that the next one begins with.

@@ -64,11 +64,9 @@ const UNOPENED: &str = "it isn't opened";
 
 const OTHERS: &str = "something else is found";
 
-/// What the trials stand on: whether what was filled in is found, how many calls of the folder are made until all topics are filled, the file of names
-/// then, and what is left of them.
+/// What the trials stand on: how many calls of the folder are made until all topics are filled, the file of names then, and what is left of them.
 #[derive(Drop)]
 struct Base {
-    is_filled: bool,
     calls: u64,
     names: Vec<u8>,
     files: Vec<NamedFile>,
@@ -130,35 +128,19 @@ fn call_text(rt: &impl Abort, alloc: Global, turn: &str, topic: usize) -> String
     .expect(rt, "memory")
 }
 
-// What the trials of all topics stand on, where no call fails.
-fn base_of(rt: &impl Abort, stage: &mut Stage) -> Base {
-    let filled = fills(rt, stage, 0, 0);
+// What is left of all topics where no call fails, and of a file that none has. Whether that is what was filled in.
+fn put_base(rt: &impl Abort, stage: &mut Stage, base: &mut Base) -> bool {
+    let fills_first = fills(rt, stage, 0, 0);
     stage.end("leave");
-    let (calls, _) = stage.called();
-    let names = copy_of(rt, stage.alloc, stage.file(NAMES).unwrap_or(b""));
-    let (is_clean, files) = shut_files(rt, stage);
-    let listing = listing_of(rt, stage.alloc, &files);
-    Base {
-        is_filled: filled && is_clean && is_filled(rt, stage.alloc, &listing),
-        calls,
-        names,
-        files,
-        listing,
-    }
-}
-
-// These bytes once more.
-fn copy_of(rt: &impl Abort, alloc: Global, bytes: &[u8]) -> Vec<u8> {
-    Vec::from_slice(alloc, bytes).expect(rt, "memory")
-}
-
-// Whether all topics are filled and shut, and the files that are left of them and of what none has.
-fn shut_files(rt: &impl Abort, stage: &mut Stage) -> (bool, Vec<NamedFile>) {
-    let filled = fills(rt, stage, 0, 0);
+    (base.calls, _) = stage.called();
+    put(rt, &mut base.names, stage.file(NAMES).unwrap_or(b""));
+    let fills_again = fills(rt, stage, 0, 0);
     let is_clean = same(stage.end("shut"), b"clean");
-    let mut files = stage.files_left(rt);
-    put_copy(rt, stage.alloc, &mut files, UNLISTED, b"x");
-    (filled && is_clean, files)
+    put_copy(rt, stage.alloc, &mut base.files, UNLISTED, b"x");
+    let left = stage.files_left(rt);
+    put_copies(rt, stage.alloc, &mut base.files, &left);
+    base.listing = listing_of(rt, stage.alloc, &base.files);
+    fills_first && fills_again && is_clean && is_filled(rt, stage.alloc, &base.listing)
 }
 
 // Whether this is found of all topics.
@@ -197,9 +179,9 @@ fn answers(rt: &impl Abort, stage: &mut Stage, call: &str, wanted: &[u8]) -> boo
     stage.call(rt, call) && same(stage.answer(), wanted)
 }
 
-// What it is that all went well in a run of so many calls, of which one was to fail.
-fn passed(called: (u64, bool), call: u64) -> &'static str {
-    let (made, _) = called;
+// What it is that all went well in a run of which a call was to fail.
+fn passed(stage: &Stage, call: u64) -> &'static str {
+    let (made, _) = stage.called();
     if made <= call {
         UNREACHED
     } else {
@@ -212,7 +194,7 @@ fn opening(rt: &impl Abort, stage: &mut Stage, base: &Base, call: u64) -> &'stat
     let why = opened(rt, stage, &base.files, call, 1);
     if why.is_empty() {
         stage.end("leave");
-        return passed(stage.called(), call);
+        return passed(stage, call);
     }
     if !same(why.as_bytes(), b"fault") {
         return "it is refused for another cause";
@@ -265,7 +247,7 @@ fn saved_once(rt: &impl Abort, stage: &mut Stage, base: &Base, call: u64) -> &'s
     let is_changed = answers(rt, stage, "changed", b"yes");
     stage.end("leave");
     if is_done {
-        passed(stage.called(), call)
+        passed(stage, call)
     } else if !is_changed {
         "nothing is to be saved any longer"
     } else if !has_names(base, stage.file(NAMES)) {
@@ -312,7 +294,7 @@ fn shutting(
     }
     let end = stage.end("shut");
     if same(end, b"clean") {
-        return passed(stage.called(), call);
+        return passed(stage, call);
     }
     if !same(end, b"fault") {
         return "it ends for want of memory";
@@ -395,9 +377,15 @@ fn counted(rt: &impl Abort, stage: &mut Stage, base: &Base, trial: &str) -> (u64
 
 // What differs in a trial of so many calls at least, as text; nothing where it holds.
 fn differs(rt: &impl Abort, stage: &mut Stage, trial: &str, least: u64) -> Vec<u8> {
-    let base = base_of(rt, stage);
-    let mut text = Vec::new(stage.alloc);
-    if base.is_filled {
+    let alloc = stage.alloc;
+    let mut base = Base {
+        calls: 0,
+        names: Vec::new(alloc),
+        files: Vec::new(alloc),
+        listing: listing_of(rt, alloc, &[]),
+    };
+    let mut text = Vec::new(alloc);
+    if put_base(rt, stage, &mut base) {
         let (count, what) = counted(rt, stage, &base, trial);
         put_counted(rt, &mut text, least, count, what);
     } else {

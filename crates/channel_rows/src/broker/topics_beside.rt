@@ -242,14 +242,9 @@ fn let_copies_go(_copies: Vec<MessageCopy>) {}
 fn forget_copies(alloc: Global, states: &mut [State]) {
     for state in states {
         for topic in &mut state.topics {
-            forget_of(alloc, topic);
+            for channel in &mut topic.channels {
+                let_copies_go(std::mem::replace(&mut channel.copies, Vec::new(alloc)));
+            }
         }
-    }
-}
-
-// The same of one topic's channels.
-fn forget_of(alloc: Global, topic: &mut TopicState) {
-    for channel in &mut topic.channels {
-        let_copies_go(std::mem::replace(&mut channel.copies, Vec::new(alloc)));
     }
 }

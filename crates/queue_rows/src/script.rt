@@ -13,9 +13,7 @@
 
 use crate::folders::{all_told, are_behind, folder_told, is_told};
 use crate::stand::{ROLLING, SHORT, Stand, WIDE, let_go, stand_of};
-use crate::text::{
-    bytes_of, cut, cut_at, is_number, number, part, says, size, sync_of, sync_word, unknown,
-};
+use crate::text::{bytes_of, cut, cut_at, is_done, number, part, size, sync_of, unknown};
 use crate::{check, is, opening, order, reading, writing};
 use disk_queue::{Emptied, Peek, Put, QueueOptions, Take, replace_file};
 use nsq_fakes::MemFolder;
@@ -92,7 +90,7 @@ fn step_holds(rt: &impl Abort, alloc: Global, stand: &mut Stand, name: &str, ste
     let (call, answer) = cut_at(step, " => ");
     let (word, rest) = cut(call);
     if is_of(word, "put forget commit peek take") {
-        record_holds(rt, stand, word, &bytes_of(rt, alloc, rest), answer)
+        record_holds(rt, alloc, stand, word, rest, answer)
     } else if is_of(word, "replace write cut look") {
         folder_holds(rt, alloc, &mut stand.folder, word, rest, answer)
     } else {
@@ -120,13 +118,13 @@ fn queue_holds(
     answer: &str,
 ) -> bool {
     if is(word, "sync") {
-        is(sync_word(stand.sync()), answer)
+        stand.sync() == sync_of(rt, answer)
     } else if is(word, "empty") {
-        says(answer, stand.empty() == Emptied::Done)
+        (stand.empty() == Emptied::Done) == is_done(rt, answer)
     } else if is(word, "open") {
-        stand.open(alloc, name).is_ok() && has(stand, answer)
+        stand.open(alloc, name).is_ok() && has(rt, stand, answer)
     } else if is(word, "depth") {
-        has(stand, answer)
+        has(rt, stand, answer)
     } else if is(word, "delete") {
         stand.delete(rt, alloc, name) && answer.is_empty()
     } else {
@@ -135,28 +133,30 @@ fn queue_holds(
 }
 
 // Whether the queue has so many records.
-fn has(stand: &Stand, answer: &str) -> bool {
-    is_number(answer, stand.queue.depth())
+fn has(rt: &impl Abort, stand: &Stand, answer: &str) -> bool {
+    stand.queue.depth() == u128::from(number(rt, answer))
 }
 
 // Whether a step with a record answers what it says.
 fn record_holds(
     rt: &impl Abort,
+    alloc: Global,
     stand: &mut Stand,
     word: &str,
-    bytes: &[u8],
+    rest: &str,
     answer: &str,
 ) -> bool {
+    let bytes = bytes_of(rt, alloc, rest);
     if is(word, "put") {
-        stand.put(rt, bytes) == put_of(rt, answer)
+        stand.put(rt, &bytes) == put_of(rt, answer)
     } else if is(word, "forget") {
-        stand.forget(rt, bytes)
+        stand.forget(rt, &bytes)
     } else if is(word, "commit") {
-        stand.commit(rt, bytes, sync_of(rt, answer))
+        stand.commit(rt, &bytes, sync_of(rt, answer))
     } else if is(word, "peek") {
-        peeks(rt, stand, bytes, answer)
+        peeks(rt, stand, &bytes, answer)
     } else {
-        takes(rt, stand, bytes, answer)
+        takes(rt, stand, &bytes, answer)
     }
 }
 
@@ -185,7 +185,7 @@ fn folder_holds(
         is_told(rt, alloc, folder, rest)
     } else if is(word, "replace") {
         let bytes = bytes_of(rt, alloc, rest);
-        says(answer, replace_file(folder, "a", "b", &bytes) == Did::Done)
+        (replace_file(folder, "a", "b", &bytes) == Did::Done) == is_done(rt, answer)
     } else {
         is_changed(rt, alloc, folder, word, rest)
     }

@@ -4,7 +4,7 @@
 //! `zeros 3` so many bytes 0, `blanks 3` so many blanks, and `byte 255` that one. Each other piece stands for itself, but for `/`, which is
 //! the end of a line.
 
-use crate::is;
+use crate::{is, same};
 use backlog::{Depths, PutAll};
 use disk_queue::Sync;
 use nsq_fakes::{Failing, FolderCall};
@@ -63,48 +63,16 @@ pub fn is_done(rt: &impl Abort, answer: &str) -> bool {
     }
 }
 
-/// Whether an answer says that a call was carried out, or that it wasn't.
-pub fn says(answer: &str, done: bool) -> bool {
-    if done {
-        is(answer, "done")
-    } else {
-        is(answer, "failed") || is(answer, "fault")
-    }
-}
-
-/// Whether a word is this number.
-pub fn is_number(word: &str, number: u128) -> bool {
-    match word.parse::<u64>() {
-        Ok(told) => u128::from(told) == number,
-        Err(_) => false,
-    }
-}
-
 /// Whether what is drawn has the letter and the delay that are told, or is none where `none` is.
-pub fn is_drawn(drawn: Option<(u64, u64)>, told: &str) -> bool {
+pub fn is_drawn(rt: &impl Abort, drawn: Option<(u64, u64)>, told: &str) -> bool {
     let (word, rest) = cut(told);
     match drawn {
         Some((letter, delay)) => match word.as_bytes() {
-            [told] => u64::from(*told) == letter && is_number(rest, u128::from(delay)),
+            [told] => u64::from(*told) == letter && number(rt, rest) == delay,
             _ => false,
         },
-        None => is(told, "none"),
+        None => same(told.as_bytes(), b"none"),
     }
-}
-
-/// What the answer of a save is told as.
-pub fn sync_word(sync: Sync) -> &'static str {
-    match sync {
-        Sync::NotDue => "not due",
-        Sync::Done => "done",
-        Sync::Failed => "failed",
-    }
-}
-
-/// Whether so many messages are told to be in memory, and so many on disk.
-pub fn are_depths(depths: Depths, numbers: &str) -> bool {
-    let (ring, disk) = cut(numbers);
-    is_number(ring, u128::from(depths.ring)) && is_number(disk, depths.disk)
 }
 
 /// The answer of a save.

@@ -16,7 +16,7 @@ ghost use Rattle.backlog.specs.Seen.{FitsLimit};
 use crate::folders::{folder_told, let_folder_go};
 use crate::room::Room;
 use crate::text::{
-    all_put_of, are_depths, cut, cut_at, is_drawn, letter, number, says, script_of, sync_word,
+    all_put_of, cut, cut_at, depths_of, is_done, is_drawn, letter, number, script_of, sync_of,
     unknown,
 };
 use crate::{check, is, same};
@@ -168,31 +168,41 @@ fn step_holds(
         is(shelf.put(rt, alloc, room, letter(rt, rest)), answer)
     } else if is(word, "put-all") {
         shelf.put_all(rt, alloc, room, rest.as_bytes()) == all_put_of(rt, answer)
+    } else if is(word, "take") {
+        is_drawn(rt, shelf.take(room), answer)
+    } else if is(word, "undo") {
+        is_drawn(rt, shelf.undo_and_take(room), answer)
+    } else if is(word, "flush") {
+        shelf.flushes(room, is_done(rt, answer))
+    } else {
+        changes(rt, alloc, shelf, name, (word, rest), answer)
+    }
+}
+
+// The same of a step that no room for a message is needed for.
+fn changes(
+    rt: &impl Abort,
+    alloc: Global,
+    shelf: &mut Shelf,
+    name: &str,
+    call: (&str, &str),
+    answer: &str,
+) -> bool {
+    let (word, rest) = call;
+    if is(word, "sync") {
+        shelf.sync() == sync_of(rt, answer)
+    } else if is(word, "empty") {
+        (shelf.empty() == Emptied::Done) == is_done(rt, answer)
     } else if is(word, "open") {
         shelf.opens(alloc, name, number(rt, rest) as usize)
     } else if is(word, "delete") {
         shelf.deletes(rt, alloc, name)
-    } else {
-        answers(shelf, room, word, rest, answer)
-    }
-}
-
-// The same of a step for which no memory is needed.
-fn answers(shelf: &mut Shelf, room: &mut Room, word: &str, rest: &str, answer: &str) -> bool {
-    if is(word, "take") {
-        is_drawn(shelf.take(room), answer)
-    } else if is(word, "undo") {
-        is_drawn(shelf.undo_and_take(room), answer)
-    } else if is(word, "flush") {
-        shelf.flushes(room, answer)
-    } else if is(word, "sync") {
-        is(sync_word(shelf.sync()), answer)
-    } else if is(word, "empty") {
-        says(answer, shelf.empty() == Emptied::Done)
     } else if is(word, "depths") {
-        are_depths(shelf.backlog.depths(), rest)
+        shelf.backlog.depths() == depths_of(rt, rest)
+    } else if is(word, "absent") {
+        shelf.folder.file(rest).is_none()
     } else {
-        is(word, "absent") && shelf.folder.file(rest).is_none()
+        unknown(rt, word)
     }
 }
 
@@ -290,12 +300,11 @@ impl Shelf {
         self.take(room)
     }
 
-    fn flushes(&mut self, room: &mut Room, answer: &str) -> bool {
+    fn flushes(&mut self, room: &mut Room, done: bool) -> bool {
         if !self.durable {
             return false;
         }
-        let flushed = self.backlog.flush(&mut self.folder, &mut room.bytes);
-        says(answer, flushed == Flushed::Done)
+        (self.backlog.flush(&mut self.folder, &mut room.bytes) == Flushed::Done) == done
     }
 
     fn opens(&mut self, alloc: Global, name: &str, ring: usize) -> bool {

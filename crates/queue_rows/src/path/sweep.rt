@@ -195,19 +195,18 @@ fn holds(rt: &impl Abort, alloc: Global, row: &str) -> bool {
     is_right(rt, alloc, files, fails.trim(), calls.trim(), left, again)
 }
 
-// Whether a sweep of a file alone in a folder makes these calls and leaves that, in which the file's name stands at each @.
-fn is_swept(rt: &impl Abort, alloc: Global, name: &str, calls: &str, left: &str) -> bool {
-    let files = "@ is x".replace(alloc, "@", name).expect(rt, "memory");
-    let left = left.replace(alloc, "@", name).expect(rt, "memory");
-    is_right(rt, alloc, &files, "", calls, &left, "")
+// Whether a file of that name, alone in a folder, is set aside.
+fn is_set_aside(rt: &impl Abort, alloc: Global, name: &str) -> bool {
+    let files = format!(in alloc; "{name} is x").expect(rt, "memory");
+    let left = format!(in alloc; "{name} absent; {name}.bad is x").expect(rt, "memory");
+    let calls = "List Rename SyncNames";
+    is_right(rt, alloc, files.as_str(), "", calls, left.as_str(), "")
 }
 
-// Stops the test where that doesn't hold of a file of one of these names.
-fn check_names(rt: &impl Abort, alloc: Global, names: &str, calls: &str, left: &str) {
-    for name in names.trim().split('\n') {
-        let name = name.trim();
-        check(rt, is_swept(rt, alloc, name, calls, left), name);
-    }
+// The same, where the file stays.
+fn stays(rt: &impl Abort, alloc: Global, name: &str) -> bool {
+    let files = format!(in alloc; "{name} is x").expect(rt, "memory");
+    is_right(rt, alloc, files.as_str(), "", "List", files.as_str(), "")
 }
 
 #[test]
@@ -219,7 +218,12 @@ fn rows(rt: HostRuntime) {
 
 #[test]
 fn forms(rt: HostRuntime) {
-    let calls = "List Rename SyncNames";
-    check_names(&rt, rt.alloc(), MOVED, calls, "@ absent; @.bad is x");
-    check_names(&rt, rt.alloc(), STAYING, "List", "@ is x");
+    for name in MOVED.trim().split('\n') {
+        let name = name.trim();
+        check(&rt, is_set_aside(&rt, rt.alloc(), name), name);
+    }
+    for name in STAYING.trim().split('\n') {
+        let name = name.trim();
+        check(&rt, stays(&rt, rt.alloc(), name), name);
+    }
 }

@@ -12,8 +12,8 @@
 
 use crate::room::Room;
 use crate::text::{
-    all_put_of, are_depths, cut, cut_at, fails_of, is_drawn, is_number, letter, number, says,
-    script_of, sync_word, unknown,
+    all_put_of, cut, cut_at, depths_of, fails_of, is_done, is_drawn, letter, number, script_of,
+    sync_of, unknown,
 };
 use crate::topic::bench::{Bench, bench_of, let_go};
 use crate::{check, is, same};
@@ -126,14 +126,16 @@ fn step_holds(
     let (word, rest) = cut(call);
     if is(word, "put") {
         puts(rt, alloc, bench, room, rest, answer)
-    } else if is(word, "take") || is(word, "undo") {
-        takes(rt, alloc, bench, room, rest, is(word, "take"), answer)
+    } else if is(word, "take") {
+        takes(rt, alloc, bench, room, rest, true, answer)
+    } else if is(word, "undo") {
+        takes(rt, alloc, bench, room, rest, false, answer)
     } else if is(word, "flush") {
-        says(answer, bench.flush(room) == Flushed::Done)
+        (bench.flush(room) == Flushed::Done) == is_done(rt, answer)
     } else if is(word, "empty") {
-        says(answer, bench.empty() == Emptied::Done)
+        (bench.empty() == Emptied::Done) == is_done(rt, answer)
     } else if is(word, "sync") {
-        is(sync_word(bench.sync()), answer)
+        bench.sync() == sync_of(rt, answer)
     } else {
         moves(rt, alloc, bench, word, rest)
     }
@@ -153,29 +155,27 @@ fn moves(rt: &impl Abort, alloc: Global, bench: &mut Bench, word: &str, rest: &s
     } else if is(word, "delete") {
         bench.delete(alloc).expect(rt, "memory")
     } else {
-        shows(bench, word, rest)
+        shows(rt, bench, word, rest)
     }
 }
 
 // Whether the topic and its folder show what a step says that calls nothing.
-fn shows(bench: &Bench, word: &str, rest: &str) -> bool {
+fn shows(rt: &impl Abort, bench: &Bench, word: &str, rest: &str) -> bool {
     if is(word, "is") {
-        is_drawn(bench.head(), rest)
+        is_drawn(rt, bench.head(), rest)
     } else if is(word, "owes") {
         bench.owes(rest.as_bytes())
     } else if is(word, "waits") {
-        are_depths(bench.topic.depths(), rest)
+        bench.topic.depths() == depths_of(rt, rest)
     } else if is(word, "counts") {
-        is_number(rest, u128::from(bench.topic.message_count()))
+        bench.topic.message_count() == number(rt, rest)
     } else if is(word, "paused") {
-        is(rest, on_word(bench.topic.is_paused()))
+        bench.topic.is_paused() == is_on(rt, rest)
+    } else if is(word, "absent") {
+        bench.folder.file(rest).is_none()
     } else {
-        is(word, "absent") && bench.folder.file(rest).is_none()
+        unknown(rt, word)
     }
-}
-
-fn on_word(flag: bool) -> &'static str {
-    if flag { "on" } else { "off" }
 }
 
 fn is_on(rt: &impl Abort, word: &str) -> bool {

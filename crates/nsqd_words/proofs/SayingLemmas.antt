@@ -183,7 +183,7 @@ drills_known words seed count a (bad_value b) = b.for_clap (ap (λ (w : Words). 
 
 -- ---- a drill's first word
 
-word_at : {X : Type 0} (xs : List X) (k : ℕ) (x : X) → k < length xs → x ≡ get_or xs k x → slice_get xs k ≡ Some x
+pub word_at : {X : Type 0} (xs : List X) (k : ℕ) (x : X) → k < length xs → x ≡ get_or xs k x → slice_get xs k ≡ Some x
 word_at {X} [] k x l e = absurd (omega arith)
 word_at {X} (y ∷ ys) zero x l e = ap (λ (z : X). Some z) (sym e)
 word_at {X} (y ∷ ys) (suc k) x l e = word_at ys k x (omega arith) e

@@ -16,3 +16,4 @@ pub mod Hosting
 pub mod Spelling
 pub mod Tallying
 pub mod Leaving
+pub mod Picking

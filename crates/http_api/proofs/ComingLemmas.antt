@@ -1,19 +1,23 @@
 -- What a read does to the reading of a request.
-use Rattle.std.proofs.Common.{◌≡◌, ◌≢◌, ℕ, ◌<◌, ◌≤◌, Bool, true, false, List, [], ◌∷◌, ◌++◌, length, take, refl, sym, ap, subst, ◌∙◌, append_assoc, Some, Result, Ok, Err, OnOk, is_err, arith}
+use Rattle.std.proofs.Common.{◌≡◌, ◌≢◌, ℕ, ◌<◌, ◌≤◌, Bool, true, false, List, [], ◌∷◌, ◌++◌, length, take, drop, refl, sym, ap, subst, ◌∙◌, append_assoc, length-take, length-append, length-drop, Option, Some, None, Result, Ok, Err, OnOk, is_err, arith}
 use Rattle.std.proofs.lemmas.List.{append-nil}
 use Rattle.std.proofs.Math.Seq.{take-append_seam}
 use Rattle.nsq_core.specs.declared.memory.Memory.{Memory as NoMemory}
 use Rattle.nsq_base.specs.declared.options.Options.{Options}
 use Rattle.broker_history.specs.Entries.{History, own}
 use Rattle.broker_history.specs.Talk.{bytes_of, longest_piece}
-use Rattle.http_wire.specs.Request.{Unfinished, IsRequest}
-use Rattle.http_wire.specs.Reading.{Fed}
+use Rattle.http_wire.specs.declared.got.GotRequest.{GotRequest}
+use Rattle.http_wire.specs.declared.got.GotRequest.TheVariants as got
+use Rattle.http_wire.specs.Request.{Unfinished, BadHead, NoLength, TooBig, IsRequest}
+use Rattle.http_wire.specs.Reading.{Fed, Gives}
+use Rattle.http_calls.specs.declared.refusal.Refusal.{Refusal}
+use Rattle.http_calls.specs.Refusals.{refused_by}
 use Rattle.http_api.specs.declared.ended.EndedHttp.{EndedHttp}
 use Rattle.http_api.specs.declared.ended.EndedHttp.TheVariants.{Closed, ReadFault, WriteFault, Answered, EndOfInput, Cut, Memory as OutOfMemory}
 use Rattle.http_api.specs.Exchange.{HasCause, AreRead, nothing, piece, IsOpen, IsListing, ListsBehindStop, IsExchange, IsExchangeIn}
 use Rattle.http_api.specs.declared.reading.Came.{Came}
 use Rattle.http_api.specs.declared.reading.Came.TheVariants.{Whole, Refused, Over, Memory}
-use Rattle.http_api.specs.Comings.{Looks, HasCameCause, HasRead, HasBegun, IsReading, ComesTo, EndsOtherwise, ended_at}
+use Rattle.http_api.specs.Comings.{Looks, IsRefused, HasCameCause, HasRead, HasBegun, IsReading, ComesTo, EndsOtherwise, ended_at}
 use Rattle.http_api.proofs.ListLemmas.{lists_none}
 
 -- the bytes of pieces and of one more
@@ -150,6 +154,20 @@ fed_front old new size buffer into rest count (Ok x) is all f ok =
     let holding : List ℕ → Fed = λ b. record { limit = old.limit; bytes = old.bytes ++ take count b } in
     f ∙ ap holding (is ∙ subst (λ (k : ℕ). take k (into ++ rest) ≡ into) all (take-append_seam into rest))
 
+-- a buffer that was written over from its front on is as long as before
+pub kept_long : (size long : ℕ) (buffer into : List ℕ) → size ≡ length buffer → length buffer ≡ long → length (take size (into ++ drop (length into) buffer)) ≡ long
+kept_long size long buffer into all is =
+    let cut = length-take size (into ++ drop (length into) buffer) in
+    let both = length-append into (drop (length into) buffer) in
+    let rest = length-drop (length into) buffer in
+    omega arith
+
+-- what was read into a whole buffer is a piece
+pub taken : (count size : ℕ) (into : List ℕ) → (0 < count) × (count ≤ size) → length into ≡ size → size ≡ longest_piece → (0 < length (take count into)) × (length (take count into) ≤ longest_piece)
+taken count size into amount all whole =
+    let long = length-take count into in
+    (omega (arith, long, amount.0, amount.1, all), omega (arith, long, amount.1, whole))
+
 -- a piece that is read was the front of what was left
 pub read_stream : (pieces pieces' : List (List ℕ)) (left left' next : List ℕ) → pieces' ≡ pieces ++ next ∷ [] → left ≡ next ++ left' → bytes_of pieces' ++ left' ≡ bytes_of pieces ++ left
 read_stream pieces pieces' left left' next p l =
@@ -158,3 +176,12 @@ read_stream pieces pieces' left left' next p l =
 -- the same stream in other words
 pub same_stream : (pieces pieces' : List (List ℕ)) (left left' : List ℕ) → pieces' ≡ pieces → left' ≡ left → bytes_of pieces' ++ left' ≡ bytes_of pieces ++ left
 same_stream pieces pieces' left left' p l = ap (λ x. bytes_of x ++ left') p ∙ ap (λ x. bytes_of pieces ++ x) l
+
+-- what is given for bytes that are refused says why
+pub looks_refused : (limit : ℕ) (bytes : List ℕ) (given : GotRequest) (r : Refusal) → Gives limit bytes given → Some r ≡ refused_by given → IsRefused limit bytes r
+looks_refused limit bytes (got.Whole request) r g is = absurd (let e : Some r ≡ None = is in cc)
+looks_refused limit bytes got.More r g is = absurd (let e : Some r ≡ None = is in cc)
+looks_refused limit bytes got.BadHead r g is = record { outcome = BadHead; is_request = g; refuses = sym is }
+looks_refused limit bytes got.NoLength r g is = record { outcome = NoLength; is_request = g; refuses = sym is }
+looks_refused limit bytes got.TooBig r g is = record { outcome = TooBig; is_request = g; refuses = sym is }
+looks_refused limit bytes got.Memory r g is = absurd (let e : Some r ≡ None = is in cc)

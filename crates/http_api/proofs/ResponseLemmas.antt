@@ -9,6 +9,7 @@ use Rattle.broker_history.specs.declared.entry.Entry.{Entry}
 use Rattle.broker_history.specs.Entries.{History, own}
 use Rattle.http_wire.specs.declared.request.Request.{Request}
 use Rattle.http_wire.specs.Request.{Whole, IsRequest}
+use Rattle.http_wire.specs.Answer.{IsStatus}
 use Rattle.http_calls.specs.declared.answer.HttpAnswer.{HttpAnswer}
 use Rattle.http_calls.specs.declared.call.HttpCall.{HttpCall}
 use Rattle.http_calls.specs.declared.call.HttpCall.TheVariants as call
@@ -36,6 +37,11 @@ module _ (began : ℕ) (c : HttpCall) (number : ℕ) (seen : History) where
   -- memory was wanting before anything was noted
   pub wants_none : own number seen ≡ [] → IsWanting began c (own number seen) × ListsBehindStop number seen
   wants_none none = (record { whole = own number seen; fits = inl none; noted = inl refl }, lists_none number seen none)
+
+-- an answer for which memory was wanting has no status
+pub unanswered : (result : Result HttpAnswer NoMemory) → IsErr result → IfOk result (λ answer. IsStatus answer.status)
+unanswered (Ok answer) is = absurd (let e : false ≡ true = is in cc)
+unanswered (Err e) is = tt
 
 -- what came of what was asked is answered so
 pub answers_told : (began : ℕ) (a : Ask) (publish : Bool) (number : ℕ) (seen : History) (came : Asked) → publish ≡ publishes a → AsksTo a number seen (Ok came) → AnswersCall began (call.Asks a) (own number seen) (told_answer publish began came) × ListsBehindStop number seen

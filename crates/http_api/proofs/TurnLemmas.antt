@@ -1,5 +1,5 @@
 -- What a turn adds to the entries of a connection.
-use Rattle.std.proofs.Common.{◌≡◌, ◌⊎◌, ℕ, Bool, true, false, [], ◌∷◌, ◌++◌, sym, ap, ◌∙◌, inl, inr, Result, Ok, Err}
+use Rattle.std.proofs.Common.{◌≡◌, ◌⊎◌, ℕ, Bool, true, false, [], ◌∷◌, ◌++◌, refl, sym, ap, ◌∙◌, inl, inr, Result, Ok, Err, IsErr}
 use Rattle.nsq_core.specs.declared.memory.Memory.{Memory as NoMemory}
 use Rattle.nsq_outside.specs.declared.journal.End.{End}
 use Rattle.broker_history.specs.declared.ask.Ask.{Ask}
@@ -11,8 +11,9 @@ use Rattle.desk.specs.declared.call.Call.{Call}
 use Rattle.desk.specs.declared.call.Call.TheVariants as call
 use Rattle.desk.specs.declared.turned.Turned.{Turned}
 use Rattle.desk.specs.declared.turned.Turned.TheVariants as turned
+use Rattle.http_asked.specs.declared.asked.Asked.{Asked}
 use Rattle.http_api.specs.Exchange.{is_listed, IsListing, IsStopping, IsAsking, ListsBehindStop}
-use Rattle.http_api.specs.Noted.{lists_names, says_stopping, ListsOne, ListsNames, IsStopped, StopsTo}
+use Rattle.http_api.specs.Noted.{lists_names, says_stopping, ListsOne, ListsNames, IsStopped, AsksTo, StopsTo}
 use Rattle.http_api.proofs.ListLemmas.{lists_none, lists_one, stop_unlisted}
 
 -- where a call can't have been answered so without its entry, one joined
@@ -59,6 +60,16 @@ says said = false
 pub ask_same : {n : ℕ} {h h' : History} (a : Ask) (said : Turned) → says said ≡ false → Adds n h h' (call.Ask a) said → h' ≡ h
 ask_same a (turned.Said told) is adds = absurd (let c : true ≡ false = is in cc)
 ask_same a said is adds = unchanged adds (λ e x. x)
+
+-- anything else says nothing
+pub says_none : (said : Turned) → ((told : Said) → said ≡ turned.Said told → ⊥) → says said ≡ false
+says_none (turned.Said told) never = absurd (never told refl)
+says_none said never = refl
+
+-- memory was wanting, and nothing was noted
+pub asks_missed : (a : Ask) (number : ℕ) (seen : History) (result : Result Asked NoMemory) → IsErr result → own number seen ≡ [] → AsksTo a number seen result
+asks_missed a number seen (Ok came) is none = absurd (let e : false ≡ true = is in cc)
+asks_missed a number seen (Err e) is none = none
 
 stop_joined : {n : ℕ} {h h' : History} → h ≡ [] → Adds n h h' call.Stop turned.Stopping → (h' ≡ []) ⊎ IsStopped h'
 stop_joined none (inl p) = inl (p.0 ∙ none)

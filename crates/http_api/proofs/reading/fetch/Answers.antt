@@ -2,17 +2,16 @@ use Rattle.std.proofs.Common.{◌≤◌, ◌<◌, ◌∙◌, refl, sym, subst, t
 use Rattle.http_api.specs.declared.ended.EndedHttp.{EndedHttp}
 use Rattle.http_api.specs.declared.reading.Came.TheVariants.{Over}
 use Rattle.http_api.specs.Comings.{ComesTo}
-use Rattle.http_api.proofs.ComingLemmas.{has_read_next, reads_next, reads_same, comes_end, comes_fault, comes_closed, ended_otherwise, ended_cause, fed_front, read_stream, same_stream}
+use Rattle.http_api.proofs.ComingLemmas.{has_read_next, reads_next, reads_same, comes_end, comes_fault, comes_closed, ended_otherwise, ended_cause, fed_front, kept_long, read_stream, same_stream, taken}
 use Rattle.http_api.proofs.reading.fetch.Goals as goal
 
 pub returns-then-is_err : goal.returns-then-is_err
 returns-then-is_err g c =
     let into = c.get.new.into in
     let piece = take c.in-Got.count into in
-    let some : 0 < length piece = omega (arith, length-take c.in-Got.count into, c.in-Got.ensures.amount, c.args.intake.now.whole, c.get.auto.into) in
-    let few : length piece ≤ 16384 = omega (arith, length-take c.in-Got.count into, c.in-Got.ensures.amount, c.args.intake.now.whole, c.get.auto.into) in
+    let fits = taken c.in-Got.count _ into c.in-Got.ensures.amount c.get.auto.into (c.deref_mut.ensures.len ∙ c.args.intake.now.piece.ok.0 ∙ c.args.intake.now.whole) in
     record {
-      came = λ o told tells r opens. has_read_next o c.args.number _ _ _ _ _ r opens piece some few (c.in-Got.ensures.told told).0;
+      came = λ o told tells r opens. has_read_next o c.args.number _ _ _ _ _ r opens piece fits.0 fits.1 (c.in-Got.ensures.told told).0;
       cause = tt;
       otherwise = tt;
       stream = λ told. let reads = c.in-Got.ensures.told told in read_stream _ _ _ _ (take c.in-Got.count c.get.new.into) reads.0 reads.1;
@@ -28,13 +27,12 @@ pub returns-else-is_err : goal.returns-else-is_err
 returns-else-is_err g c =
     let into = c.get.new.into in
     let piece = take c.in-Got.count into in
-    let some : 0 < length piece = omega (arith, length-take c.in-Got.count into, c.in-Got.ensures.amount, c.args.intake.now.whole, c.get.auto.into) in
-    let few : length piece ≤ 16384 = omega (arith, length-take c.in-Got.count into, c.in-Got.ensures.amount, c.args.intake.now.whole, c.get.auto.into) in
-    let fed = fed_front c.args.intake.now.reader c.feed.new.self c.args.intake.now.piece.len c.deref.result.now into (drop (length into) c.args.intake.now.piece.items) c.in-Got.count c.feed.result c.deref.ensures.value (omega (arith, c.get.auto.into, c.deref_mut.ensures.len)) c.feed.ensures.ok
+    let fits = taken c.in-Got.count _ into c.in-Got.ensures.amount c.get.auto.into (c.deref_mut.ensures.len ∙ c.args.intake.now.piece.ok.0 ∙ c.args.intake.now.whole) in
+    let fed = fed_front c.args.intake.now.reader c.feed.new.self c.args.intake.now.piece.len c.deref.result.now into (drop (length into) c.args.intake.now.piece.items) c.in-Got.count c.feed.result c.deref.ensures.value (c.get.auto.into ∙ c.deref_mut.ensures.len) c.feed.ensures.ok
     (sym c.is_err.ensures.value ∙ c.if-is_err.false) in
     record {
       came = λ o told tells r opens.
-          reads_next o c.args.number (g.K.Source.pieces c.args.conn.now) (g.K.Source.pieces c.get.new.conn) (g.D.Desk.seen c.args.desk.now) c.args.intake.now.reader c.args.intake.now.begun r opens piece some few (c.in-Got.ensures.told told).0 c.feed.new.self fed;
+          reads_next o c.args.number (g.K.Source.pieces c.args.conn.now) (g.K.Source.pieces c.get.new.conn) (g.D.Desk.seen c.args.desk.now) c.args.intake.now.reader c.args.intake.now.begun r opens piece fits.0 fits.1 (c.in-Got.ensures.told told).0 c.feed.new.self fed;
       cause = tt;
       otherwise = tt;
       stream = λ told. let reads = c.in-Got.ensures.told told in read_stream _ _ _ _ (take c.in-Got.count c.get.new.into) reads.0 reads.1;
@@ -127,3 +125,21 @@ returns-in-Failed g c =
 
 pub tick-requires : goal.tick-requires
 tick-requires g c = c.requires
+
+pub get-requires-after_bounds : goal.get-requires-after_bounds
+get-requires-after_bounds g c = λ κs lives. omega (arith, c.deref_mut.ensures.len, c.args.intake.now.whole, c.args.intake.now.piece.ok.0)
+
+pub slice_bounds-feed-end : goal.slice_bounds-feed-end
+slice_bounds-feed-end g c = omega (arith, c.in-Got.ensures.amount, c.deref_mut.ensures.len, c.deref.ensures.len, length-take c.in-Got.count c.deref.result.now)
+
+pub invariant_of-intake : goal.invariant_of-intake
+invariant_of-intake g c = record { whole = kept_long _ _ c.args.intake.now.piece.items c.get.new.into c.args.intake.now.piece.ok.0 c.args.intake.now.whole }
+
+pub invariant_of-intake-in-Nothing : goal.invariant_of-intake-in-Nothing
+invariant_of-intake-in-Nothing g c = record { whole = kept_long _ _ c.args.intake.now.piece.items c.get.new.into c.args.intake.now.piece.ok.0 c.args.intake.now.whole }
+
+pub invariant_of-intake-in-End : goal.invariant_of-intake-in-End
+invariant_of-intake-in-End g c = record { whole = kept_long _ _ c.args.intake.now.piece.items c.get.new.into c.args.intake.now.piece.ok.0 c.args.intake.now.whole }
+
+pub invariant_of-intake-in-Failed : goal.invariant_of-intake-in-Failed
+invariant_of-intake-in-Failed g c = record { whole = kept_long _ _ c.args.intake.now.piece.items c.get.new.into c.args.intake.now.piece.ok.0 c.args.intake.now.whole }

@@ -1,4 +1,4 @@
-use Rattle.std.proofs.Common.{◌∙◌, refl, sym, subst, arith}
+use Rattle.std.proofs.Common.{◌∙◌, refl, sym, subst, le_trans}
 use Rattle.std.proofs.Math.Nat.{le_of_eq}
 use Rattle.http_wire.specs.Reading.{Fed}
 use Rattle.http_api.specs.Comings.{IsReading}
@@ -16,8 +16,8 @@ reads-preserved g c =
           c.in-None-fetch.ensures.came o told tells here (open_reading o c.args.number _ (g.K.Source.pieces c.reads.conn) _ _ _ r c.in-None-look.ensures.looks);
       stream = λ told. did.stream told ∙ before.stream told;
       written = did.written ∙ before.written;
-      write_faults = omega (arith, c.fetch.ensures.write_faults, c.reads.invariant.write_faults);
-      read_faults = omega (arith, c.fetch.ensures.read_faults, c.reads.invariant.read_faults);
+      write_faults = le_trans before.write_faults did.write_faults;
+      read_faults = le_trans before.read_faults did.read_faults;
       number = did.number ∙ before.number;
       wanted = did.wanted ∙ before.wanted;
       leads = g.met.D.Desk.goes_on _ _ _ before.leads did.leads;
@@ -36,8 +36,8 @@ returns-in-Some-fetch g c =
       otherwise = c.in-Some-fetch.ensures.otherwise;
       stream = λ told. did.stream told ∙ before.stream told;
       written = did.written ∙ before.written;
-      read_faults = omega (arith, did.read_faults, before.read_faults);
-      write_faults = omega (arith, did.write_faults, before.write_faults);
+      read_faults = le_trans before.read_faults did.read_faults;
+      write_faults = le_trans before.write_faults did.write_faults;
       number = did.number ∙ before.number;
       wanted = did.wanted ∙ before.wanted;
       leads = g.met.D.Desk.goes_on _ _ _ before.leads did.leads;
@@ -70,3 +70,9 @@ reads-init g c = record {
   wanted = refl;
   leads = g.met.D.Desk.stays _;
 }
+
+pub fetch-requires-clause-number : goal.fetch-requires-clause-number
+fetch-requires-clause-number g c = λ κs lives. c.requires.number ∙ sym c.reads.invariant.number
+
+pub invariant_of-intake : goal.invariant_of-intake
+invariant_of-intake g c = record { whole = c.reads.intake.whole }

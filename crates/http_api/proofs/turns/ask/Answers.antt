@@ -2,7 +2,7 @@ use Rattle.std.proofs.Common.{◌∙◌, refl, ap}
 use Rattle.desk.specs.declared.turned.Turned.TheVariants.{Stopping}
 use Rattle.http_api.specs.Exchange.{is_listed}
 use Rattle.http_api.proofs.ListLemmas.{lists_none, lists_one}
-use Rattle.http_api.proofs.TurnLemmas.{ask_said, ask_same, one_listed}
+use Rattle.http_api.proofs.TurnLemmas.{ask_said, ask_same, says_none, asks_missed, one_listed}
 use Rattle.http_api.proofs.turns.ask.Goals as goal
 
 pub returns-in-Said : goal.returns-in-Said
@@ -27,3 +27,31 @@ returns-in-Stopping g c =
       wanted = listed.wanted ∙ did.wanted;
       leads = g.met.D.Desk.goes_on _ _ _ did.leads listed.leads;
     }
+
+pub returns-in_err-list_names-in-Stopping : goal.returns-in_err-list_names-in-Stopping
+returns-in_err-list_names-in-Stopping g c =
+    let did = c.in-Stopping.ensures in
+    let listed = c.in_err-list_names-in-Stopping.ensures in
+    record {
+      asks = λ tells none. asks_missed c.args.ask c.args.number _ c.from_residual.result c.from_residual.ensures.0 (listed.listed tells ∙ ask_same c.args.ask Stopping refl (did.adds tells) ∙ none);
+      number = listed.number ∙ did.number;
+      wanted = listed.wanted ∙ did.wanted;
+      leads = g.met.D.Desk.goes_on _ _ _ did.leads listed.leads;
+    }
+
+pub returns : goal.returns
+returns g c = record {
+  asks = λ tells none. ask_same c.args.ask c.turn.result (says_none c.turn.result c.in_default.not-Said) (c.turn.ensures.adds tells) ∙ none;
+  number = c.turn.ensures.number;
+  wanted = c.turn.ensures.wanted;
+  leads = c.turn.ensures.leads;
+}
+
+pub turn-requires-clause-number : goal.turn-requires-clause-number
+turn-requires-clause-number g c = c.requires.number
+
+pub turn-requires-clause-can : goal.turn-requires-clause-can
+turn-requires-clause-can g c = c.requires.can
+
+pub turn-requires-clause-may : goal.turn-requires-clause-may
+turn-requires-clause-may g c = λ tells. tt

@@ -1,4 +1,4 @@
-use Rattle.std.proofs.Common.{◌≤◌, ◌<◌, ◌∙◌, refl, sym, subst, take, drop, length, length-take, arith}
+use Rattle.std.proofs.Common.{◌∙◌, refl, sym, subst, take, drop, length, length-take, arith}
 use Rattle.http_api.specs.declared.ended.EndedHttp.{EndedHttp}
 use Rattle.http_api.specs.declared.reading.Came.TheVariants.{Over}
 use Rattle.http_api.specs.Comings.{ComesTo}

@@ -1,4 +1,4 @@
-use Rattle.std.proofs.Common.{Result, IfOk, subst, sym}
+use Rattle.std.proofs.Common.{Result, IfOk, subst}
 use Rattle.nsq_core.specs.declared.memory.Memory.{Memory as NoMemory}
 use Rattle.http_wire.specs.Answer.{IsStatus}
 use Rattle.http_calls.specs.declared.answer.HttpAnswer.{HttpAnswer}

@@ -6,3 +6,5 @@ pub mod Turning
 pub mod Ending
 pub mod Warning
 pub mod Causing
+pub mod Lending
+pub mod Begins

@@ -1,5 +1,5 @@
-use Rattle.std.proofs.Common.{◌∙◌, None, Some, refl, sym, le_refl, arith}
-use Rattle.v2_frame.proofs.ReadLemmas.{given_limits}
+use Rattle.std.proofs.Common.{◌∙◌, None, Some, refl, sym, le_refl, le_trans}
+use Rattle.v2_frame.proofs.ReadLemmas.{given_less, given_limits}
 use Rattle.v2_frame.specs.declared.got.Got.TheVariants as got
 use Rattle.broker_history.specs.Entries.{has_stop}
 use Rattle.v2_session.proofs.Talking.{moved, starts_talk, done_talk}
@@ -39,8 +39,8 @@ returns-in-Some g c =
       limits = given_limits _ _ (got.Whole c.in-Whole.command) gives ∙ before.limits;
       warned = λ written. warned_since (Some c.in-Some.ended) _ _ _ _ before.write_faults (wrote.warned written);
       cause = cause_since (Some c.in-Some.ended) _ _ _ before.write_faults wrote.cause;
-      write_faults = omega (arith, c.answer.ensures.write_faults, c.commands.invariant.write_faults);
-      read_faults = omega (arith, c.answer.ensures.read_faults, c.commands.invariant.read_faults);
+      write_faults = le_trans before.write_faults c.answer.ensures.write_faults;
+      read_faults = le_trans before.read_faults c.answer.ensures.read_faults;
       pieces = wrote.pieces ∙ before.pieces;
       left = wrote.left ∙ before.left;
       number = turn.number ∙ before.number;
@@ -61,8 +61,8 @@ commands-preserved g c =
           (command_went limits (g.D.Desk.seen c.turn-turned.new.self) c.args.number _ _ _ _ _ _ _ c.in-Whole.command now gives.next c.turn-turned.result None (turn.adds told.2) (turn.stopping told.2) (turn.told told.2) (wrote.told told.1));
       here = λ tells. command_here c.args.number _ _ c.in-Whole.command c.turn-turned.result (before.here tells) (turn.adds tells);
       limits = given_limits _ _ (got.Whole c.in-Whole.command) gives ∙ before.limits;
-      write_faults = omega (arith, c.answer.ensures.write_faults, c.commands.invariant.write_faults);
-      read_faults = omega (arith, c.answer.ensures.read_faults, c.commands.invariant.read_faults);
+      write_faults = le_trans before.write_faults c.answer.ensures.write_faults;
+      read_faults = le_trans before.read_faults c.answer.ensures.read_faults;
       pieces = c.answer.ensures.pieces ∙ before.pieces;
       left = c.answer.ensures.left ∙ before.left;
       number = turn.number ∙ before.number;
@@ -107,8 +107,8 @@ returns-in-Fault g c =
       limits = given_limits _ _ (got.Fault c.in-Fault.fault) gives ∙ before.limits;
       warned = λ written. warned_since (Some c.unwrap_or.result) _ _ _ _ before.write_faults (warned_or_closed c.answer-ended.result c.unwrap_or.result _ _ _ c.unwrap_or.ensures (wrote.warned written));
       cause = cause_since (Some c.unwrap_or.result) _ _ _ before.write_faults (cause_or_closed c.answer-ended.result c.unwrap_or.result _ _ c.unwrap_or.ensures wrote.cause);
-      write_faults = omega (arith, c.answer-ended.ensures.write_faults, c.commands.invariant.write_faults);
-      read_faults = omega (arith, c.answer-ended.ensures.read_faults, c.commands.invariant.read_faults);
+      write_faults = le_trans before.write_faults c.answer-ended.ensures.write_faults;
+      read_faults = le_trans before.read_faults c.answer-ended.ensures.read_faults;
       pieces = wrote.pieces ∙ before.pieces;
       left = wrote.left ∙ before.left;
       number = turn.number ∙ before.number;
@@ -126,8 +126,8 @@ returns-in-Memory g c =
       limits = given_limits _ _ got.Memory c.in-Memory.ensures ∙ before.limits;
       warned = λ written. warned_since (Some c.give_up.result) _ _ _ _ before.write_faults (up.warned written);
       cause = memory_cause c.give_up.result _ _ up.memory;
-      write_faults = omega (arith, c.give_up.ensures.write_faults, c.commands.invariant.write_faults);
-      read_faults = omega (arith, c.give_up.ensures.read_faults, c.commands.invariant.read_faults);
+      write_faults = le_trans before.write_faults c.give_up.ensures.write_faults;
+      read_faults = le_trans before.read_faults c.give_up.ensures.read_faults;
       pieces = up.pieces ∙ before.pieces;
       left = up.left ∙ before.left;
       number = before.number;
@@ -148,3 +148,15 @@ commands-init g c = record {
   wanted = refl;
   leads = g.met.D.Desk.stays _;
 }
+
+pub commands-smaller : goal.commands-smaller
+commands-smaller g c = given_less _ _ c.in-Whole.command c.in-Whole.ensures
+
+pub turn-turned-requires-in-Fault-clause-can : goal.turn-turned-requires-in-Fault-clause-can
+turn-turned-requires-in-Fault-clause-can g c = tt
+
+pub answer-requires-clause-short : goal.answer-requires-clause-short
+answer-requires-clause-short g c = λ κs lives. c.turn-turned.ensures.short
+
+pub answer-ended-requires-clause-short : goal.answer-ended-requires-clause-short
+answer-ended-requires-clause-short g c = λ κs lives. c.turn-turned-in-Fault.ensures.short

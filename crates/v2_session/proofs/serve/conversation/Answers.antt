@@ -1,10 +1,12 @@
-use Rattle.std.proofs.Common.{◌∙◌, refl, sym}
+use Rattle.std.proofs.Common.{◌∙◌, refl, sym, ap, le_refl}
 use Rattle.broker_history.specs.Talk.{stops_before_gone}
 use Rattle.v2_session.specs.Sessions.{rises}
-use Rattle.v2_session.proofs.Turning.{unbegun, begun_talk, same_stream}
+use Rattle.desk.specs.Calls.{has_began}
+use Rattle.v2_session.proofs.Turning.{unbegun, begun_talk, begun_here, same_stream}
 use Rattle.v2_session.proofs.Ending.{never_begins, over_talk, after_cause, some_wanted}
 use Rattle.v2_session.proofs.Warning.{warned_whole, warned_after}
 use Rattle.v2_session.proofs.Causing.{memory_has}
+use Rattle.v2_session.proofs.Begins.{begins_or_not}
 use Rattle.v2_session.proofs.serve.conversation.Goals as goal
 
 pub turn-gone-requires-clause-may : goal.turn-gone-requires-clause-may
@@ -64,3 +66,29 @@ rounds-ended-requires-clause-limits g c = λ κs lives. c.requires.limits
 
 pub turn-gone-requires-clause-number : goal.turn-gone-requires-clause-number
 turn-gone-requires-clause-number g c = c.requires.number.1 ∙ sym c.turn-turned.ensures.number ∙ sym c.rounds-ended.ensures.number
+
+pub returns-in_default : goal.returns-in_default
+returns-in_default g c =
+    let turn = c.turn-turned.ensures in
+    record {
+      talk = λ limits fresh pieces written tells no_pieces no_written. begins_or_not c.turn-turned.result c.in_default.not-Begun c.in_default.not-Memory (turn.told tells) turn.answer;
+      warned = λ written. tt;
+      cause = tt;
+      stream = λ told. refl;
+      read_faults = le_refl _;
+      write_faults = le_refl _;
+      number = turn.number;
+      leads = turn.leads;
+    }
+
+pub turn-turned-requires-clause-can : goal.turn-turned-requires-clause-can
+turn-turned-requires-clause-can g c = tt
+
+pub turn-turned-requires-clause-may : goal.turn-turned-requires-clause-may
+turn-turned-requires-clause-may g c = λ tells. (c.requires.number.0, ap has_began (c.requires.new tells))
+
+pub rounds-ended-requires-clause-here : goal.rounds-ended-requires-clause-here
+rounds-ended-requires-clause-here g c = λ κs lives tells. begun_here c.args.number _ _ (c.requires.new tells) (c.in-Begun.ensures.adds tells)
+
+pub turn-gone-requires-clause-can : goal.turn-gone-requires-clause-can
+turn-gone-requires-clause-can g c = tt

@@ -1,7 +1,8 @@
-use Rattle.std.proofs.Common.{◌∙◌, refl, sym, subst, le_refl, arith, Some}
+use Rattle.std.proofs.Common.{◌∙◌, refl, sym, subst, le_refl, le_trans, Some}
 use Rattle.desk.specs.Calls.{AreAllowed}
 use Rattle.v2_session.proofs.Warning.{warned_since}
 use Rattle.v2_session.proofs.Causing.{cause_from}
+use Rattle.v2_session.proofs.Lending.{always_gives}
 use Rattle.v2_session.proofs.serve.rounds.Goals as goal
 
 pub rounds-preserved : goal.rounds-preserved
@@ -13,8 +14,8 @@ rounds-preserved g c =
       here = did.here;
       limits = did.limits ∙ before.limits;
       stream = λ told. did.stream told ∙ before.stream told;
-      write_faults = omega (arith, c.round.ensures.write_faults, c.rounds.invariant.write_faults);
-      read_faults = omega (arith, c.round.ensures.read_faults, c.rounds.invariant.read_faults);
+      write_faults = le_trans before.write_faults did.write_faults;
+      read_faults = le_trans before.read_faults did.read_faults;
       number = did.number ∙ before.number;
       wanted = did.wanted ∙ before.wanted;
       leads = g.met.D.Desk.goes_on _ _ _ before.leads did.leads;
@@ -30,8 +31,8 @@ returns-in-Some-round g c =
       here = did.here;
       cause = cause_from c.in-Some-round.ended _ _ _ _ _ _ _ before.read_faults before.write_faults did.cause;
       stream = λ told. did.stream told ∙ before.stream told;
-      read_faults = omega (arith, c.round.ensures.read_faults, c.rounds.invariant.read_faults);
-      write_faults = omega (arith, c.round.ensures.write_faults, c.rounds.invariant.write_faults);
+      read_faults = le_trans before.read_faults did.read_faults;
+      write_faults = le_trans before.write_faults did.write_faults;
       number = did.number ∙ before.number;
       wanted = did.wanted ∙ before.wanted;
       leads = g.met.D.Desk.goes_on _ _ _ before.leads did.leads;
@@ -58,3 +59,6 @@ round-requires-clause-here g c = λ κs lives. c.rounds.invariant.here
 
 pub round-requires-clause-limits : goal.round-requires-clause-limits
 round-requires-clause-limits g c = λ κs lives. subst AreAllowed (sym c.rounds.invariant.limits) c.requires.limits
+
+pub returns : goal.returns
+returns g c = absurd (always_gives _ c.in-None.is c.next.ensures.steps)

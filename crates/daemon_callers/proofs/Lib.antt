@@ -3,3 +3,4 @@ pub mod Exchanges
 pub mod Handing
 pub mod Halting
 pub mod Staying
+pub mod Moving

@@ -1,8 +1,8 @@
 -- Where a caller is for whose going memory was wanting for the first time.
-use Rattle.std.proofs.Common.{ℕ, ◌<◌, inl, inr, subst, sym}
+use Rattle.std.proofs.Common.{ℕ, ◌<◌, [], inl, inr, refl, subst, sym, append-nil}
 use Rattle.nsq_outside.specs.Causes.{CountsFault}
 use Rattle.broker_history.specs.Entries.{History}
-use Rattle.desk.specs.Answers.{Adds, stays_for_memory}
+use Rattle.desk.specs.Answers.{Adds, AddsNothing, Grows, IsAnswerTo, stays_for_memory}
 use Rattle.desk.specs.Calls.{IsHere, MayCall}
 use Rattle.desk.specs.declared.call.Call.{Call}
 use Rattle.desk.specs.declared.call.Call.TheVariants as call
@@ -15,3 +15,20 @@ stays_behind number own own' call.Gone turned.Memory wanted wanted' none may (in
 stays_behind number own own' call.Gone turned.Memory wanted wanted' none may (inr j) counts some = absurd j.answers
 stays_behind number own own' call.Gone t wanted wanted' none may adds counts some = absurd (none (subst (λ (n : ℕ). 0 < n) counts some))
 stays_behind number own own' c t wanted wanted' none may adds counts some = absurd (none (subst (λ (n : ℕ). 0 < n) counts some))
+
+-- a turn that wants memory adds nothing, whatever its call is
+nothing_added : (c : Call) → AddsNothing c turned.Memory
+nothing_added call.Tick = tt
+nothing_added c = tt
+
+pub memory_adds : (number : ℕ) (own : History) (c : Call) → Adds number own own c turned.Memory
+memory_adds number own c = inl (refl, nothing_added c)
+
+-- and may be answered so
+pub memory_answers : (c : Call) → IsAnswerTo c turned.Memory
+memory_answers call.Begin = tt
+memory_answers c = tt
+
+-- a history grows by nothing
+pub grows_none : (h : History) → Grows h h
+grows_none h = record { added = []; whole = sym (append-nil h) }

@@ -1,5 +1,5 @@
 -- Topics are added to a hall, one after another.
-use Rattle.std.proofs.Common.{◌≡◌, ◌≢◌, inl, inr, ℕ, ◌+◌, ◌≤◌, ◌<◌, Bool, true, false, if◌then◌else◌, List, [], ◌∷◌, ◌++◌, get_or, length, map, take, drop, Some, None, refl, sym, ap, subst, ◌∙◌, arith}
+use Rattle.std.proofs.Common.{◌≡◌, ◌≢◌, inl, inr, ℕ, ◌+◌, ◌≤◌, ◌<◌, Bool, true, false, if◌then◌else◌, List, [], ◌∷◌, ◌++◌, get_or, length, map, take, take_all, drop, Some, None, refl, sym, ap, subst, ◌∙◌, arith}
 use Rattle.std.specs.Prelude.{IsTrue}
 use Rattle.std.specs.List.{All, AllByRecursion, Contains, list_any}
 use Rattle.std.specs.Str.{bytes_eq}
@@ -273,6 +273,10 @@ module _ (topics : List KeptTopic) (i : ℕ) (t : KeptTopic) (low : i < length t
 
     pub topic_refused : (reason : Why) → IsNotOne reason tells t f f' k k' → IsNotAdded reason tells topics f0 f' k0 k'
     topic_refused reason refused = not_added topics (take i topics) (drop (i + 1) topics) t (next_split (λ (d : KeptTopic). d.name) topics i t low is) can.topics topics_before a.hall b.hall f0 f f' tells k0 k k' x.faults x.adds reason refused
+
+-- behind the last one all were added
+pub topics_added : (tells : Bool) (topics : List KeptTopic) (i : ℕ) (a b : Held) (f0 f : Files) (k0 k : ℕ) → length topics ≤ i → IsAdded tells (take i topics) a b f0 f k0 k → IsAdded tells topics a b f0 f k0 k
+topics_added tells topics i a b f0 f k0 k past added = subst (λ done. IsAdded tells done a b f0 f k0 k) (take_all i topics past) added
 
 -- want of memory for the list of its channels
 pub memory_first : (tells : Bool) (t : KeptTopic) (files : Files) (before now : ℕ) → IsNotOne why.Memory tells t files files before now

@@ -1,9 +1,9 @@
-use Rattle.std.proofs.Common.{◌≡◌, ◌∙◌, false, refl}
+use Rattle.std.proofs.Common.{◌≡◌, ◌∙◌, false, refl, le_trans}
 use Rattle.std.specs.List.{All}
 use Rattle.nsq_base.specs.Name.{is_ephemeral}
 use Rattle.path_image.specs.Data.{KeptChannel, KeptTopic}
 use Rattle.broker_floor.specs.Floors.{faults_of, files_of, hall_of, held_of}
-use Rattle.data_path.proofs.Joining.{added_first, at_next, still_unflushed, topic_added, topic_new, topic_order, topic_refused}
+use Rattle.data_path.proofs.Joining.{added_first, at_next, still_unflushed, topic_added, topic_new, topic_order, topic_refused, topics_added}
 use Rattle.data_path.proofs.adding.add_topics.Goals as goal
 
 pub topics-init : goal.topics-init
@@ -33,7 +33,23 @@ topics-preserved g c = (
   c.add_topic.ensures.journal ∙ c.topics.invariant.2,
 )
 
-pub returns-in-Err-clause-refused : goal.returns-in-Err-clause-refused
-returns-in-Err-clause-refused g c =
-    topic_refused c.args.topics.now c.topics.topic-index c.topic-item.result c.topics-test.true c.topic-item.is c.requires.can g.F.Folder.tells_files (held_of c.args.floor.now) (held_of c.topics.floor) (held_of c.add_topic.new.floor) (files_of c.args.floor.now) (files_of c.topics.floor)
-    (files_of c.add_topic.new.floor) (faults_of c.args.floor.now) (faults_of c.topics.floor) (faults_of c.add_topic.new.floor) c.topics.invariant.0 c.in-Err.why c.in-Err.ensures.refused
+pub returns-in-Err : goal.returns-in-Err
+returns-in-Err g c = record {
+  added = tt;
+  refused =
+      topic_refused c.args.topics.now c.topics.topic-index c.topic-item.result c.topics-test.true c.topic-item.is c.requires.can g.F.Folder.tells_files (held_of c.args.floor.now) (held_of c.topics.floor) (held_of c.add_topic.new.floor) (files_of c.args.floor.now) (files_of c.topics.floor)
+      (files_of c.add_topic.new.floor) (faults_of c.args.floor.now) (faults_of c.topics.floor) (faults_of c.add_topic.new.floor) c.topics.invariant.0 c.in-Err.why c.in-Err.ensures.refused;
+  clock = c.add_topic.ensures.clock ∙ c.topics.invariant.1;
+  journal = c.add_topic.ensures.journal ∙ c.topics.invariant.2;
+  faults = le_trans c.topics.invariant.0.faults c.add_topic.ensures.faults;
+}
+
+pub returns : goal.returns
+returns g c = record {
+  added =
+      topics_added g.F.Folder.tells_files c.args.topics.now c.topics.topic-index (held_of c.args.floor.now) (held_of c.topics.floor) (files_of c.args.floor.now) (files_of c.topics.floor) (faults_of c.args.floor.now) (faults_of c.topics.floor) c.topics-test.false c.topics.invariant.0;
+  refused = tt;
+  clock = c.topics.invariant.1;
+  journal = c.topics.invariant.2;
+  faults = c.topics.invariant.0.faults;
+}

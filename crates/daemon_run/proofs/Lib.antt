@@ -8,3 +8,4 @@ pub mod Running
 pub mod Asking
 pub mod Sighting
 pub mod Opening
+pub mod Looping

@@ -1,7 +1,9 @@
-use Rattle.std.proofs.Common.{arith, refl, sym, subst, ap, ◌∙◌, inl, inr}
+use Rattle.std.proofs.Common.{sym, subst, ap, ◌∙◌, inl, inr, le_refl}
+use Rattle.std.proofs.lemmas.Bool.{false≢true}
 use Rattle.nsq_outside.specs.Hosts.{HostContent, OnlyAcceptFaults}
 use Rattle.daemon_callers.proofs.Handing.{accepted_then}
 use Rattle.daemon_run.proofs.Causes.{rose_wider}
+use Rattle.daemon_run.proofs.Looping.{above_none, accepted_nobody, halted_unfailed, memory_unfailed, next_fits, stopped_unfailed}
 use Rattle.daemon_run.proofs.Rounding.{rounds_failed, rounds_first, rounds_halted, rounds_new, rounds_served, rounds_tick, rounds_waited}
 use Rattle.daemon_run.proofs.callers.serve_callers.Goals as goal
 
@@ -9,12 +11,33 @@ pub callers-init : goal.callers-init
 callers-init g c = record {
   unflushed = c.requires.unflushed;
   rounds = rounds_first _ _ _ _ _ _ _ _ (λ told. told.host) (λ told. told.notes) _ _ c.requires.empty;
-  state = (omega arith, refl);
+  state = accepted_nobody (g.H.Host.state c.args.host.now);
 }
+
+pub tick-requires : goal.tick-requires
+tick-requires g c = record { unflushed = c.callers.invariant.unflushed }
+
+pub overflow_add-number : goal.overflow_add-number
+overflow_add-number g c = next_fits c.callers.number c.callers.auto.number-fits c.if-number.false
+
+pub unreachable-requires : goal.unreachable-requires
+unreachable-requires g c = false≢true c.in-None.ensures.steps
+
+pub save_changed-requires : goal.save_changed-requires
+save_changed-requires g c = record { unflushed = c.tick.ensures.unflushed }
+
+pub serve_caller-requires-clause-options : goal.serve_caller-requires-clause-options
+serve_caller-requires-clause-options g c κs within = c.requires.options
+
+pub serve_caller-requires-clause-number : goal.serve_caller-requires-clause-number
+serve_caller-requires-clause-number g c κs within = above_none c.callers.number
 
 pub serve_caller-requires-clause-new : goal.serve_caller-requires-clause-new
 serve_caller-requires-clause-new g c κs within = λ told.
     rounds_new _ _ _ _ _ _ _ _ (λ told. told.host) (λ told. told.notes) c.callers.number _ _ _ _ _ _ c.callers.invariant.rounds c.in-Quiet.ensures.ticks c.save_changed.ensures.went (ap g.H.Journal.Journal.notes c.save_changed.ensures.journal) told
+
+pub save_changed-requires-in-Nothing : goal.save_changed-requires-in-Nothing
+save_changed-requires-in-Nothing g c = record { unflushed = c.tick.ensures.unflushed }
 
 pub callers-preserved-in-Caller : goal.callers-preserved-in-Caller
 callers-preserved-in-Caller g c = record {
@@ -37,8 +60,8 @@ returns-then-number g c = record {
   unflushed = c.callers.invariant.unflushed;
   over = record { number = c.callers.number; rounds = c.callers.invariant.rounds; why = λ told. inr c.if-number.true };
   state = c.callers.invariant.state;
-  cause = λ is. cc;
-  listeners = λ told is. cc;
+  cause = λ is. halted_unfailed _ is;
+  listeners = λ told is. halted_unfailed _ is;
 }
 
 pub returns-in-Stopping : goal.returns-in-Stopping
@@ -50,8 +73,8 @@ returns-in-Stopping g c = record {
     why = λ told. c.in-Stopping.ensures.ticks.noted told.notes;
   };
   state = c.callers.invariant.state;
-  cause = λ is. cc;
-  listeners = λ told is. cc;
+  cause = λ is. stopped_unfailed _ is;
+  listeners = λ told is. stopped_unfailed _ is;
 }
 
 pub returns-in-Memory : goal.returns-in-Memory
@@ -63,8 +86,8 @@ returns-in-Memory g c = record {
     why = λ told. tt;
   };
   state = c.callers.invariant.state;
-  cause = λ is. cc;
-  listeners = λ told is. cc;
+  cause = λ is. memory_unfailed _ is;
+  listeners = λ told is. memory_unfailed _ is;
 }
 
 pub returns-in-Halt : goal.returns-in-Halt
@@ -76,8 +99,8 @@ returns-in-Halt g c = record {
     why = λ told. inl (ap (λ (x : HostContent _). x.halted) (c.in-Halt.ensures.content told.host).1);
   };
   state = accepted_then _ _ _ c.callers.invariant.state c.accept.ensures.state;
-  cause = λ is. cc;
-  listeners = λ told is. cc;
+  cause = λ is. halted_unfailed _ is;
+  listeners = λ told is. halted_unfailed _ is;
 }
 
 pub returns-in-Failed : goal.returns-in-Failed
@@ -86,10 +109,10 @@ returns-in-Failed g c = record {
   over = record {
     number = c.callers.number;
     rounds = rounds_failed _ _ _ _ _ _ _ _ (λ told. told.host) (λ told. told.notes) c.callers.number _ _ _ _ _ _ c.callers.invariant.rounds c.in-Quiet.ensures.ticks c.in-Failed.ensures.content;
-    why = λ told. rose_wider _ _ _ _ c.callers.invariant.state.0 (omega arith) c.in-Failed.ensures.cause;
+    why = λ told. rose_wider _ _ _ _ c.callers.invariant.state.0 (le_refl _) c.in-Failed.ensures.cause;
   };
   state = accepted_then _ _ _ c.callers.invariant.state c.accept.ensures.state;
-  cause = λ is. rose_wider _ _ _ _ c.callers.invariant.state.0 (omega arith) c.in-Failed.ensures.cause;
+  cause = λ is. rose_wider _ _ _ _ c.callers.invariant.state.0 (le_refl _) c.in-Failed.ensures.cause;
   listeners = λ told is.
       let same = c.in-Failed.ensures.content told in
       record {

@@ -5,3 +5,4 @@ pub mod Counted
 pub mod Drilling
 pub mod Asking
 pub mod Telling
+pub mod Printing

@@ -3,6 +3,7 @@ pub mod Keepable
 pub mod Holding
 pub mod Storing
 pub mod Answering
+pub mod Ticking
 pub use Rattle.floor_serving.proofs.Leading
 pub use Rattle.floor_serving.proofs.KeptNames
 pub use Rattle.floor_files.proofs.Parting

@@ -11,14 +11,21 @@ use Rattle.turn_laws.proofs.Laying.{turns_of}
 use Rattle.data_path.specs.Scenes.{Scene}
 use Rattle.data_path.specs.Leads.{Leads}
 use Rattle.daemon_run.specs.Going.{Went}
-use Rattle.daemon_run.specs.Rounds.{Rounds, Ticks, ticks_of}
+use Rattle.desk.specs.Answers.{ticks_of}
+use Rattle.daemon_run.specs.Rounds.{Rounds, Ticks}
 use Rattle.daemon_callers.specs.Served.{HasServed, IsServed, OnlyCallersChange, UpTo, Views}
 use Rattle.daemon_tick.specs.declared.ticking.Ticked.{Ticked}
 use Rattle.daemon_tick.specs.declared.ticking.Ticked.TheVariants as ticked
-pub use Rattle.daemon_tick.proofs.TickLaws.{ticks-append}
+use Rattle.daemon_tick.specs.Ticks.{IsTicked}
+pub use Rattle.turn_laws.proofs.Ticking.{ticks-append}
 use Rattle.daemon_run.proofs.Going.{went_by, went_nowhere, went_then}
 use Rattle.daemon_callers.proofs.Others.{none_of, nothing_yet, up_to_more}
 use Rattle.daemon_callers.proofs.Handing.{at_first, caller_changes, daemon_served, next_served, still_served}
+
+-- a turn of the daemon that ticks, from what a tick tells
+pub ticks_so : {tells_notes tells_files tells_readings : Bool} {old new : Scene} {answer : Ticked} → Leads tells_notes tells_files tells_readings 0 old new → (IsTrue tells_notes → own 0 new.notes ≡ own 0 old.notes)
+    → (IsTrue tells_notes → IsTicked answer old.notes new.notes) → Ticks tells_notes tells_files tells_readings old new answer
+ticks_so leads nothing noted = record { leads = leads; nothing = nothing; noted = noted }
 
 -- a history that grew has no fewer ticks
 ticks_grow : (h h' added : History) → h' ≡ h ++ added → ticks_of h ≤ ticks_of h'

@@ -5,11 +5,20 @@ use Rattle.nsq_outside.specs.Causes.{Rose}
 use Rattle.nsq_outside.specs.Hosts.{HostContent}
 use Rattle.broker_history.specs.Entries.{History, has_stop, own}
 use Rattle.data_path.specs.Scenes.{Scene}
-pub use Rattle.daemon_tick.specs.Ticks.{IsTicked, Ticks, ticked_of, ticks_of}
+use Rattle.data_path.specs.Leads.{Leads}
+pub use Rattle.desk.specs.Answers.{ticks_of}
+use Rattle.daemon_tick.specs.Ticks.{IsTicked}
+use Rattle.daemon_tick.specs.declared.ticking.Ticked.{Ticked}
 use Rattle.daemon_run.specs.Going.{Went}
 use Rattle.daemon_callers.specs.Served.{HasServed, OnlyCallersChange, UpTo, Views}
 use Rattle.daemon_endings.specs.declared.ends.LoopEnd.{LoopEnd}
 use Rattle.daemon_endings.specs.declared.ends.LoopEnd.TheVariants as loop
+
+-- a turn of the daemon that ticked, and was answered so
+pub record Ticks (tells_notes tells_files tells_readings : Bool) (old new : Scene) (answer : Ticked) : Type 0 where
+  pub leads : Leads tells_notes tells_files tells_readings 0 old new
+  pub nothing : IsTrue tells_notes → own 0 new.notes ≡ own 0 old.notes
+  pub noted : IsTrue tells_notes → IsTicked answer old.notes new.notes
 
 -- what is true of a run between two rounds: what the floor was led to; no entry names a number above the callers'; none is the daemon's own, so a Stop there is one
 -- that a caller asked for; the daemon ticked once for each caller at least; each caller was served

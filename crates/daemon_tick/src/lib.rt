@@ -1,6 +1,6 @@
 //! The turn by which a round of the daemon begins: a tick, for which what is due is moved, and queues are saved that weren't for the sync timeout.
 //!
-//! `specs/Ticks.antt` says what such a turn leads to and notes.
+//! It is taken at anything that takes turns. `specs/Ticks.antt` says how it is answered.
 #![tactic(auto)]
 
 mod ticking;

@@ -1,11 +1,8 @@
-ghost use Rattle.std.specs.Prelude.{◌≡◌, false};
-ghost use Rattle.broker_floor.specs.Floors.{flushed_of, scene_of};
-ghost use Rattle.daemon_tick.specs.Ticks.{Ticks, ticked_of};
+ghost use Rattle.std.specs.Prelude.{◌≡◌, IsTrue};
+ghost use Rattle.broker_history.specs.Entries.{own};
+ghost use Rattle.daemon_tick.specs.Ticks.{IsTicked, ticked_of};
 
-use broker_floor::Floor;
-use broker_history::Entry;
-use desk::{Call, Turned};
-use nsq_outside::{Clock, Folder, Journal};
+use desk::{Call, Turned, Turner};
 use std::alloc::Global;
 
 /// How a tick was answered.
@@ -19,17 +16,14 @@ pub enum Ticked {
     Memory,
 }
 
-/// Takes the daemon's turn that begins a round: what is due is moved, and queues that weren't saved for the sync timeout are saved. Requires that the
-/// floor wasn't flushed.
-pub fn tick<F: Folder, C: Clock, J: Journal<Entry>>(
-    alloc: Global,
-    floor: &mut Floor<F, C, J>,
-) -> Ticked
-    requires unflushed { flushed_of floor.old ≡ false }
-    ensures unflushed { flushed_of floor.new ≡ false }
-    ensures ticks { Ticks J.tells_notes F.tells_files C.tells_readings (scene_of floor.old) (scene_of floor.new) result }
+/// Takes the daemon's turn that begins a round: what is due is moved, and queues that weren't saved for the sync timeout are saved. A tick that was made
+/// is noted, and none of the daemon's own entries with it; where it is answered that the daemon stops, a Stop stands in the history.
+pub fn tick<T: Turner>(alloc: Global, floor: &mut T) -> Ticked
+    ensures leads { T.leads 0 floor.old floor.new }
+    ensures nothing { IsTrue T.tells → own 0 (T.notes floor.new) ≡ own 0 (T.notes floor.old) }
+    ensures noted { IsTrue T.tells → IsTicked result (T.notes floor.old) (T.notes floor.new) }
 {
-    let turned = floor.turn(alloc, 0, Call::Tick);
+    let turned = floor.take_turn(alloc, 0, Call::Tick);
     answer_of(&turned)
 }
 

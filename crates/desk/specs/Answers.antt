@@ -1,5 +1,5 @@
 -- What a call notes, and what it is answered: one relation of call, entry with its end, and answer, for turns of a floor and of desks alike.
-use Rattle.std.specs.Prelude.{◌≡◌, ◌⊎◌, ℕ, ◌^◌, ◌<◌, ◌&&◌, Bool, true, false, [], ◌∷◌, ◌++◌, length, Option, Some, None}
+use Rattle.std.specs.Prelude.{◌≡◌, ◌⊎◌, ℕ, ◌+◌, ◌^◌, ◌<◌, ◌≤◌, ◌&&◌, Bool, true, false, [], ◌∷◌, ◌++◌, length, filter, Option, Some, None}
 use Rattle.nsq_outside.specs.declared.journal.End.{End}
 use Rattle.nsq_outside.specs.declared.journal.End.TheVariants as end
 use Rattle.v2_frame.specs.declared.command.Command.{Command}
@@ -10,7 +10,7 @@ use Rattle.broker_history.specs.declared.ask.Said.{Said}
 use Rattle.broker_history.specs.declared.ask.Said.TheVariants as said
 use Rattle.broker_history.specs.declared.entry.Act.TheVariants as act
 use Rattle.broker_history.specs.declared.entry.Entry.{Entry}
-use Rattle.broker_history.specs.Entries.{History, is_common, has_stop}
+use Rattle.broker_history.specs.Entries.{History, is_common, is_tick, has_stop}
 use Rattle.broker_history.specs.Reply.{answered, closes}
 use Rattle.broker_history.specs.Talk.{IsDid, IsSending, IsRest}
 use Rattle.desk.specs.declared.call.Call.{Call}
@@ -134,6 +134,15 @@ Adds number own own' c answer = ((own' ≡ own) × AddsNothing c answer) ⊎ Joi
 abbrev pub StopsSeen : History → Turned → Type 0
 StopsSeen seen turned.Stopping = has_stop seen ≡ true
 StopsSeen seen _ = Unit {0}
+
+-- how often the daemon ticked
+abbrev pub ticks_of : History → ℕ
+ticks_of h = length (filter (λ e. is_tick e.0.act) h)
+
+-- a tick that is answered Quiet was noted
+abbrev pub TicksNoted : Turned → Call → (earlier later : History) → Type 0
+TicksNoted turned.Quiet call.Tick earlier later = ticks_of earlier + 1 ≤ ticks_of later
+TicksNoted _ _ earlier later = Unit {0}
 
 -- a frame that is answered has a body of fewer than 2^31 bytes
 abbrev pub IsShortAnswer : Turned → Type 0

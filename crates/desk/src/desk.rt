@@ -2,7 +2,7 @@ ghost use Rattle.std.specs.Prelude.{◌≡◌, ◌≢◌, ◌&&◌, ℕ, Bool, I
 ghost use Rattle.nsq_outside.specs.Causes.{CountsFault};
 ghost use Rattle.broker_history.specs.Entries.{History, own};
 ghost use Rattle.desk.specs.Calls.{CanCall, MayCall};
-ghost use Rattle.desk.specs.Answers.{Adds, Grows, IsAnswerTo, IsShortAnswer, StopsSeen, goes, stays_for_memory, wants_memory};
+ghost use Rattle.desk.specs.Answers.{Adds, Grows, IsAnswerTo, IsShortAnswer, StopsSeen, TicksNoted, goes, stays_for_memory, wants_memory};
 ghost use Rattle.desk.specs.declared.turned.Turned.TheVariants.{Strange};
 
 use crate::{Call, Turned};
@@ -61,13 +61,14 @@ pub trait Turner {
     ghost leads: { ℕ → Self → Self → Type 0 };
 
     /// Takes a turn of this number. Its connection may make this call where its own entries allow it. The answer is that of the
-    /// act that was noted. Memory and Strange note no act.
+    /// act that was noted. Memory and Strange note no act. A tick that is answered Quiet was noted.
     fn take_turn(&mut self, alloc: Global, conn: u64, call: Call) -> Turned
         requires can { CanCall call }
         requires may { IsTrue tells → MayCall conn (own conn (notes self.old)) call }
         ensures grows { IsTrue tells → Grows (notes self.old) (notes self.new) }
         ensures adds { IsTrue tells → Adds conn (own conn (notes self.old)) (own conn (notes self.new)) call result }
         ensures stopping { IsTrue tells → StopsSeen (notes self.new) result }
+        ensures ticked { IsTrue tells → TicksNoted result call (notes self.old) (notes self.new) }
         ensures told { IsTrue tells → result ≢ Strange }
         ensures answer { IsAnswerTo call result }
         ensures short { IsShortAnswer result }

@@ -2,9 +2,10 @@ use Rattle.std.proofs.Common.{sym, subst, ap, ◌∙◌, inl, inr, le_refl}
 use Rattle.std.proofs.lemmas.Bool.{false≢true}
 use Rattle.nsq_outside.specs.Hosts.{HostContent, OnlyAcceptFaults}
 use Rattle.daemon_callers.proofs.Handing.{accepted_then}
+use Rattle.daemon_tick.specs.declared.ticking.Ticked.TheVariants as ticked
 use Rattle.daemon_run.proofs.Causes.{rose_wider}
 use Rattle.daemon_run.proofs.Looping.{above_none, accepted_nobody, halted_unfailed, memory_unfailed, next_fits, stopped_unfailed}
-use Rattle.daemon_run.proofs.Rounding.{rounds_failed, rounds_first, rounds_halted, rounds_new, rounds_served, rounds_tick, rounds_waited}
+use Rattle.daemon_run.proofs.Rounding.{rounds_failed, rounds_first, rounds_halted, rounds_new, rounds_served, rounds_tick, rounds_waited, ticks_so}
 use Rattle.daemon_run.proofs.callers.serve_callers.Goals as goal
 
 pub callers-init : goal.callers-init
@@ -14,9 +15,6 @@ callers-init g c = record {
   state = accepted_nobody (g.H.Host.state c.args.host.now);
 }
 
-pub tick-requires : goal.tick-requires
-tick-requires g c = record { unflushed = c.callers.invariant.unflushed }
-
 pub overflow_add-number : goal.overflow_add-number
 overflow_add-number g c = next_fits c.callers.number c.callers.auto.number-fits c.if-number.false
 
@@ -24,7 +22,7 @@ pub unreachable-requires : goal.unreachable-requires
 unreachable-requires g c = false≢true c.in-None.ensures.steps
 
 pub save_changed-requires : goal.save_changed-requires
-save_changed-requires g c = record { unflushed = c.tick.ensures.unflushed }
+save_changed-requires g c = record { unflushed = (c.tick.ensures.leads.0 ∙ c.callers.invariant.unflushed) }
 
 pub serve_caller-requires-clause-options : goal.serve_caller-requires-clause-options
 serve_caller-requires-clause-options g c κs within = c.requires.options
@@ -34,15 +32,15 @@ serve_caller-requires-clause-number g c κs within = above_none c.callers.number
 
 pub serve_caller-requires-clause-new : goal.serve_caller-requires-clause-new
 serve_caller-requires-clause-new g c κs within = λ told.
-    rounds_new _ _ _ _ _ _ _ _ (λ told. told.host) (λ told. told.notes) c.callers.number _ _ _ _ _ _ c.callers.invariant.rounds c.in-Quiet.ensures.ticks c.save_changed.ensures.went (ap g.H.Journal.Journal.notes c.save_changed.ensures.journal) told
+    rounds_new _ _ _ _ _ _ _ _ (λ told. told.host) (λ told. told.notes) c.callers.number _ _ _ _ _ _ c.callers.invariant.rounds (ticks_so c.tick.ensures.leads.1 c.tick.ensures.nothing c.in-Quiet.ensures.noted) c.save_changed.ensures.went (ap g.H.Journal.Journal.notes c.save_changed.ensures.journal) told
 
 pub save_changed-requires-in-Nothing : goal.save_changed-requires-in-Nothing
-save_changed-requires-in-Nothing g c = record { unflushed = c.tick.ensures.unflushed }
+save_changed-requires-in-Nothing g c = record { unflushed = (c.tick.ensures.leads.0 ∙ c.callers.invariant.unflushed) }
 
 pub callers-preserved-in-Caller : goal.callers-preserved-in-Caller
 callers-preserved-in-Caller g c = record {
   unflushed = c.serve_caller.ensures.leads.0 ∙ c.save_changed.ensures.unflushed;
-  rounds = rounds_served _ _ _ _ _ _ _ _ (λ told. told.host) (λ told. told.notes) g.H.Conn.Source.left c.callers.number _ _ _ _ _ _ _ _ _ c.in-Caller.kind c.in-Caller.conn c.serve_caller.new.conn c.callers.invariant.rounds c.in-Quiet.ensures.ticks
+  rounds = rounds_served _ _ _ _ _ _ _ _ (λ told. told.host) (λ told. told.notes) g.H.Conn.Source.left c.callers.number _ _ _ _ _ _ _ _ _ c.in-Caller.kind c.in-Caller.conn c.serve_caller.new.conn c.callers.invariant.rounds (ticks_so c.tick.ensures.leads.1 c.tick.ensures.nothing c.in-Quiet.ensures.noted)
       c.save_changed.ensures.went (ap g.H.Journal.Journal.notes c.save_changed.ensures.journal) c.serve_caller.ensures.leads.1 c.in-Caller.ensures.content c.done.ensures.content
       (λ told. c.serve_caller.ensures.served told.pieces told.written told.notes c.in-Caller.ensures.fresh);
   state = accepted_then _ _ _ c.callers.invariant.state (subst (λ x. OnlyAcceptFaults (g.H.Host.state c.callers.host) x) (sym c.done.ensures.state) c.accept.ensures.state);
@@ -51,7 +49,7 @@ callers-preserved-in-Caller g c = record {
 pub callers-preserved : goal.callers-preserved
 callers-preserved g c = record {
   unflushed = c.save_changed-in-Nothing.ensures.unflushed;
-  rounds = rounds_waited _ _ _ _ _ _ _ _ (λ told. told.host) (λ told. told.notes) c.callers.number _ _ _ _ _ _ _ c.callers.invariant.rounds c.in-Quiet.ensures.ticks c.save_changed-in-Nothing.ensures.went (ap g.H.Journal.Journal.notes c.save_changed-in-Nothing.ensures.journal) c.in-Nothing.ensures.content;
+  rounds = rounds_waited _ _ _ _ _ _ _ _ (λ told. told.host) (λ told. told.notes) c.callers.number _ _ _ _ _ _ _ c.callers.invariant.rounds (ticks_so c.tick.ensures.leads.1 c.tick.ensures.nothing c.in-Quiet.ensures.noted) c.save_changed-in-Nothing.ensures.went (ap g.H.Journal.Journal.notes c.save_changed-in-Nothing.ensures.journal) c.in-Nothing.ensures.content;
   state = accepted_then _ _ _ c.callers.invariant.state c.accept.ensures.state;
 }
 
@@ -66,11 +64,11 @@ returns-then-number g c = record {
 
 pub returns-in-Stopping : goal.returns-in-Stopping
 returns-in-Stopping g c = record {
-  unflushed = c.tick.ensures.unflushed;
+  unflushed = (c.tick.ensures.leads.0 ∙ c.callers.invariant.unflushed);
   over = record {
     number = c.callers.number;
-    rounds = rounds_tick _ _ _ _ _ _ _ _ (λ told. told.host) (λ told. told.notes) c.callers.number _ _ _ _ _ _ c.callers.invariant.rounds c.in-Stopping.ensures.ticks;
-    why = λ told. c.in-Stopping.ensures.ticks.noted told.notes;
+    rounds = rounds_tick _ _ _ _ _ _ _ _ (λ told. told.host) (λ told. told.notes) c.callers.number _ _ _ _ _ ticked.Stopping c.callers.invariant.rounds (ticks_so c.tick.ensures.leads.1 c.tick.ensures.nothing c.in-Stopping.ensures.noted);
+    why = λ told. c.in-Stopping.ensures.noted told.notes;
   };
   state = c.callers.invariant.state;
   cause = λ is. stopped_unfailed _ is;
@@ -79,10 +77,10 @@ returns-in-Stopping g c = record {
 
 pub returns-in-Memory : goal.returns-in-Memory
 returns-in-Memory g c = record {
-  unflushed = c.tick.ensures.unflushed;
+  unflushed = (c.tick.ensures.leads.0 ∙ c.callers.invariant.unflushed);
   over = record {
     number = c.callers.number;
-    rounds = rounds_tick _ _ _ _ _ _ _ _ (λ told. told.host) (λ told. told.notes) c.callers.number _ _ _ _ _ _ c.callers.invariant.rounds c.in-Memory.ensures.ticks;
+    rounds = rounds_tick _ _ _ _ _ _ _ _ (λ told. told.host) (λ told. told.notes) c.callers.number _ _ _ _ _ ticked.Memory c.callers.invariant.rounds (ticks_so c.tick.ensures.leads.1 c.tick.ensures.nothing c.in-Memory.ensures.noted);
     why = λ told. tt;
   };
   state = c.callers.invariant.state;
@@ -92,10 +90,10 @@ returns-in-Memory g c = record {
 
 pub returns-in-Halt : goal.returns-in-Halt
 returns-in-Halt g c = record {
-  unflushed = c.tick.ensures.unflushed;
+  unflushed = (c.tick.ensures.leads.0 ∙ c.callers.invariant.unflushed);
   over = record {
     number = c.callers.number;
-    rounds = rounds_halted _ _ _ _ _ _ _ _ (λ told. told.host) (λ told. told.notes) c.callers.number _ _ _ _ _ _ c.callers.invariant.rounds c.in-Quiet.ensures.ticks (λ told. (c.in-Halt.ensures.content told).1);
+    rounds = rounds_halted _ _ _ _ _ _ _ _ (λ told. told.host) (λ told. told.notes) c.callers.number _ _ _ _ _ _ c.callers.invariant.rounds (ticks_so c.tick.ensures.leads.1 c.tick.ensures.nothing c.in-Quiet.ensures.noted) (λ told. (c.in-Halt.ensures.content told).1);
     why = λ told. inl (ap (λ (x : HostContent _). x.halted) (c.in-Halt.ensures.content told.host).1);
   };
   state = accepted_then _ _ _ c.callers.invariant.state c.accept.ensures.state;
@@ -105,10 +103,10 @@ returns-in-Halt g c = record {
 
 pub returns-in-Failed : goal.returns-in-Failed
 returns-in-Failed g c = record {
-  unflushed = c.tick.ensures.unflushed;
+  unflushed = (c.tick.ensures.leads.0 ∙ c.callers.invariant.unflushed);
   over = record {
     number = c.callers.number;
-    rounds = rounds_failed _ _ _ _ _ _ _ _ (λ told. told.host) (λ told. told.notes) c.callers.number _ _ _ _ _ _ c.callers.invariant.rounds c.in-Quiet.ensures.ticks c.in-Failed.ensures.content;
+    rounds = rounds_failed _ _ _ _ _ _ _ _ (λ told. told.host) (λ told. told.notes) c.callers.number _ _ _ _ _ _ c.callers.invariant.rounds (ticks_so c.tick.ensures.leads.1 c.tick.ensures.nothing c.in-Quiet.ensures.noted) c.in-Failed.ensures.content;
     why = λ told. rose_wider _ _ _ _ c.callers.invariant.state.0 (le_refl _) c.in-Failed.ensures.cause;
   };
   state = accepted_then _ _ _ c.callers.invariant.state c.accept.ensures.state;

@@ -9,9 +9,9 @@ use Rattle.v2_frame.specs.Line.{IsNumber, without_minus}
 use Rattle.v2_frame.specs.Heading.{Heading, Says, Identify, Sub, Pub, Mpub, Dpub, Rdy, Fin, Req, Touch, Cls, Nop}
 use Rattle.v2_frame.specs.Command.{heading_of, IsBody, IsWithin, IsShortNumber, Spells}
 use Rattle.v2_frame.specs.Judging.{Whole, Judged}
-use Rattle.v2_frame.specs.Writing.{CanWrite, CanWriteBehind, CanWriteText, CanWriteWords}
 use Rattle.v2_frame.proofs.PlaceLemmas.{digits_small}
 use Rattle.v2_frame.proofs.VerdictLemmas.{judged_begins}
+use Rattle.v2_client.specs.Writing.{CanWrite, CanWriteBehind, CanWriteText, CanWriteWords}
 
 -- a sign leaves the size as it is
 abs_signed : (minus : Bool) (size : ℕ) → nat_abs (cond minus (neg_ℤ (pos size)) (pos size)) ≡ size

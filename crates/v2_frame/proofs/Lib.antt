@@ -11,9 +11,6 @@ pub mod VerbLemmas
 pub mod CanonicalLemmas
 pub mod ReaderLemmas
 pub mod ReadLemmas
-pub mod WritingLemmas
 pub mod MessageLemmas
-pub mod FrameLemmas
-pub mod FrameRowLemmas
 pub mod SayingLemmas
 pub mod EveryLemmas

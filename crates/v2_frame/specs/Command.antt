@@ -1,7 +1,6 @@
 -- Which bytes spell a command.
-use Rattle.std.specs.Prelude.{◌≡◌, ℕ, ◌-◌, ◌^◌, ◌<◌, ◌≤◌, List, [], ◌∷◌, ◌++◌, length, flat_map, codes, ℤ, nat_abs}
+use Rattle.std.specs.Prelude.{◌≡◌, ℕ, ◌^◌, ◌<◌, ◌≤◌, List, [], ◌∷◌, ◌++◌, length, flat_map, codes, ℤ, nat_abs}
 use Rattle.std.specs.List.{AllByRecursion, join_with_byte}
-use Rattle.std.specs.Int.{to_be_bytes, w32}
 use Rattle.std.specs.Fmt.{signed_decimal}
 use Rattle.v2_frame.specs.declared.command.Command.{Command}
 use Rattle.v2_frame.specs.declared.command.Command.TheVariants as command
@@ -69,14 +68,6 @@ pub record Spells (limits : Limits) (bytes : List ℕ) (c : Command) : Type 0 wh
   pub says : LineSays line (heading_of c)
   pub named : IsWellNamed (heading_of c)
   pub within : IsWithin limits c
-
--- sizes as great as four bytes hold
-abbrev pub any_size : Limits
-any_size = record { msg = 2 ^ 32 - 1; body = 2 ^ 32 - 1 }
-
--- the bytes spell the command, judged without a greatest size
-abbrev pub IsSpelled : List ℕ → Command → Type 0
-IsSpelled bytes c = Spells any_size bytes c
 
 -- the words of the canonical line: numbers without leading zeros, and RDY with its number
 abbrev pub canonical_words : Heading → List (List ℕ)

@@ -9,7 +9,4 @@ pub mod Parts
 pub mod Lined
 pub mod Reading
 pub mod ReaderLaws
-pub mod Writing
 pub mod Messages
-pub mod Frames
-pub mod FrameReads

@@ -4,7 +4,7 @@ use nsq_base::Memory;
 
 /// Appends these parts, in order. Want of memory is the only error: then the list is as before. Memory is asked for once,
 /// for all parts.
-pub(crate) fn append_all(out: &mut Vec<u8>, parts: &[&[u8]]) -> Result<(), Memory>
+pub fn append_all(out: &mut Vec<u8>, parts: &[&[u8]]) -> Result<(), Memory>
     ensures ok { OnOk result (out.new.items ≡ out.old.items ++ flat_map (λ part. part.now) parts.now) }
     ensures err { OnErr result (out.new.items ≡ out.old.items) }
 {

@@ -8,8 +8,8 @@ pub(crate) fn same(one: &[u8], other: &[u8]) -> bool
     one == other
 }
 
-/// Drops so many bytes at the front, and moves the others there.
-pub(crate) fn drop_front(bytes: &mut Vec<u8>, count: usize)
+/// Drops so many bytes at the front, and moves the others there. It requires that so many are there.
+pub fn drop_front(bytes: &mut Vec<u8>, count: usize)
     requires { count ≤ length bytes.old.items }
     ensures { bytes.new.items ≡ drop count bytes.old.items }
 {

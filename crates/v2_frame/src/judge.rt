@@ -38,8 +38,8 @@ pub enum Found {
     Unfinished,
 }
 
-/// The place as it is told.
-pub(crate) fn told_place(at: u64) -> u64
+/// The place in a stream as it is told: one above 2^63 is told as 2^63.
+pub fn told_place(at: u64) -> u64
     ensures { result ≡ told_place at }
 {
     at.min(LAST_PLACE)

@@ -2,7 +2,8 @@ use crate::same;
 use crate::text::{check_row, cut, number_of, rows_of, text_of};
 use std::alloc::Global;
 use std::process::Abort;
-use v2_frame::{Frame, FrameKind, FrameReader, GotFrame};
+use v2_client::{FrameReader, GotFrame};
+use v2_frame::{Frame, FrameKind};
 
 /// The greatest size of a frame that the reader takes.
 const LIMIT: u32 = 100;

@@ -1,4 +1,5 @@
-use v2_frame::{frame_laws, laws, reader_laws};
+use v2_client::frame_laws;
+use v2_frame::{laws, message_laws, reader_laws};
 
 // Each law can be cited.
 #[test]
@@ -12,7 +13,7 @@ fn of_the_stream() {
     laws::canonical_is_spelling();
     reader_laws::any_pieces_are_one_stream();
     reader_laws::answers_take_what_is_left();
+    message_laws::message_bytes_are_one();
     frame_laws::one_row_of_frames();
     frame_laws::frames_go_on();
-    frame_laws::message_bytes_are_one();
 }

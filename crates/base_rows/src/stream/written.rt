@@ -1,11 +1,12 @@
 ghost use Rattle.std.specs.Prelude.{◌≡◌, ◌^◌, ◌<◌, IfSome};
-ghost use Rattle.v2_frame.specs.Writing.{CanWrite};
+ghost use Rattle.v2_client.specs.Writing.{CanWrite};
 
 use crate::same;
 use crate::text::{check_row, cut, rows_of};
 use std::alloc::Global;
 use std::process::Abort;
-use v2_frame::{Command, Found, Limits, judge_front, write_command};
+use v2_client::write_command;
+use v2_frame::{Command, Found, Limits, judge_front};
 
 const LIMITS: Limits = Limits { msg: 5, body: 100 };
 

@@ -1,5 +1,0 @@
-use Rattle.v2_frame.proofs.FrameRowLemmas.{rows_go_on}
-use Rattle.v2_frame.proofs.frame_laws.frames_go_on.Goals as goal
-
-pub returns : goal.returns
-returns c = rows_go_on

@@ -1,5 +1,0 @@
-use Rattle.v2_frame.proofs.FrameRowLemmas.{one_row}
-use Rattle.v2_frame.proofs.frame_laws.one_row_of_frames.Goals as goal
-
-pub returns : goal.returns
-returns c = one_row

@@ -1,7 +1,8 @@
 -- Lemmas on rows of frames, and on what a reader of frames gave out.
-use Rattle.std.proofs.Common.{◌≡◌, ℕ, ◌+◌, ◌-◌, ◌≤◌, List, [], ◌∷◌, ◌++◌, length, refl, sym, ap, subst, ◌∙◌, arith, length-append}
-use Rattle.std.proofs.lemmas.List.{append-nil}
+use Rattle.std.proofs.Common.{◌≡◌, ℕ, ◌+◌, ◌-◌, ◌≤◌, List, [], ◌∷◌, ◌++◌, length, take, drop, refl, sym, ap, subst, ◌∙◌, arith, length-append, length-drop}
+use Rattle.std.proofs.lemmas.List.{append-nil, drop-drop}
 use Rattle.v2_frame.specs.declared.frame.Frame.{Frame}
+use Rattle.v2_frame.specs.declared.frame.FrameKind.{FrameKind}
 use Rattle.v2_frame.specs.Script.{told_place}
 use Rattle.v2_frame.specs.Written.{frame_bytes}
 use Rattle.v2_client.specs.declared.frame_reader.GotFrame.{GotFrame}
@@ -132,3 +133,17 @@ given_on old new (got.Whole f) g = given_whole old new f g
 given_on old new got.More g = given_more old new g
 given_on old new (got.Bad at) g = given_bad old new at g
 given_on old new got.Memory g = given_memory old new g.1
+
+-- a frame at the front of what is held is taken
+pub frame_taken : (limit place start end told : ℕ) (items bytes body : List ℕ) (kind : FrameKind) → bytes ≡ drop start items
+    → (8 ≤ end) × (end ≤ length bytes) × BeginsWithFrame limit bytes (record { kind = kind; body = take (end - 8) (drop 8 bytes) }) (drop end bytes) → body ≡ take (end - 8) (drop 8 bytes) → told ≡ told_place (place + end)
+    → Gives (record { limit = limit; place = place; bytes = drop start items }) (record { limit = limit; place = told; bytes = drop (start + end) items }) (got.Whole (record { kind = kind; body = body }))
+frame_taken limit place start end told items bytes body kind s front b t =
+    let f : Frame = record { kind = kind; body = body } in
+    let here : BeginsWithFrame limit bytes f (drop end bytes) = subst (λ (x : List ℕ). BeginsWithFrame limit bytes (record { kind = kind; body = x }) (drop end bytes)) (sym b) front.2 in
+    let after : drop end bytes ≡ drop (start + end) items = ap (drop end) s ∙ drop-drop end start items in
+    let long : end ≡ length (frame_bytes kind body) = omega (arith, front.1, frame_long here, length-drop end bytes) in (
+      subst (λ (x : List ℕ). BeginsWithFrame limit x f (drop (start + end) items)) s (subst (λ (x : List ℕ). BeginsWithFrame limit bytes f x) after here),
+      refl,
+      t ∙ ap (λ (n : ℕ). told_place (place + n)) long,
+    )

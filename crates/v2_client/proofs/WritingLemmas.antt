@@ -1,8 +1,8 @@
 -- Lemmas on what the writers append.
-use Rattle.std.proofs.Common.{◌≡◌, ℕ, ◌+◌, ◌-◌, ◌^◌, ◌<◌, ◌≤◌, false, List, [], ◌∷◌, ◌++◌, length, take, drop, get_or, slice_get, Some, Result, Ok, Err, OnOk, sym, ap, subst, ◌∙◌, arith, append_assoc, length-append, take-append-drop, flat_map}
+use Rattle.std.proofs.Common.{◌≡◌, ℕ, ◌+◌, ◌-◌, ◌^◌, ◌<◌, ◌≤◌, true, false, List, [], ◌∷◌, ◌++◌, length, take, drop, get_or, slice_get, Some, Result, Ok, Err, OnOk, OnErr, codes, sym, ap, subst, ◌∙◌, arith, append_assoc, length-append, take-append-drop, flat_map}
 use Rattle.std.specs.Result.{is_err}
 use Rattle.std.specs.List.{AllByRecursion}
-use Rattle.std.proofs.lemmas.List.{append-nil, take_more}
+use Rattle.std.proofs.lemmas.List.{append-nil, take_at, take_more}
 use Rattle.std.proofs.lemmas.List.Concat.{flat_map-append}
 use Rattle.std.proofs.lemmas.Option.{get_or_from_slice_get, slice_get_within}
 use Rattle.v2_frame.specs.declared.command.Command.{Command}
@@ -11,7 +11,7 @@ use Rattle.v2_frame.specs.Heading.{Heading, Fin, Req, Touch, IsWellNamed}
 use Rattle.v2_frame.specs.Command.{size4, sized, content_of, heading_of, canonical, IsBody, IsWithin, IsWritable}
 use Rattle.v2_frame.proofs.SizeLemmas.{length-size4, count_le}
 use Rattle.v2_frame.proofs.CanonicalLemmas.{canonical_spells}
-use Rattle.v2_client.specs.Writing.{any_size, IsSpelled, CanWriteText, CanWriteBatch, CanWrite}
+use Rattle.v2_client.specs.Writing.{any_size, IsSpelled, CanWriteText, CanWriteBatch, CanWrite, batch_bytes}
 
 -- one more part of a row
 pub flat_map_next : {X : Type 0} (f : X → List ℕ) (xs : List X) (i : ℕ) (d : X) → i < length xs → flat_map f (take (i + 1) xs) ≡ flat_map f (take i xs) ++ f (get_or xs i d)
@@ -101,3 +101,27 @@ pub batch_push : (new out start front size text body : List ℕ) → new ≡ out
 batch_push new out start front size text body e o s t =
     let last : size ++ (text ++ []) ≡ sized body = ap (λ (x : List ℕ). size ++ x) (append-nil text) ∙ ap (λ (x : List ℕ). x ++ text) s ∙ ap sized t in
     e ∙ ap (λ (x : List ℕ). x ++ (size ++ (text ++ []))) o ∙ append_assoc start front (size ++ (text ++ [])) ∙ ap (λ (x : List ℕ). start ++ (front ++ x)) last
+
+-- what a call ensures where it gave an error
+refused : {T E P : Type 0} (r : Result T E) → is_err r ≡ true → OnErr r P → P
+refused (Ok x) e p = cc
+refused (Err x) e p = p
+
+-- a batch whose bodies were refused is cut off
+pub batch_cut : {T E : Type 0} (r : Result T E) (old mid now new head : List ℕ) (n : ℕ) → mid ≡ old → now ≡ mid ++ head → is_err r ≡ true → OnErr r (new ≡ now) → length old ≡ n → take n new ≡ old
+batch_cut r old mid now new head n same is e p long = ap (take n) (refused r e p ∙ is ∙ ap (λ (x : List ℕ). x ++ head) same) ∙ take_at old head n long
+
+-- the line, the size, the count and the bodies are the whole batch
+pub batch_whole : (old mid now new name size count topic : List ℕ) (bodies : List (List ℕ)) → mid ≡ old → now ≡ mid ++ (codes "MPUB " ++ (name ++ 10 ∷ (size ++ (count ++ [])))) → new ≡ now ++ flat_map sized bodies
+    → name ≡ topic → size ≡ size4 (length (content_of bodies)) → count ≡ size4 (length bodies) → new ≡ old ++ batch_bytes topic bodies
+batch_whole old mid now new name size count topic bodies same head rest n s k =
+    let all = flat_map sized bodies in
+    let first = codes "MPUB " ++ (name ++ 10 ∷ (size ++ (count ++ []))) in
+    let parts : first ++ all ≡ codes "MPUB " ++ (name ++ 10 ∷ (size ++ (count ++ all))) = ap (λ (x : List ℕ). codes "MPUB " ++ x)
+    (append_assoc name (10 ∷ (size ++ (count ++ []))) all
+    ∙ ap (λ (x : List ℕ). name ++ 10 ∷ x) (append_assoc size (count ++ []) all ∙ ap (λ (x : List ℕ). size ++ (x ++ all)) (append-nil count))) in
+    rest ∙ ap (λ (x : List ℕ). x ++ all) head ∙ append_assoc mid first all ∙ ap (λ (x : List ℕ). mid ++ x) parts
+    ∙ ap (λ (x : List ℕ). x ++ (codes "MPUB " ++ (name ++ 10 ∷ (size ++ (count ++ all))))) same
+    ∙ ap (λ (x : List ℕ). old ++ (codes "MPUB " ++ (x ++ 10 ∷ (size ++ (count ++ all))))) n
+    ∙ ap (λ (x : List ℕ). old ++ (codes "MPUB " ++ (topic ++ 10 ∷ (x ++ (count ++ all))))) s
+    ∙ ap (λ (x : List ℕ). old ++ (codes "MPUB " ++ (topic ++ 10 ∷ (size4 (length (content_of bodies)) ++ (x ++ all))))) k

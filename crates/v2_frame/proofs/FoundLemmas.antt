@@ -1,5 +1,5 @@
 -- What a line starts, and the verdict on it, as the judge finds it.
-use Rattle.std.proofs.Common.{◌≡◌, ℕ, ◌+◌, ◌<◌, ◌≤◌, List, ◌∷◌, ◌++◌, length, drop, Result, Ok, Err, refl, sym, ap, subst, ◌∙◌, arith}
+use Rattle.std.proofs.Common.{◌≡◌, ℕ, ◌+◌, ◌<◌, ◌≤◌, List, ◌∷◌, ◌++◌, length, drop, Result, Ok, Err, refl, sym, ap, subst, ◌∙◌, arith, length-drop}
 use Rattle.std.specs.Prelude.{IfOk, OnErr, MatchResult}
 use Rattle.nsq_core.specs.declared.memory.Memory.{Memory}
 use Rattle.v2_frame.specs.declared.command.Command.{Command}
@@ -61,3 +61,7 @@ module _ (limits : Limits) (bytes line rest : List ℕ) (sized : Sized) (h : Has
 -- what was judged behind a line, told from the command's first byte
 pub told_behind : (limits : Limits) (heading : Heading) (slice rest : List ℕ) (line : ℕ) (verdict shown : Verdict) → slice ≡ rest → Behind limits heading slice verdict → shown ≡ shifted line verdict → BehindLine limits heading rest line shown
 told_behind limits heading slice rest line verdict shown e b is = record { verdict = verdict; behind = subst (λ (x : List ℕ). Behind limits heading x verdict) e b; is = is }
+
+-- what was taken behind a line, from the command's first byte
+pub taken_behind : (bytes slice : List ℕ) (end taken : ℕ) → slice ≡ drop (end + 1) bytes → end < length bytes → taken ≤ length slice → (0 < end + 1 + taken) × (end + 1 + taken ≤ length bytes)
+taken_behind bytes slice end taken e l within = (omega arith, omega (arith, ap length e, length-drop (end + 1) bytes))

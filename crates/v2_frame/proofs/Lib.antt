@@ -9,8 +9,11 @@ pub mod FieldLemmas
 pub mod FoundLemmas
 pub mod VerbLemmas
 pub mod CanonicalLemmas
+pub mod NumberLemmas
 pub mod ReaderLemmas
+pub mod FeedingLemmas
 pub mod ReadLemmas
+pub mod AppendLemmas
 pub mod MessageLemmas
 pub mod SayingLemmas
 pub mod EveryLemmas

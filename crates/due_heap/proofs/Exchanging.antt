@@ -1,8 +1,9 @@
 -- What an exchange of two nodes keeps of the layout.
-use Rattle.std.proofs.Common.{◌≡◌, ◌≢◌, ℕ, ◌+◌, ◌<◌, ◌≤◌, List, length, length-set, slice_set, refl, sym, ap, ◌∙◌, arith}
+use Rattle.std.proofs.Common.{◌≡◌, ◌≢◌, ℕ, ◌+◌, ◌-◌, ◌*◌, ◌/◌, ◌<◌, ◌≤◌, List, length, length-set, slice_set, refl, sym, ap, ◌∙◌, arith}
 use Rattle.std.proofs.lemmas.List.{get_or-set_same, get_or-set_other}
 use Rattle.due_heap.specs.declared.node.Node.{Node}
-use Rattle.due_heap.specs.Layout.{no_node, node_at, place_of, node_of, Detached, Exchanged, IsHeap, IsHeapBut, Matched, Moved}
+use Rattle.due_heap.specs.Heap.{FewSteps}
+use Rattle.due_heap.specs.Layout.{no_node, node_at, place_of, node_of, AboveChildren, Attached, Detached, Exchanged, FewSwaps, IsHeap, IsHeapBut, Matched, Moved}
 use Rattle.due_heap.proofs.Rising.{by, not_after_trans, which}
 
 abbrev pub nodes_set : List Node → ℕ → ℕ → List Node
@@ -165,3 +166,101 @@ detached_moved {order} {mid} {new} {places} {mid_places} {new_places} {last} {pl
           second.inside k (omega (arith, long, h)) (omega (arith, z, w));
       outside = λ k h above. let z = first.outside k h above in second.outside k (omega (arith, long, h)) (omega (arith, z, above)) ∙ z;
     }
+
+-- a node written where the heap ends, of the slot that stands there
+module _ (order : List Node) (places : List ℕ) (place : ℕ) (node : Node) (m : Matched order places) (in' : place < length order) (slot : node.slot ≡ (node_at order place).slot) where
+  put_long : length (slice_set order place node) ≡ length order
+  put_long = length-set order place node
+
+  put_there : node_at (slice_set order place node) place ≡ node
+  put_there = get_or-set_same order place node no_node in'
+
+  put_other : (k : ℕ) → k ≢ place → node_at (slice_set order place node) k ≡ node_at order k
+  put_other k u = get_or-set_other order place k node no_node u
+
+  put_slot : (k : ℕ) → (node_at (slice_set order place node) k).slot ≡ (node_at order k).slot
+  put_slot k = which k place
+      (λ e. ap (λ (i : ℕ). (node_at (slice_set order place node) i).slot) e ∙ ap (λ (n : Node). n.slot) put_there ∙ slot ∙ sym (ap (λ (i : ℕ). (node_at order i).slot) e))
+      (λ u. ap (λ (n : Node). n.slot) (put_other k u))
+
+  pub put_matched : Matched (slice_set order place node) places
+  put_matched = record {
+    same_length = m.same_length ∙ sym put_long;
+    slot_in = λ k h. let z = put_slot k in let y = m.slot_in k (omega (arith, put_long)) in omega (arith, put_long);
+    back = λ k h. ap (place_of places) (put_slot k) ∙ m.back k (omega (arith, put_long));
+    place_in = λ s h. let z = m.place_in s (omega (arith, put_long)) in omega (arith, put_long);
+    there = λ s h. put_slot (place_of places s) ∙ m.there s (omega (arith, put_long));
+  }
+
+  pub put_within : place + 1 ≤ length (slice_set order place node)
+  put_within = omega (arith, put_long)
+
+  -- the heap is one but for that node
+  pub put_but : IsHeap order place → IsHeapBut (slice_set order place node) (place + 1) place
+  put_but heap = record {
+    others = λ p k a b f u v. by (put_other p (omega arith)) (put_other k v) (heap p k a b (omega arith));
+    across = λ p k from to a b f. absurd (omega arith);
+  }
+
+  pub put_above : AboveChildren (slice_set order place node) (place + 1) place place
+  put_above = λ k a b f. absurd (omega arith)
+
+  pub put_attached : {new : List Node} {new_places : List ℕ} → Moved (place + 1) (slice_set order place node) places new new_places → Attached place node.slot node.due node.number order places new new_places
+  put_attached {new} {new_places} v =
+      let at : place_of places node.slot ≡ place = ap (place_of places) slot ∙ m.back place in' in
+      let within : node.slot < length order = (let y = m.slot_in place in' in omega (arith, slot)) in
+      record {
+        same_length = v.same_length ∙ put_long;
+        here = v.nodes node.slot (omega (arith, put_long, within)) ∙ ap (node_at (slice_set order place node)) at ∙ put_there;
+        place = v.inside node.slot (omega (arith, put_long, within)) (omega (arith, at));
+        nodes = λ s h u. v.nodes s (omega (arith, put_long)) ∙ put_other (place_of places s) (λ e. u (sym (m.there s h) ∙ ap (λ (k : ℕ). (node_at order k).slot) e ∙ sym slot));
+        inside = λ s h below. v.inside s (omega (arith, put_long)) below;
+        outside = λ s h above. v.outside s (omega (arith, put_long)) above;
+      }
+
+-- few swaps behind a write, or behind an exchange, are few steps
+pub few_attached : (place before mid now : ℕ) → mid ≡ before + 1 → FewSwaps (place + 1) mid now → FewSteps place before now
+few_attached place before mid now e few d h = let z = few d h in omega arith
+
+pub few_detached : (last before mid now : ℕ) → mid ≡ before + 2 → FewSwaps last mid now → FewSteps (last + 1) before now
+few_detached last before mid now e few d h = let z = few d (omega arith) in omega arith
+
+pub few_none : (items before : ℕ) → FewSteps items before before
+few_none items before d h = omega arith
+
+pub heap_less : (order : List Node) (last : ℕ) → IsHeap order (last + 1) → IsHeap order last
+heap_less order last heap p k a b f = heap p k a b (omega arith)
+
+-- places
+pub place_next : (place : ℕ) → place < place + 1
+place_next place = omega arith
+
+pub next_of : {a b : ℕ} → a ≤ b → a < b + 1
+next_of {a} {b} h = omega arith
+
+pub less_or : {a b : ℕ} → a < b → a ≤ b
+less_or {a} {b} h = omega arith
+
+pub below_both : {a b n : ℕ} → a ≤ b → b < n → a < n
+below_both {a} {b} {n} h k = omega arith
+
+pub not_last : {a b : ℕ} → a ≤ b → a ≢ b → a < b
+not_last {a} {b} h u = omega arith
+
+pub within_same : {n a b : ℕ} → n ≤ a → b ≡ a → n ≤ b
+within_same {n} {a} {b} h e = omega arith
+
+pub place_within : {j n a b : ℕ} → j < n → n ≤ a → b ≡ a → j < b
+place_within {j} {n} {a} {b} h k e = omega arith
+
+pub parent_within : {j n a b : ℕ} → j < n → n ≤ a → b ≡ a → (j - 1) / 2 < b
+parent_within {j} {n} {a} {b} h k e = omega arith
+
+pub parent_less : {j : ℕ} → 0 < j → (j - 1) / 2 < j
+parent_less {j} h = omega arith
+
+pub has_child : {j n : ℕ} → j < n / 2 → j * 2 + 1 < n
+has_child {j} {n} h = omega arith
+
+pub child_nearer : (j : ℕ) {c n : ℕ} → j * 2 + 1 ≤ c → c < n → n - c < n - j
+child_nearer j {c} {n} h k = omega arith

@@ -25,6 +25,22 @@ new_shown made made' h e = choose (cases_lt made (2 ^ 64 - 1))
     choose (inl l) = inl (omega arith)
     choose (inr l) = inr (omega arith)
 
+-- room that is made: no more is asked for than is wanting
+pub no_want : (items was len cap count n more spare : ℕ) → was ≡ items → len ≡ items → len ≤ cap → items - count ≡ spare → more ≡ n - (was - count) → cap < len + more → n ≤ spare → ⊥
+no_want items was len cap count n more spare w e k s m full fits = omega arith
+
+pub room_for : {a items len cap : ℕ} (more : ℕ) → len + more ≤ cap → len ≡ items → items ≡ a → a + more ≤ cap
+room_for {a} {items} {len} {cap} more h e f = omega arith
+
+pub room_made : (items len count n more now : ℕ) → len ≡ items → count ≤ items → more ≡ n - (len - count) → now ≡ items + more → n ≤ now - count
+room_made items len count n more now e within m longer = omega arith
+
+pub spare_kept : {A : Type 0} (old new : List A) (count spare : ℕ) → new ≡ old → length old - count ≡ spare → spare ≤ length new - count
+spare_kept old new count spare e s = omega (arith, ap length e)
+
+pub spare_made : (items count more now spare : ℕ) → items - count ≡ spare → now ≡ items + more → spare ≤ now - count
+spare_made items count more now spare s longer = omega arith
+
 module _ {T : Type 0} where
   pub shows_node : (count made s place : ℕ) (node : Node) (h : Held T) (o : Option (Held T)) → o ≡ Some h → Shows count made s node place o → (place < count) × (node ≡ record { due = h.due; number = h.number; slot = s }) × ((h.number < made) ⊎ (made ≡ 2 ^ 64 - 1))
   shows_node count made s place node h None e w = cc

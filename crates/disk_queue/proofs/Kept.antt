@@ -1,6 +1,7 @@
 -- What a change of the files leaves of a queue's lists.
 use Rattle.std.proofs.Common.{◌≡◌, ℕ, ◌+◌, ◌^◌, ◌<◌, ◌≤◌, ◌⊎◌, List, [], ◌∷◌, ◌++◌, length, take, drop, Option, Some, None, unwrap_or, IfSome, Bool, true, false, if◌then◌else◌, refl, sym, ◌∙◌, ap, subst, inl, inr, arith, length-append}
 use Rattle.std.proofs.lemmas.Bool.{cases_lt}
+use Rattle.std.proofs.lemmas.Bool.Decides.{nat_tests}
 use Rattle.std.proofs.lemmas.List.{append-nil, take_all, drop_all}
 use Rattle.std.proofs.lemmas.Grind.{common_steps}
 use Rattle.nsq_outside.specs.Files.{Files, Cuts, OnlyChanges, cut_to, written_at}
@@ -18,7 +19,7 @@ use Rattle.queue_image.proofs.Naming.{one_number, metadata_apart}
 use Rattle.disk_queue.specs.Seen.{Seen, unmarked, forgotten, fresh_queue, after_stage}
 use Rattle.disk_queue.specs.Holding.{Holds, IsNext, staged_part, SaveStands, OwnChange}
 use Rattle.queue_image.specs.Metas.{Says, IsIdle}
-use Rattle.disk_queue.specs.Parts.{IsSound, WritesPlace, StageWrites, place_for, base_for, with_record}
+use Rattle.disk_queue.specs.Parts.{IsSound, WritesPlace, StageWrites, place_for, base_for, first_base, with_record}
 use Rattle.queue_opening.specs.FileCalls.{WritesRecord}
 use Rattle.disk_queue.specs.Answers.{StageTooLong, StaysWhereTooLong}
 use Rattle.queue_opening.specs.Replaced.{OnlyTwoChange}
@@ -375,3 +376,35 @@ stage_writes q r old mid new body place IsStaged e is base w =
     ∙ ap (λ (x : List ℕ). Some x) (with_record_at q old body)
 stage_writes q r old mid new body place Fault e is base w = tt
 stage_writes q r old mid new body place (TooLong _) e is base w = tt
+
+-- where a record goes, and what stands there, by whether it rolls
+pub rolls_on : (max_bytes file at size : ℕ) → true ≡ rolls max_bytes file at size → file < 2 ^ 40
+rolls_on max_bytes file at size h = grind (arith, nat_tests)
+
+pub placed_rolled : (q : Seen) (size : ℕ) (result : Option Staged) → true ≡ rolls q.options.max_bytes q.staged.file q.staged.at size
+    → IfSome result (λ place. place ≡ record { file = q.staged.file + 1; at = 0; count = q.staged.count }) → IfSome result (λ place. place ≡ place_for q size)
+placed_rolled q size result rolled h = subst (λ (b : Bool). IfSome result (λ place. place ≡ (if b then record { file = q.staged.file + 1; at = 0; count = q.staged.count } else q.staged))) rolled h
+
+pub placed_here : (q : Seen) (size : ℕ) (result : Option Staged) → false ≡ rolls q.options.max_bytes q.staged.file q.staged.at size → IfSome result (λ place. place ≡ q.staged) → IfSome result (λ place. place ≡ place_for q size)
+placed_here q size result rolled h = subst (λ (b : Bool). IfSome result (λ place. place ≡ (if b then record { file = q.staged.file + 1; at = 0; count = q.staged.count } else q.staged))) rolled h
+
+pub based_rolled : (q : Seen) (old new : Files) (size : ℕ) (result : Option Staged) → true ≡ rolls q.options.max_bytes q.staged.file q.staged.at size
+    → IfSome result (λ place. unwrap_or (new (data_file q.name place.file)) [] ≡ []) → IfSome result (λ place. unwrap_or (new (data_file q.name place.file)) [] ≡ base_for q old size)
+based_rolled q old new size result rolled h = subst (λ (b : Bool). IfSome result (λ place. unwrap_or (new (data_file q.name place.file)) [] ≡ (if b then [] else first_base q old))) rolled h
+
+pub based_here : (q : Seen) (old new : Files) (size : ℕ) (result : Option Staged) → false ≡ rolls q.options.max_bytes q.staged.file q.staged.at size
+    → IfSome result (λ place. unwrap_or (new (data_file q.name place.file)) [] ≡ first_base q old) → IfSome result (λ place. unwrap_or (new (data_file q.name place.file)) [] ≡ base_for q old size)
+based_here q old new size result rolled h = subst (λ (b : Bool). IfSome result (λ place. unwrap_or (new (data_file q.name place.file)) [] ≡ (if b then [] else first_base q old))) rolled h
+
+-- what stands where writing stands, where a record was staged before, and where the file was cut
+pub begun_base : (p q : Seen) (old : Files) → p ≡ q → p.begun ≡ true → unwrap_or (old (data_file q.name p.staged.file)) [] ≡ first_base q old
+begun_base p q old e begun = subst (λ (x : Seen). unwrap_or (old (data_file x.name p.staged.file)) [] ≡ first_base x old) e
+    (sym (ap (λ (b : Bool). if b then unwrap_or (old (data_file p.name p.staged.file)) [] else cut_to (unwrap_or (old (data_file p.name p.staged.file)) []) p.staged.at) begun))
+
+pub cut_base : (p q : Seen) (old new : Files) → p ≡ q → p.begun ≡ false → Cuts (old (data_file p.name p.staged.file)) (new (data_file p.name p.staged.file)) p.staged.at Done → unwrap_or (new (data_file q.name p.staged.file)) [] ≡ first_base q old
+cut_base p q old new e begun cut = subst (λ (x : Seen). unwrap_or (new (data_file x.name p.staged.file)) [] ≡ first_base x old) e
+    (ap (λ (o : Option (List ℕ)). unwrap_or o []) cut
+    ∙ sym (ap (λ (b : Bool). if b then unwrap_or (old (data_file p.name p.staged.file)) [] else cut_to (unwrap_or (old (data_file p.name p.staged.file)) []) p.staged.at) begun))
+
+pub staged_changes : (p q : Seen) (old new : Files) → p ≡ q → OnlyChanges old new (data_file p.name p.staged.file) → OnlyTwoChange old new (data_file q.name q.staged.file) (data_file q.name (q.staged.file + 1))
+staged_changes p q old new e only = subst (λ (x : Seen). OnlyTwoChange old new (data_file x.name x.staged.file) (data_file x.name (x.staged.file + 1))) e (λ other apart next. only other apart)

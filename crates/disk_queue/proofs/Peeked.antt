@@ -13,9 +13,9 @@ use Rattle.queue_image.proofs.Reading.{in_order, same_at, record_ends}
 use Rattle.queue_image.proofs.Lists.{empty_at_end, list_is_ordered}
 use Rattle.disk_queue.specs.Seen.{Seen, unmarked, next_file, behind, reading_at, marked, emptied, passed_over}
 use Rattle.disk_queue.specs.Holding.{Holds, IsNext, SaveStands}
-use Rattle.disk_queue.specs.Reading.{Turns, left_of, IsDamage, IsUnreadable, PeekSeen, PeekSize, PeekReads, PeekGives, stood}
+use Rattle.disk_queue.specs.Reading.{Turns, left_of, IsDamage, IsUnreadable, PeekSeen, PeekSize, PeekReads, PeekGives, PeekFails, stood}
 use Rattle.disk_queue.specs.Reading.IsUnreadable.{short, wrong, passing}
-use Rattle.disk_queue.specs.Peeking.{PeekMakes, HeadFinds}
+use Rattle.disk_queue.specs.Peeking.{PeekMakes, HeadFinds, FileFinds, FindCounts, HeadCounts, HeadEnds, HeadFails}
 use Rattle.disk_queue.specs.Parts.{IsSound}
 use Rattle.disk_queue.specs.declared.queue.reading.Head.{Head}
 use Rattle.queue_opening.specs.QueueOptions.{QueueOptions}
@@ -232,3 +232,24 @@ found_size q u f answer e d size =
 
 pub same_join : (old mid new : Files) → SameFiles old mid → SameFiles mid new → SameFiles old new
 same_join old mid new a b file = b file ∙ a file
+
+-- an answer that raised the count since a call raised it since an earlier one
+pub peek_since : (before mid now : ℕ) (answer : Peek) → before ≤ mid → PeekFails mid now answer → PeekFails before now answer
+peek_since before mid now (Got n) low fails = tt
+peek_since before mid now Empty low fails = tt
+peek_since before mid now Fault low fails = omega arith
+peek_since before mid now (Damaged file at size) low fails = tt
+
+-- what is known of a head that was found holds of it by its name
+module _ (head : Option Head) where
+  pub head_ends : (h : Head) (at : ℕ) → head ≡ Some h → IfSome head (HeadEnds at) → HeadEnds at h
+  head_ends h at is ends = subst (λ (x : Option Head). IfSome x (HeadEnds at)) is ends
+
+  pub head_finds : (h : Head) (bytes : ℕ → List ℕ) (p : Positions) → head ≡ Some h → HeadFinds bytes p head → FileFinds bytes p h
+  head_finds h bytes p is finds = subst (HeadFinds bytes p) is finds
+
+  pub head_fails : (h : Head) (before now : ℕ) → head ≡ Some h → IfSome head (HeadFails before now) → HeadFails before now h
+  head_fails h before now is fails = subst (λ (x : Option Head). IfSome x (HeadFails before now)) is fails
+
+  pub head_counts : (h : Head) (before now : ℕ) → head ≡ Some h → FindCounts before now head → HeadCounts before now h
+  head_counts h before now is counts = subst (FindCounts before now) is counts

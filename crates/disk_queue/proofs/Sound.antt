@@ -1,6 +1,7 @@
 -- What every queue keeps when reading moves.
-use Rattle.std.proofs.Common.{◌≡◌, ◌∙◌, ℕ, ◌+◌, ◌^◌, ◌<◌, ◌≤◌, ◌⊎◌, List, Option, Some, None, IfSome, refl, sym, ap, subst, inl, inr, arith}
-use Rattle.std.proofs.lemmas.Bool.{cases_lt}
+use Rattle.std.proofs.Common.{◌≡◌, ◌∙◌, ℕ, ◌+◌, ◌^◌, ◌<◌, ◌≤◌, ◌⊎◌, ◌↔◌, Bool, IsTrue, true, false, nat_le, nat_lt, List, Option, Some, None, IfSome, refl, sym, ap, subst, inl, inr, arith}
+use Rattle.std.proofs.lemmas.Bool.{cases_lt, false≢true}
+use Rattle.std.proofs.lemmas.Bool.Decides.{nat_tests}
 use Rattle.queue_image.specs.Places.{IsOrdered}
 use Rattle.queue_image.specs.declared.positions.Positions.{Positions}
 use Rattle.disk_queue.specs.Seen.{Seen, next_file, behind, passed_over}
@@ -98,3 +99,57 @@ sound_turned q r name e none lt i =
       marked = subst (λ (m : Option ℕ). IfSome m (IsAhead (next_file q.positions))) (sym unmarked) tt;
       limit = i.limit;
     }
+
+-- a size that the queue takes, with room for its record
+abbrev pub Takes : Seen → ℕ → Type 0
+Takes q size = ((q.options.least ≤ size) × (size ≤ q.options.limit)) × IsOrdered (behind q.positions size)
+
+leads : (a b : ℕ) → IsTrue (nat_le a b) → a ≤ b
+leads a b h = grind (arith, nat_tests)
+
+comes : (a b : ℕ) → a ≤ b → IsTrue (nat_le a b)
+comes a b h = grind (arith, nat_tests)
+
+runs : (a b : ℕ) → a < b → IsTrue (nat_lt a b)
+runs a b h = grind (arith, nat_tests)
+
+passes : (a b : ℕ) → nat_le b a ≡ false → a < b
+passes a b h = grind (arith, nat_tests)
+
+-- what two tests tell of a size
+pub takes_size : (least limit size : ℕ) (v : Bool) → least ≤ size → v ≡ nat_le size limit → v ≡ true → (least ≤ size) × (size ≤ limit)
+takes_size least limit size v low is told = (low, leads size limit (sym is ∙ told))
+
+pub takes_low : (least size : ℕ) (v : Bool) → size < least → v ≡ nat_le least size → v ≡ true → ⊥
+takes_low least size v low is told = let h = leads least size (sym is ∙ told) in omega arith
+
+pub takes_great : (limit size : ℕ) (v : Bool) → v ≡ nat_le size limit → v ≡ false → limit < size
+takes_great limit size v is told = passes limit size (sym is ∙ told)
+
+-- in a file below the write file each does
+pub takes_earlier : (p q : Seen) (size : ℕ) → p ≡ q → (p.options.least ≤ size) × (size ≤ p.options.limit) → p.positions.read_file < p.positions.write_file → IsTrue (nat_lt p.positions.read_file p.positions.write_file) ↔ Takes q size
+takes_earlier p q size e sized earlier = subst (λ (x : Seen). IsTrue (nat_lt p.positions.read_file p.positions.write_file) ↔ Takes x size) e ((λ told. (sized, inl earlier)), (λ so. runs p.positions.read_file p.positions.write_file earlier))
+
+-- in the write file one that ends before the write position
+pub takes_here : (p q : Seen) (size : ℕ) → p ≡ q → (p.options.least ≤ size) × (size ≤ p.options.limit) → p.positions.write_file ≤ p.positions.read_file → IsOrdered p.positions
+    → IsTrue (nat_le (p.positions.read_at + 4 + size) p.positions.write_at) ↔ Takes q size
+takes_here p q size e sized last order = subst (λ (x : Seen). IsTrue (nat_le (p.positions.read_at + 4 + size) p.positions.write_at) ↔ Takes x size) e (
+  (λ told. (sized, inr (same order, omega (arith, leads (p.positions.read_at + 4 + size) p.positions.write_at told)))),
+  (λ so. comes (p.positions.read_at + 4 + size) p.positions.write_at (ends so.1)),
+)
+  where
+    same : IsOrdered p.positions → p.positions.read_file ≡ p.positions.write_file
+    same (inl earlier) = absurd (omega arith)
+    same (inr at) = at.0
+
+    ends : IsOrdered (behind p.positions size) → p.positions.read_at + 4 + size ≤ p.positions.write_at
+    ends (inl earlier) = absurd (omega arith)
+    ends (inr at) = omega (arith, at.1)
+
+-- and none of another size
+pub takes_none : (p q : Seen) (size : ℕ) → p ≡ q → (size < p.options.least) ⊎ (p.options.limit < size) → IsTrue false ↔ Takes q size
+takes_none p q size e out = subst (λ (x : Seen). IsTrue false ↔ Takes x size) e ((λ told. absurd (false≢true told)), (λ so. absurd (never out so.0.0 so.0.1)))
+  where
+    never : (size < p.options.least) ⊎ (p.options.limit < size) → p.options.least ≤ size → size ≤ p.options.limit → ⊥
+    never (inl small) least limit = omega arith
+    never (inr great) least limit = omega arith

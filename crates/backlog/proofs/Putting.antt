@@ -1,26 +1,27 @@
 -- Lemmas on putting.
-use Rattle.std.proofs.Common.{◌≡◌, ℕ, ◌+◌, ◌-◌, ◌<◌, ◌≤◌, ◌⊎◌, inl, inr, List, [], ◌∷◌, ◌++◌, length, take, drop, map, get_or, Bool, IsTrue, Option, Some, None, refl, sym, ap, subst, ◌∙◌, arith, length-append, append_assoc, reverse, ◌≢◌}
+use Rattle.std.proofs.Common.{◌≡◌, ℕ, ◌+◌, ◌-◌, ◌<◌, ◌≤◌, ◌⊎◌, inl, inr, List, [], ◌∷◌, ◌++◌, length, take, drop, map, get_or, Bool, IsTrue, IsSome, true, false, Option, Some, None, option_map, refl, sym, ap, subst, ◌∙◌, arith, length-append, append_assoc, reverse, ◌≢◌}
 use Rattle.std.specs.List.{All}
 use Rattle.circular_buffer.specs.Buffer.{Buffer, buffer, keep_last}
 use Rattle.std.specs.Int.{to_be_bytes, w16, w64}
 use Rattle.std.proofs.Math.Nat.{le_of_eq}
 use Rattle.std.proofs.lemmas.List.{take_at, take_all, take_more, map-append, append-nil, length-drop, length-take-le, reverse-append}
 use Rattle.std.proofs.lemmas.List.Elements.{All-nil, All-cons, All-push, All-append, All-map, All-weaker}
-use Rattle.nsq_outside.specs.Causes.{Rose}
+use Rattle.nsq_outside.specs.Causes.{Rose, CountsFault}
 use Rattle.nsq_outside.specs.Files.{Files}
 use Rattle.v2_frame.specs.declared.message.Message.{Message}
 use Rattle.v2_frame.specs.Messages.{FitsItsBytes}
 use Rattle.v2_frame.specs.Written.{message_bytes}
-use Rattle.disk_queue.specs.Seen.{Seen as Queue, after_stage, forgotten, begun_after}
+use Rattle.disk_queue.specs.Seen.{Seen as Queue, after_stage, after_put, after_save, one_more, unmarked, forgotten, begun_after, IsEarly}
 use Rattle.disk_queue.specs.Holding.{Holds, SaveStands, OwnChange}
-use Rattle.disk_queue.specs.Answers.{bodies_after, StageFails, StageTooLong}
+use Rattle.disk_queue.specs.Answers.{bodies_after, NotDueWhere, PutCounts, PutFails, PutTooLong, StageFails, StageTooLong, SyncCounts}
 use Rattle.disk_queue.specs.declared.answers.Stage.{Stage}
 use Rattle.disk_queue.specs.declared.answers.Stage.TheVariants as stage
 use Rattle.disk_queue.specs.declared.answers.Sync.{Sync}
+use Rattle.disk_queue.specs.declared.answers.Sync.TheVariants.{NotDue, Done, Failed}
 use Rattle.disk_queue.specs.declared.answers.Put.{Put}
 use Rattle.disk_queue.specs.declared.answers.Put.TheVariants.{Stored, Fault, TooLong}
 use Rattle.disk_queue.proofs.Kept.{own_join}
-use Rattle.backlog.specs.Seen.{Seen, QueueTakes, room, size_of, ForMessages, FitsLimit, staged_all, SpillsAll, Unstages, IsSameQueue, SameQueue}
+use Rattle.backlog.specs.Seen.{Seen, QueueTakes, room, size_of, ForMessages, FitsLimit, staged_all, Spills, SpillsAll, Unstages, IsSameQueue, SameQueue}
 use Rattle.backlog.specs.Kept.{IsSound, IsQueue, IsQueueWhere, IsLent}
 use Rattle.backlog.specs.Lists.{OnDisk, Stands, spilled, DiskChanges, PutChanges, HoldsAll, IsStored, stored, disk_after}
 use Rattle.backlog.specs.declared.backlog.Lent.{Lent}
@@ -158,6 +159,20 @@ kept_more ring was rest all m capacity whole last room =
     let long : length (ring ++ m ∷ []) - capacity ≡ 0 = omega (arith, length-append (ring ++ m ∷ []) (reverse rest), ap length split, ap length whole) in
     ap (λ (n : ℕ). drop n (ring ++ m ∷ []) ++ reverse rest) long ∙ sym split ∙ whole
 
+pub keep_begins : (left : List Message) (len end : ℕ) → len ≡ length left → end ≡ len → length left + 0 ≡ end
+keep_begins left len end is all = omega arith
+
+-- none is left where each had its turn
+pub kept_none : (left : List Message) (counter end : ℕ) → length left + counter ≡ end → end ≤ counter → left ≡ []
+kept_none [] counter end left past = refl
+kept_none (m ∷ ms) counter end left past = absurd (omega arith)
+
+pub kept_all : (ring : Buffer Message) (left was more : List Message) (capacity counter end : ℕ) → ring.items ++ reverse left ≡ was ++ more → ring.capacity ≡ capacity → length left + counter ≡ end → end ≤ counter → ring ≡ buffer (was ++ more) capacity
+kept_all ring left was more capacity counter end whole room sum past =
+    let none : left ≡ [] = kept_none left counter end sum past in
+    let all : ring.items ≡ was ++ more = sym (ap (λ (x : List Message). ring.items ++ reverse x) none ∙ append-nil ring.items) ∙ whole in
+    ap (λ (x : List Message). buffer x ring.capacity) all ∙ ap (λ (n : ℕ). buffer (was ++ more) n) room
+
 -- the queue that a backlog has, and the message that its ring hands back
 module _ (queue : Option Queue) (q r : Queue) (old new : Files) (m back : Message) (is : queue ≡ Some q) (same : back ≡ m) where
   -- what is on disk after the message was put there
@@ -289,3 +304,82 @@ put_all_ring old items capacity was queue before lent ring more messages view is
     ∙ ap (λ (xs : List Message). record { ring = items ++ xs; capacity = capacity; queue = queue; lent = lent }) front
     ∙ ap (λ (l : Lent). record { ring = items ++ take (capacity - length items) messages; capacity = capacity; queue = queue; lent = l }) free
     ∙ ap (λ (b : Seen). record b { ring = b.ring ++ take (room b) messages; queue = queue }) view
+
+-- a message that the ring hands back to a backlog with a queue
+pub put_same : (queue : Option Queue) (q r : Queue) → queue ≡ Some q → r.name ≡ q.name → r.options ≡ q.options → SameQueue queue (Some r)
+put_same queue q r is name options = subst (λ (x : Option Queue). SameQueue x (Some r)) (sym is) (record { name = name; options = options })
+
+pub put_beside : (old : Seen) (was : Buffer Message) (queue : Option Queue) (lent : Lent) (q : Queue) → record { ring = was.items; capacity = was.capacity; queue = queue; lent = lent } ≡ old
+    → was.capacity ≤ length was.items → queue ≡ Some q → (old.capacity ≤ length old.ring) × IsSome old.queue
+put_beside old was queue lent q view full is = subst (λ (b : Seen). (b.capacity ≤ length b.ring) × IsSome b.queue) view (full, subst IsSome (sym is) refl)
+
+pub put_spills : (old : Seen) (was ring : Buffer Message) (queue : Option Queue) (lent : Lent) (q r : Queue) (m back : Message) (n : ℕ) (sync : Sync)
+    → record { ring = was.items; capacity = was.capacity; queue = queue; lent = lent } ≡ old → ring ≡ was → queue ≡ Some q → n ≡ size_of back → back ≡ m
+    → r ≡ after_save (one_more q n) sync → NotDueWhere (IsEarly (one_more q n)) sync
+    → Spills old (record { ring = ring.items; capacity = ring.capacity; queue = Some r; lent = lent }) (size_of m)
+put_spills old was ring queue lent q r m back n sync view stays is long same seen due =
+    let size : n ≡ size_of m = long ∙ ap size_of same in
+    record {
+      queue = q;
+      was = ap (λ (b : Seen). b.queue) (sym view) ∙ is;
+      sync = sync;
+      is = ap (λ (b : Buffer Message). record { ring = b.items; capacity = b.capacity; queue = Some r; lent = lent }) stays
+          ∙ ap (λ (x : Queue). record { ring = was.items; capacity = was.capacity; queue = Some x; lent = lent }) seen
+          ∙ ap (λ (k : ℕ). record { ring = was.items; capacity = was.capacity; queue = Some (after_save (one_more q k) sync); lent = lent }) size
+          ∙ ap (λ (b : Seen). record b { queue = Some (after_save (one_more q (size_of m)) sync) }) view;
+      due = subst (λ (k : ℕ). NotDueWhere (IsEarly (one_more q k)) sync) size due;
+    }
+
+-- a refusal is no record that joined the queue
+pub not_put : (answer : Put) → (answer ≡ Fault) ⊎ ((told : ℕ) × (answer ≡ TooLong told)) → (sync : Sync) → answer ≢ Stored sync
+not_put answer refused sync = λ same. elim refused [ inl e ↦ cc | inr e ↦ cc (e.1) ]
+
+unmarked_put : (q r : Queue) (size : ℕ) (answer : Put) → ((sync : Sync) → answer ≢ Stored sync) → r ≡ after_put q size answer → r ≡ unmarked q
+unmarked_put q r size (Stored sync) refused seen = absurd (refused sync refl)
+unmarked_put q r size Fault refused seen = seen
+unmarked_put q r size (TooLong told) refused seen = seen
+
+pub put_unmarks : (old : Seen) (was ring : Buffer Message) (queue : Option Queue) (lent : Lent) (q r : Queue) (n : ℕ) (answer : Put)
+    → record { ring = was.items; capacity = was.capacity; queue = queue; lent = lent } ≡ old → ring ≡ was → queue ≡ Some q → ((sync : Sync) → answer ≢ Stored sync) → r ≡ after_put q n answer
+    → record { ring = ring.items; capacity = ring.capacity; queue = Some r; lent = lent } ≡ record old { queue = option_map unmarked old.queue }
+put_unmarks old was ring queue lent q r n answer view stays is refused seen =
+    ap (λ (b : Buffer Message). record { ring = b.items; capacity = b.capacity; queue = Some r; lent = lent }) stays
+    ∙ ap (λ (x : Queue). record { ring = was.items; capacity = was.capacity; queue = Some x; lent = lent }) (unmarked_put q r n answer refused seen)
+    ∙ ap (λ (x : Option Queue). record { ring = was.items; capacity = was.capacity; queue = option_map unmarked x; lent = lent }) (sym is)
+    ∙ ap (λ (b : Seen). record b { queue = option_map unmarked b.queue }) view
+
+-- its record is within the queue's bounds, so that only a fault refuses it
+pub put_short : (q : Queue) (m back : Message) (n : ℕ) → ForMessages q.options → back ≡ m → FitsLimit m → n ≡ size_of back → n ≤ q.options.limit
+put_short q m back n options same short long =
+    let size : n ≡ size_of m = long ∙ ap size_of same in
+    omega (arith, options.limit, size, short)
+
+pub put_least : (q : Queue) (back : Message) (n : ℕ) → ForMessages q.options → n ≡ size_of back → q.options.least ≤ n
+put_least q back n options long = omega (arith, options.least, long)
+
+pub put_counted : (before now : ℕ) (sync : Sync) → SyncCounts before now sync → CountsFault before now false ⊎ CountsFault before now true
+put_counted before now NotDue counts = inl counts
+put_counted before now Done counts = inl counts
+put_counted before now Failed counts = inr counts
+
+pub put_risen : (before now limit size : ℕ) (answer : Put) → size ≤ limit → PutTooLong limit size answer → PutFails before now answer → ((sync : Sync) → answer ≢ Stored sync) → Rose before now
+put_risen before now limit size (Stored sync) short long fails refused = absurd (refused sync refl)
+put_risen before now limit size Fault short long fails refused = fails
+put_risen before now limit size (TooLong told) short long fails refused = absurd (omega (arith, long.0))
+
+pub put_counts : (before now limit size : ℕ) (answer : Put) → size ≤ limit → PutTooLong limit size answer → PutCounts before now answer → ((sync : Sync) → answer ≢ Stored sync) → CountsFault before now true
+put_counts before now limit size (Stored sync) short long counts refused = absurd (refused sync refl)
+put_counts before now limit size Fault short long counts refused = counts
+put_counts before now limit size (TooLong told) short long counts refused = absurd (omega (arith, long.0))
+
+-- a ring that took one, and one that is as it was beside a queue that changed
+pub sound_kept : (ring : Buffer Message) (items : List Message) (m : Message) (capacity : ℕ) (queue : Option Queue) (lent : Lent) → ring ≡ buffer (items ++ m ∷ []) capacity → length items < capacity → FitsLimit m → lent ≡ Nothing
+    → IsSound items capacity queue lent → IsSound ring.items ring.capacity queue lent
+sound_kept ring items m capacity queue lent is room short free i =
+    sound_more ring items (m ∷ []) capacity queue lent is i.within i.short (omega (arith, room)) (All-cons FitsLimit m [] short (All-nil FitsLimit)) i.queue free
+
+pub sound_back : (was ring : Buffer Message) (queue : Option Queue) (lent : Lent) → ring ≡ was → IsSound was.items was.capacity queue lent → IsSound ring.items ring.capacity queue lent
+sound_back was ring queue lent stays i = subst (λ (b : Buffer Message). IsSound b.items b.capacity queue lent) (sym stays) i
+
+pub queue_where : (queue : Option Queue) (q : Queue) → queue ≡ Some q → IsQueueWhere queue → IsQueue q
+queue_where queue q is i = subst IsQueueWhere is i

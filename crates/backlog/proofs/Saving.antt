@@ -1,20 +1,21 @@
 -- Moving the ring's messages to the queue, and saving.
 use Rattle.std.proofs.Common.{ℕ, ◌≡◌, ◌≢◌, ◌+◌, ◌-◌, ◌≤◌, ◌<◌, ◌⊎◌, inl, inr, List, [], ◌∷◌, ◌++◌, length, take, drop, map, Bool, true, false, IsTrue, Option, Some, refl, sym, ap, subst, ◌∙◌, arith, append_assoc, get_or, if◌then◌else◌}
 use Rattle.std.specs.List.{slice_get, All}
-use Rattle.std.proofs.lemmas.List.{map-append, drop-drop, length-drop, take_more, get_or-drop, length-take-le, take_all, drop_all}
+use Rattle.std.proofs.lemmas.List.{map-append, append-nil, drop-drop, length-drop, take_more, get_or-drop, length-take-le, take_all, drop_all}
 use Rattle.std.proofs.lemmas.List.Elements.{All-append, All-cons, All-nil, All-head, All-drop}
 use Rattle.std.proofs.lemmas.Option.{slice_get_within, get_or_from_slice_get}
 use Rattle.circular_buffer.specs.Buffer.{Buffer, buffer}
-use Rattle.nsq_outside.specs.Causes.{Rose}
+use Rattle.std.proofs.lemmas.Bool.{false≢true}
+use Rattle.nsq_outside.specs.Causes.{Rose, DidFails}
 use Rattle.nsq_outside.specs.Files.{Files}
 use Rattle.nsq_outside.specs.declared.did.Did.{Did}
 use Rattle.nsq_outside.specs.declared.did.Did.TheVariants as did
 use Rattle.v2_frame.specs.declared.message.Message.{Message}
 use Rattle.v2_frame.specs.Messages.{FitsItsBytes}
 use Rattle.v2_frame.specs.Written.{message_bytes}
-use Rattle.disk_queue.specs.Seen.{Seen as Queue, after_put, staged_more, unmarked, after_save}
+use Rattle.disk_queue.specs.Seen.{Seen as Queue, after_put, staged_more, unmarked, after_save, IsUnchanged}
 use Rattle.disk_queue.specs.Holding.{Holds, SaveStands, OwnChange}
-use Rattle.disk_queue.specs.Answers.{PutFails, PutTooLong, bodies_after, FoundUnlessFailed}
+use Rattle.disk_queue.specs.Answers.{PutFails, PutTooLong, SyncFails, NotDueWhere, bodies_after, FoundUnlessFailed}
 use Rattle.disk_queue.specs.declared.standing.Staged.{Staged}
 use Rattle.disk_queue.specs.declared.answers.Put.{Put}
 use Rattle.disk_queue.specs.declared.answers.Put.TheVariants as put
@@ -28,9 +29,10 @@ use Rattle.disk_queue.specs.Emptying.{EmptySeen as QueueEmptySeen}
 use Rattle.disk_queue.specs.declared.answers.Emptied.TheVariants.{Done}
 use Rattle.backlog.specs.declared.backlog.Lent.{Lent}
 use Rattle.backlog.specs.declared.backlog.Lent.TheVariants.{Nothing}
-use Rattle.backlog.specs.Kept.{IsSound, IsLent}
-use Rattle.backlog.specs.Seen.{FitsLimit, ForMessages, IsSameQueue, Lengthens, WritesAll, longest_body, size_of}
-use Rattle.backlog.specs.Lists.{HoldsAll, IsStored, stored}
+use Rattle.backlog.specs.Kept.{IsSound, IsLent, IsQueue, IsQueueWhere}
+use Rattle.backlog.specs.Seen.{Seen, FitsLimit, FlushMoves, ForMessages, IsSameQueue, Lengthens, QueueLengthens, SameQueue, WritesAll, longest_body, size_of}
+use Rattle.backlog.specs.Lists.{DiskChanges, HoldsAll, IsStored, OnDisk, Stands, stored}
+use Rattle.backlog.proofs.Drawing.{same_disk}
 use Rattle.backlog.proofs.Opening.{found_for}
 
 -- so many messages went from the ring's front to the queue's end
@@ -224,3 +226,117 @@ pub sound_cleared : (items : List Message) (capacity : ℕ) (queue : Option Queu
 sound_cleared items capacity queue lent ring is free i =
     subst (λ (b : Buffer Message). IsSound b.items b.capacity queue lent) (sym is)
     (record { within = omega arith; short = All-nil FitsLimit; queue = i.queue; lent = subst (IsLent [] capacity queue) (sym free) tt })
+
+-- none moved yet
+pub moving_none : (tells : Bool) (ring : Buffer Message) (q : Queue) (files : Files) → q.staged.count ≡ 0 → Moving tells ring.items ring.capacity ring q q files files 0
+moving_none tells ring q files none = record {
+  within = omega arith;
+  left = refl;
+  longer = record { same = record { name = refl; options = refl }; depth = omega arith; read_file = refl; read_at = refl };
+  none = none;
+  list = λ told disk h. subst (λ (xs : List Message). HoldsAll q files xs) (sym (append-nil disk)) h;
+  stands = λ told stood. stood;
+  others = λ told file other. refl;
+}
+
+-- a record of a message is within the bounds of a queue to which some were moved
+pub moved_least : (q r : Queue) (n long : ℕ) (m : Message) → ForMessages q.options → Lengthens q r n → long ≡ size_of m → r.options.least ≤ long
+moved_least q r n long m options longer size =
+    let same : r.options.least ≡ q.options.least = ap (λ (o : QueueOptions). o.least) longer.same.options in
+    omega (arith, options.least, same, size)
+
+-- a queue to which some were moved and that was saved
+pub flushed_longer : (q r s : Queue) (n : ℕ) (answer : Sync) → Lengthens q r n → s ≡ after_save (unmarked r) answer → Lengthens q s n
+flushed_longer q r s n answer longer seen = subst (λ (x : Queue). Lengthens q x n) (sym seen) (record {
+  same = record { name = longer.same.name; options = longer.same.options };
+  depth = longer.depth;
+  read_file = longer.read_file;
+  read_at = longer.read_at;
+})
+
+pub flushed_same : (queue : Option Queue) (q r s : Queue) (n : ℕ) (answer : Sync) → queue ≡ Some q → Lengthens q r n → s ≡ after_save (unmarked r) answer → SameQueue queue (Some s)
+flushed_same queue q r s n answer is longer seen = subst (λ (x : Option Queue). SameQueue x (Some s)) (sym is) (flushed_longer q r s n answer longer seen).same
+
+flush_moves : (was ring : Buffer Message) (queue : Option Queue) (lent : Lent) (q r s : Queue) (answer : Sync) (n : ℕ) → queue ≡ Some q → n ≤ length was.items → ring ≡ buffer (drop n was.items) was.capacity → Lengthens q r n → s ≡ after_save (unmarked r) answer
+    → FlushMoves (record { ring = was.items; capacity = was.capacity; queue = queue; lent = lent }) (record { ring = ring.items; capacity = ring.capacity; queue = Some s; lent = lent }) n
+flush_moves was ring queue lent q r s answer n is within left longer seen = record {
+  within = within;
+  is = ap (λ (b : Buffer Message). record { ring = b.items; capacity = b.capacity; queue = Some s; lent = lent }) left;
+  queue = subst (λ (x : Option Queue). QueueLengthens x (Some s) n) (sym is) (flushed_longer q r s n answer longer seen);
+}
+
+-- what a flush moved, where a part of the ring is left
+pub flush_some : (old : Seen) (was ring : Buffer Message) (queue : Option Queue) (lent : Lent) (q r s : Queue) (answer : Sync) → record { ring = was.items; capacity = was.capacity; queue = queue; lent = lent } ≡ old
+    → queue ≡ Some q → ring ≡ buffer (drop (length was.items - length ring.items) was.items) was.capacity → Lengthens q r (length was.items - length ring.items) → s ≡ after_save (unmarked r) answer
+    → FlushMoves old (record { ring = ring.items; capacity = ring.capacity; queue = Some s; lent = lent }) (length old.ring - length ring.items)
+flush_some old was ring queue lent q r s answer view is left longer seen =
+    subst (λ (b : Seen). FlushMoves b (record { ring = ring.items; capacity = ring.capacity; queue = Some s; lent = lent }) (length b.ring - length ring.items)) view
+    (flush_moves was ring queue lent q r s answer (length was.items - length ring.items) is (omega arith) left longer seen)
+
+-- and where none is
+pub flush_all : (old : Seen) (was ring : Buffer Message) (queue : Option Queue) (lent : Lent) (q r s : Queue) (answer : Sync) → record { ring = was.items; capacity = was.capacity; queue = queue; lent = lent } ≡ old
+    → queue ≡ Some q → ring ≡ buffer (drop (length was.items - length ring.items) was.items) was.capacity → Lengthens q r (length was.items - length ring.items) → s ≡ after_save (unmarked r) answer → ring.items ≡ []
+    → FlushMoves old (record { ring = ring.items; capacity = ring.capacity; queue = Some s; lent = lent }) (length old.ring)
+flush_all old was ring queue lent q r s answer view is left longer seen none =
+    let whole : length was.items - length ring.items ≡ length was.items = omega (arith, ap length none) in
+    subst (λ (b : Seen). FlushMoves b (record { ring = ring.items; capacity = ring.capacity; queue = Some s; lent = lent }) (length b.ring)) view
+    (subst (λ (k : ℕ). FlushMoves (record { ring = was.items; capacity = was.capacity; queue = queue; lent = lent }) (record { ring = ring.items; capacity = ring.capacity; queue = Some s; lent = lent }) k) whole
+    (flush_moves was ring queue lent q r s answer (length was.items - length ring.items) is (omega arith) left longer seen))
+
+-- what such a save leaves unsaved
+saved_as : (r : Queue) (answer : Sync) → NotDueWhere (IsUnchanged r) answer → (answer ≡ sync.NotDue) ⊎ (answer ≡ sync.Done) → IsUnchanged (after_save (unmarked r) answer)
+saved_as r sync.NotDue due either = record { none = due.none; positions = due.positions; sound = due.sound }
+saved_as r sync.Done due either = record { none = refl; positions = refl; sound = λ failed. false≢true failed }
+saved_as r sync.Failed due either = absurd (elim either [ inl e ↦ cc | inr e ↦ cc ])
+
+pub flush_saved : (r s : Queue) (answer : Sync) → NotDueWhere (IsUnchanged r) answer → s ≡ after_save (unmarked r) answer → (answer ≡ sync.NotDue) ⊎ (answer ≡ sync.Done) → IsUnchanged s
+flush_saved r s answer due seen either = subst IsUnchanged (sym seen) (saved_as r answer due either)
+
+tried_as : (r : Queue) (answer : Sync) → NotDueWhere (IsUnchanged r) answer → IsUnchanged (after_save (unmarked r) answer) ⊎ IsTrue (after_save (unmarked r) answer).saved.failed
+tried_as r sync.NotDue due = inl (record { none = due.none; positions = due.positions; sound = due.sound })
+tried_as r sync.Done due = inl (record { none = refl; positions = refl; sound = λ failed. false≢true failed })
+tried_as r sync.Failed due = inr refl
+
+pub flush_tried : (r s : Queue) (answer : Sync) → NotDueWhere (IsUnchanged r) answer → s ≡ after_save (unmarked r) answer → IsUnchanged s ⊎ IsTrue s.saved.failed
+flush_tried r s answer due seen = subst (λ (x : Queue). IsUnchanged x ⊎ IsTrue x.saved.failed) (sym seen) (tried_as r answer due)
+
+-- what stands while messages move and while they are saved
+pub flush_stands : (queue : Option Queue) (q r s : Queue) (old mid new : Files) → queue ≡ Some q → (SaveStands q old → SaveStands r mid) → (SaveStands r mid → SaveStands s new) → Stands queue old → SaveStands s new
+flush_stands queue q r s old mid new is first second stood = second (first (subst (λ (x : Option Queue). Stands x old) is stood))
+
+pub flush_listed : (queue : Option Queue) (q r s : Queue) (old mid new : Files) (disk : List Message) (items : List Message) → queue ≡ Some q → (HoldsAll q old disk → HoldsAll r mid (disk ++ map stored items))
+    → ((bodies waiting : List (List ℕ)) → Holds r mid bodies waiting → Holds s new bodies waiting) → OnDisk queue old disk → HoldsAll s new (disk ++ map stored items)
+flush_listed queue q r s old mid new disk items is first second on = same_disk r s mid new (disk ++ map stored items) second (first (subst (λ (x : Option Queue). OnDisk x old disk) is on))
+
+pub flush_changed : (queue : Option Queue) (q r : Queue) (old mid new : Files) → queue ≡ Some q → OwnChange q.name old mid → r.name ≡ q.name → OwnChange r.name mid new → DiskChanges queue old new
+flush_changed queue q r old mid new is first same second =
+    subst (λ (x : Option Queue). DiskChanges x old new) (sym is) (own_join q.name old mid new first (subst (λ (name : List ℕ). OwnChange name mid new) same second))
+
+-- a fault of either raised the count
+pub rose_before : (before mid now : ℕ) → Rose before mid → mid ≤ now → Rose before now
+rose_before before mid now rose up = omega arith
+
+pub rose_behind : (before mid now : ℕ) → before ≤ mid → Rose mid now → Rose before now
+rose_behind before mid now up rose = omega arith
+
+pub sync_rose : (mid now : ℕ) (answer : Sync) → answer ≡ sync.Failed → SyncFails mid now answer → Rose mid now
+sync_rose mid now answer is fails = subst (SyncFails mid now) is fails
+
+pub did_rose : (before mid : ℕ) (answer : Did) → answer ≡ did.Failed → DidFails before mid answer → Rose before mid
+did_rose before mid answer is fails = subst (DidFails before mid) is fails
+
+-- and a ring of which a part left is sound beside the queue that was saved
+pub sound_flushed : (was ring : Buffer Message) (n : ℕ) (queue : Option Queue) (lent : Lent) (q r s : Queue) (answer : Sync) → ring ≡ buffer (drop n was.items) was.capacity → queue ≡ Some q → Lengthens q r n → r.staged.count ≡ 0 → s ≡ after_save (unmarked r) answer → lent ≡ Nothing
+    → IsSound was.items was.capacity queue lent → IsSound ring.items ring.capacity (Some s) lent
+sound_flushed was ring n queue lent q r s answer left is longer none seen free i =
+    let before : IsQueue q = subst IsQueueWhere is i.queue in
+    subst (λ (b : Buffer Message). IsSound b.items b.capacity (Some s) lent) (sym left)
+    (record {
+      within = omega (arith, i.within, length-drop n was.items);
+      short = All-drop FitsLimit n was.items i.short;
+      queue = record { options = subst ForMessages (sym (ap (λ (x : Queue). x.options) seen ∙ longer.same.options)) before.options; none_staged = ap (λ (x : Queue). x.staged.count) seen ∙ none };
+      lent = subst (IsLent (drop n was.items) was.capacity (Some s)) (sym free) tt;
+    })
+
+pub faults_rise : (before mid now : ℕ) → before ≤ mid → mid ≤ now → before ≤ now
+faults_rise before mid now first second = omega arith

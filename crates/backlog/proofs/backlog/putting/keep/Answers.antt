@@ -1,7 +1,8 @@
-use Rattle.std.proofs.Common.{◌∙◌, ◌≤◌, ◌++◌, ◌∷◌, [], length, reverse, ap, arith, length-append}
+use Rattle.std.proofs.Common.{◌∙◌, ◌≤◌, ◌++◌, ◌∷◌, List, [], length, reverse, ap, refl, arith, length-append}
+use Rattle.std.proofs.lemmas.List.{reverse-reverse}
 use Rattle.v2_frame.specs.declared.message.Message.{Message}
 use Rattle.circular_buffer.specs.Buffer.{Buffer}
-use Rattle.backlog.proofs.Putting.{kept_more}
+use Rattle.backlog.proofs.Putting.{keep_begins, kept_all, kept_more, kept_none}
 use Rattle.backlog.proofs.backlog.putting.keep.Goals.{in-Some+in-Some-1, in-Some+in-None-1, in_default}
 use Rattle.backlog.proofs.backlog.putting.keep.Goals as goal
 
@@ -24,3 +25,16 @@ loop-preserved c =
       }
       | in_default w ↦ absurd (omega (arith, w.in_default.ensures.cases.0, before.left, c.loop.messages.ok.0, c.loop-test.true))
     ]
+
+pub loop-init : goal.loop-init
+loop-init c = record {
+  whole = ap (λ (xs : List Message). c.args.ring.now.items ++ reverse xs) c.reverse.ensures.items ∙ ap (λ (xs : List Message). c.args.ring.now.items ++ xs) (reverse-reverse c.args.messages.now.items);
+  capacity = refl;
+  left = keep_begins c.reverse.new.self.items c.reverse.new.self.len c.len-end.result c.reverse.new.self.ok.0 c.len-end.ensures;
+}
+
+pub returns : goal.returns
+returns c = record {
+  kept = kept_all c.loop.ring c.loop.messages.items c.args.ring.now.items c.args.messages.now.items c.args.ring.now.capacity c.loop.counter c.len-end.result c.loop.invariant.whole c.loop.invariant.capacity c.loop.invariant.left c.loop-test.false;
+  taken = kept_none c.loop.messages.items c.loop.counter c.len-end.result c.loop.invariant.left c.loop-test.false;
+}

@@ -1,8 +1,9 @@
-use Rattle.std.proofs.Common.{◌≡◌, length, take, sym, ap, refl, arith}
+use Rattle.std.proofs.Common.{ℕ, ◌≡◌, ◌≤◌, length, take, sym, ap, subst, refl, arith}
+use Rattle.std.proofs.Math.Nat.{le_of_eq}
 use Rattle.disk_queue.specs.QueueOptions.{QueueOptions}
 use Rattle.backlog.specs.Seen.{FitsLimit}
 use Rattle.backlog.proofs.Drawing.{ring_empty}
-use Rattle.backlog.proofs.Saving.{moving_more, moving_refused, not_stored, put_rose, moved, first_left, short_left, record_long, left_over, none_left}
+use Rattle.backlog.proofs.Saving.{moved_least, moving_more, moving_none, moving_refused, not_stored, put_rose, moved, first_left, short_left, record_long, left_over, none_left}
 use Rattle.backlog.proofs.backlog.saving.write_ring.Goals as goal
 
 pub returns-in-Fault : goal.returns-in-Fault
@@ -90,3 +91,24 @@ returns-in_default g c =
       faults = held.faults;
       cause = tt;
     }
+
+pub loop-init : goal.loop-init
+loop-init g c = record {
+  moving = moving_none g.F.Folder.tells_files c.args.ring.now c.args.queue.now (g.F.Folder.files c.args.folder.now) c.requires.none;
+  end = c.len-end.ensures.len;
+  scratch = refl;
+  faults = le_of_eq refl;
+}
+
+pub write_record-size-requires : goal.write_record-size-requires
+write_record-size-requires g c = record {
+  short = short_left c.args.ring.now.items c.loop.counter c.in-Some.message.now c.requires.short (first_left c.args.ring.now.items c.args.ring.now.capacity c.loop.ring c.loop.counter c.in-Some.message.now c.loop.invariant.moving.left (sym c.in-Some.ensures));
+  scratch = subst (λ (n : ℕ). 16777242 ≤ n) (sym c.loop.invariant.scratch) c.requires.scratch;
+}
+
+pub put-requires : goal.put-requires
+put-requires g c = record {
+  size = moved_least c.args.queue.now c.loop.queue c.loop.counter (length (take c.write_record-size.result c.write_record-size.new.scratch)) c.in-Some.message.now c.requires.options c.loop.invariant.moving.longer
+      (record_long c.write_record-size.new.scratch c.write_record-size.result c.in-Some.message.now c.write_record-size.ensures.size c.write_record-size.ensures.within);
+  none = c.loop.invariant.moving.none;
+}

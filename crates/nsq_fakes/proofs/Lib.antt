@@ -7,3 +7,5 @@ pub mod Shown
 pub mod FolderCalls
 pub mod Results
 pub mod Callers
+pub mod Conns
+pub mod Clocks

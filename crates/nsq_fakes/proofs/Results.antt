@@ -34,3 +34,8 @@ extended (Err error) old other new good is = absurd (false≢true good)
 pub not_extended : {T E X : Type 0} (outcome : Result T E) (old other new : List X) → true ≡ is_err outcome → new ≡ cond (is_ok outcome) (old ++ other) old → new ≡ old
 not_extended (Ok value) old other new bad is = absurd (false≢true (sym bad))
 not_extended (Err error) old other new bad is = is
+
+-- what holds anyway holds of a bad outcome
+pub on_err : {T E : Type 0} (outcome : Result T E) {P : Type 0} → P → OnErr outcome P
+on_err (Ok value) p = tt
+on_err (Err error) p = p

@@ -1,7 +1,8 @@
 -- What joins a writer, and what is delivered then.
-use Rattle.std.proofs.Common.{◌≡◌, ℕ, List, [], ◌++◌, take, drop, Bool, true, false, Option, None, Some, refl, sym, ◌∙◌, ap, subst, append-nil, append_assoc}
+use Rattle.std.proofs.Common.{◌≡◌, ◌-◌, ◌<◌, ◌≤◌, ◌==◌, ℕ, List, [], ◌++◌, length, take, drop, Bool, true, false, Option, None, Some, refl, sym, ◌∙◌, ap, subst, append-nil, append_assoc, length-drop, arith}
 use Rattle.std.specs.Io.KnownBytes.{Keeps, Appends}
-use Rattle.std.proofs.lemmas.List.{take-append-drop}
+use Rattle.std.proofs.lemmas.Bool.{eqb-true}
+use Rattle.std.proofs.lemmas.List.{nil_from_length, take-append-drop, take_rest}
 use Rattle.nsq_system.specs.Sendings.{SendsUpTo, SendsSome, IsDelivered}
 
 pub keeps_same : (a : Option (List ℕ)) → Keeps a a
@@ -64,6 +65,14 @@ sends_no_more a b c bytes rest s k = record {
 -- all are sent
 pub sends_all : (a b : Option (List ℕ)) (bytes : List ℕ) → SendsUpTo a b bytes [] → Appends a b bytes
 sends_all a b bytes s = subst (Appends a b) (sym (s.whole ∙ append-nil s.sent)) s.joined
+
+-- all are sent where none is left
+pub sends_whole : (a b : Option (List ℕ)) (bytes rest : List ℕ) → true ≡ (length rest == 0) → SendsUpTo a b bytes rest → Appends a b bytes
+sends_whole a b bytes rest none s = sends_all a b bytes (subst (λ (r : List ℕ). SendsUpTo a b bytes r) (nil_from_length rest (eqb-true (length rest) 0 (sym none))) s)
+
+-- fewer are left behind some that were sent
+pub shorter_rest : (rest : List ℕ) (n : ℕ) → 0 < n → n ≤ length rest → length (take (length rest - n) (drop n rest)) < length rest
+shorter_rest rest n some bound = omega (arith, some, bound, length-drop n rest, ap length (take_rest rest n))
 
 -- all that waited was sent
 pub flushed : (a b : Option (List ℕ)) (waiting taken : List ℕ) → Appends a b waiting → IsDelivered a waiting false taken → IsDelivered b [] false taken

@@ -69,3 +69,7 @@ asked_nothing names error (inr wanting) = λ _ _ other. absurd (other wanting)
 pub forgotten : {T : Type 0} (names : Names) (outcome : Result T Error) → IfErr outcome (λ error. error_kind error ≢ NotFound → names ≡ None) → IfErr outcome (AreForgotten names)
 forgotten names (Ok value) none = tt
 forgotten names (Err error) none = λ other _ _. none other
+
+-- nor is any one known then
+pub none_known : (names : Names) (name : List ℕ) → names ≡ None → Knows names name → ⊥
+none_known names name none here = subst (λ (now : Names). Knows now name) none here

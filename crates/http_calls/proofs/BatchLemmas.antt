@@ -1,5 +1,5 @@
 -- Lemmas on the messages of a body.
-use Rattle.std.proofs.Common.{◌≡◌, ℕ, zero, suc, ◌+◌, ◌<◌, List, [], ◌∷◌, ◌++◌, length, take, drop, Result, Ok, Err, refl, sym, ap, ◌∙◌, arith, append_assoc, append-nil}
+use Rattle.std.proofs.Common.{◌≡◌, ℕ, zero, suc, ◌+◌, ◌-◌, ◌<◌, ◌≤◌, List, [], ◌∷◌, ◌++◌, length, take, drop, Result, Ok, Err, refl, sym, ap, ◌∙◌, arith, append_assoc, append-nil, length-append, length-drop}
 use Rattle.std.proofs.lemmas.List.{drop-drop}
 use Rattle.http_calls.specs.declared.refusal.Refusal.{Refusal}
 use Rattle.http_calls.specs.declared.refusal.Refusal.TheVariants.{BadBody}
@@ -15,6 +15,24 @@ behind done (Err refusal) = Err refusal
 pub at_front : (found : Result (List (List ℕ)) Refusal) → found ≡ behind [] found
 at_front (Ok more) = refl
 at_front (Err refusal) = refl
+
+-- so all is found behind the front, while nothing was read
+pub first_found : (most count : ℕ) (bytes : List ℕ) (none : List (List ℕ)) → none ≡ [] → messages_in most count bytes ≡ behind none (messages_in most (count - length none) (drop 0 bytes))
+first_found most count bytes none is =
+    let whole : count ≡ count - length none = omega (arith, ap length is) in
+    at_front (messages_in most count bytes) ∙ ap (λ (x : List (List ℕ)). behind x (messages_in most count bytes)) (sym is) ∙ ap (λ (n : ℕ). behind none (messages_in most n (drop 0 bytes))) whole
+
+-- nothing was read yet
+pub from_start : (bytes : List ℕ) → 0 ≤ length bytes
+from_start bytes = omega arith
+
+-- none of none
+pub none_yet : (count : ℕ) (none : List (List ℕ)) → none ≡ [] → length none ≤ count
+none_yet count none is = omega (arith, ap length is)
+
+-- fewer are left behind one more
+pub fewer_left : (count done new : ℕ) → done < count → new ≡ done + 1 → count - new < count - done
+fewer_left count done new some more = omega (arith, some, more)
 
 refused : (most left : ℕ) (rest : List ℕ) (done : List (List ℕ)) (refusal : Refusal) → 0 < left → Err refusal ≡ message_size_in most rest → Err refusal ≡ behind done (messages_in most left rest)
 refused most zero rest done refusal some e = absurd (omega arith)
@@ -41,6 +59,21 @@ one_more most left later at size bytes rest message done l r s m =
     ∙ push done (take size (drop 4 rest)) (messages_in most later (drop (4 + size) rest))
     ∙ ap (λ (x : List ℕ). behind (done ++ x ∷ []) (messages_in most later (drop (4 + size) rest))) text
     ∙ ap (λ (x : List ℕ). behind (done ++ message ∷ []) (messages_in most later x)) next
+
+-- the round that reads it
+pub one_read : (most count at size : ℕ) (bytes rest message : List ℕ) (done new : List (List ℕ)) → rest ≡ drop at bytes → 4 + size ≤ length rest → Ok size ≡ message_size_in most rest → message ≡ take (at + 4 + size - (at + 4)) (drop (at + 4) bytes)
+    → new ≡ done ++ message ∷ [] → length done < count → messages_in most count bytes ≡ behind done (messages_in most (count - length done) (drop at bytes))
+    → (at + (4 + size) ≤ length bytes) × (length new ≤ count) × (messages_in most count bytes ≡ behind new (messages_in most (count - length new) (drop (at + (4 + size)) bytes)))
+one_read most count at size bytes rest message done new slice whole value text pushed some found =
+    let longer : length new ≡ length done + 1 = ap length pushed ∙ length-append done (message ∷ []) in
+    let short : at + 4 + size - (at + 4) ≡ size = omega arith in
+    let left : count - length done ≡ count - length new + 1 = omega (arith, longer, some) in (
+      omega (arith, whole, ap length slice, length-drop at bytes),
+      omega (arith, longer, some),
+      found
+          ∙ one_more most (count - length done) (count - length new) at size bytes rest message done left slice value (text ∙ ap (λ (n : ℕ). take n (drop (at + 4) bytes)) short)
+          ∙ ap (λ (x : List (List ℕ)). behind x (messages_in most (count - length new) (drop (at + (4 + size)) bytes))) (sym pushed),
+    )
 
 nothing_left : (most left : ℕ) (rest : List ℕ) (done : List (List ℕ)) → left ≡ 0 → length rest ≡ 0 → Ok done ≡ behind done (messages_in most left rest)
 nothing_left most zero [] done l e = ap Ok (sym (append-nil done))

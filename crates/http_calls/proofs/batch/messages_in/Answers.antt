@@ -1,8 +1,28 @@
-use Rattle.std.proofs.Common.{◌≡◌, ℕ, ◌+◌, ◌-◌, ◌≤◌, List, [], ◌∷◌, ◌++◌, length, take, drop, sym, ap, ◌∙◌, arith, length-drop, length-append}
+use Rattle.std.proofs.Common.{◌≡◌, ℕ, ◌+◌, ◌-◌, ◌<◌, [], ◌∷◌, length, drop, sym, ap, subst, ◌∙◌, arith, length-drop, length-append}
+use Rattle.std.proofs.lemmas.Result.{IfOk-from_err}
 use Rattle.v2_frame.proofs.PlaceLemmas.{behind_place}
 use Rattle.http_calls.specs.Messages.{messages_in}
-use Rattle.http_calls.proofs.BatchLemmas.{behind, refused_here, one_more, all_read, left_over}
+use Rattle.http_calls.proofs.BatchLemmas.{behind, first_found, from_start, none_yet, fewer_left, refused_here, one_read, all_read, left_over}
 use Rattle.http_calls.proofs.batch.messages_in.Goals as goal
+
+pub messages-init : goal.messages-init
+messages-init c = record {
+  within = from_start c.args.bytes.now;
+  some = none_yet c.args.count c.new-messages.result c.new-messages.ensures;
+  found = first_found c.args.most c.args.count c.args.bytes.now c.new-messages.result c.new-messages.ensures;
+}
+
+pub messages-smaller : goal.messages-smaller
+messages-smaller c =
+    let done = c.messages.messages in
+    let longer : length c.push.new.self ≡ length done + 1 = ap length c.in_ok-push.ensures.ok ∙ length-append done (c.in_ok-message.message ∷ []) in
+    fewer_left c.args.count (length done) (length c.push.new.self) (subst (λ (n : ℕ). n < c.args.count) c.count.ensures c.messages-test.true) longer
+
+pub returns-in_err-message : goal.returns-in_err-message
+returns-in_err-message c = IfOk-from_err c.from_residual.result _ c.from_residual.ensures.0
+
+pub returns-in_err-push : goal.returns-in_err-push
+returns-in_err-push c = IfOk-from_err c.from_residual-in_err-push.result _ c.from_residual-in_err-push.ensures.0
 
 pub returns-in-Err : goal.returns-in-Err
 returns-in-Err c =
@@ -13,25 +33,9 @@ returns-in-Err c =
 
 pub messages-preserved : goal.messages-preserved
 messages-preserved c =
-    let i = c.messages.invariant in
-    let at = c.messages.at in
-    let size = c.in-Ok.size in
-    let bytes = c.args.bytes.now in
-    let done = c.messages.messages in
-    let message = c.in_ok-message.message in
-    let slice = behind_place bytes at in
-    let pushed : c.push.new.self ≡ done ++ message ∷ [] = c.in_ok-push.ensures.ok in
-    let longer : length c.push.new.self ≡ length done + 1 = ap length pushed ∙ length-append done (message ∷ []) in
-    let there : at + (4 + size) ≤ length bytes = omega (arith, c.in-Ok.ensures.whole, ap length slice, length-drop at bytes) in
-    let text : message ≡ take size (drop (at + 4) bytes) = c.in_ok-message.ensures ∙ ap (λ (n : ℕ). take n (drop (at + 4) bytes)) (omega arith) in
-    record {
-      within = there;
-      some = omega (arith, longer, i.some);
-      found =
-          i.found
-          ∙ one_more c.args.most (c.args.count - length done) (c.args.count - length c.push.new.self) at size bytes _ message done (omega (arith, longer, i.some)) slice c.in-Ok.ensures.value text
-          ∙ ap (λ (x : List (List ℕ)). behind x (messages_in c.args.most (c.args.count - length c.push.new.self) (drop (at + (4 + size)) bytes))) (sym pushed);
-    }
+    let read = one_read c.args.most c.args.count c.messages.at c.in-Ok.size c.args.bytes.now _ c.in_ok-message.message c.messages.messages c.push.new.self (behind_place c.args.bytes.now c.messages.at) c.in-Ok.ensures.whole c.in-Ok.ensures.value c.in_ok-message.ensures c.in_ok-push.ensures.ok
+    (subst (λ (n : ℕ). n < c.args.count) c.count.ensures c.messages-test.true) c.messages.invariant.found in
+    record { within = read.0; some = read.1; found = read.2 }
 
 pub returns-then-at-bytes : goal.returns-then-at-bytes
 returns-then-at-bytes c =

@@ -12,6 +12,7 @@ use Rattle.broker_history.specs.Step.{IsIdle, OfClient}
 use Rattle.floor_rooms.specs.declared.hall.Hall.{Hall}
 use Rattle.floor_rooms.specs.Rooms.{client_in}
 use Rattle.floor_rooms.specs.Standing.{HoldsFor}
+use Rattle.desk.specs.Answers.{EndsAtStop}
 use Rattle.desk.specs.declared.call.Call.{Call}
 use Rattle.desk.specs.declared.call.Call.TheVariants as call
 use Rattle.broker_history.specs.declared.entry.Act.{Act}
@@ -20,7 +21,7 @@ use Rattle.floor_acts.specs.declared.plan.Plan.{Plan}
 use Rattle.floor_acts.specs.declared.plan.Plan.TheVariants as leads
 use Rattle.floor_acts.specs.declared.due.NextDue.TheVariants as due
 use Rattle.floor_acts.specs.Dues.{IsDueTo}
-use Rattle.floor_acts.specs.Plans.{IsAllowedPlan, IsCommandAct, OfNumber, is_strange}
+use Rattle.floor_acts.specs.Plans.{IsAllowedPlan, IsCommandAct, IsPlanOf, IsShortPlan, KnowsPlan, OfNumber, Serves, is_strange}
 use Rattle.floor_acts.specs.Replies.{reply_in}
 use Rattle.std.specs.Prelude.{MatchBool, Option}
 use Rattle.v2_frame.specs.declared.command.Command.{Command}
@@ -62,11 +63,42 @@ not_strange : (there : Bool) → not there ≡ false → there ≡ true
 not_strange true e = refl
 not_strange false e = absurd (false≢true (sym e))
 
-pub gone_plan : (h : Hall) (n : ℕ) (c : Call) (p : Plan) → c ≡ call.Gone → p ≡ leads.Act (record { act = act.Gone; said = None }) → is_strange c (is_some (client_in h.clients.items n)) ≡ false → IsAllowedPlan h n c p
-gone_plan h n c p is by fits =
-    let there : is_some (client_in h.clients.items n) ≡ true = not_strange (is_some (client_in h.clients.items n)) (subst (λ (d : Call). is_strange d (is_some (client_in h.clients.items n)) ≡ false) is fits) in
-    subst (λ (q : Plan). IsAllowedPlan h n c q) (sym by)
-    (subst (λ (d : Call). IsAllowedPlan h n d (leads.Act (record { act = act.Gone; said = None }))) (sym is) (λ files s holds may. gone h n there files s holds))
+-- who doesn't call strangely, of a call that a client alone makes, is there
+pub there_at : (h : Hall) (n : ℕ) (c d : Call) → c ≡ d → is_strange d (is_some (client_in h.clients.items n)) ≡ not (is_some (client_in h.clients.items n)) → Serves h n c → is_some (client_in h.clients.items n) ≡ true
+there_at h n c d is own serves = not_strange (is_some (client_in h.clients.items n)) (sym own ∙ subst (λ (e : Call). is_strange e (is_some (client_in h.clients.items n)) ≡ false) is serves.fits)
+
+-- no Stop keeps the call from an act
+pub running_at : (h : Hall) (n : ℕ) (c d : Call) → c ≡ d → EndsAtStop d → Serves h n c → h.stopped ≡ false
+running_at h n c d is ends serves = serves.running (subst (λ (e : Call). EndsAtStop e) (sym is) ends)
+
+-- all that is said of what a call leads to
+pub record Leads (h : Hall) (n : ℕ) (c : Call) (p : Plan) : Type 0 where
+  pub shape : IsPlanOf h n c p
+  pub stands : IsAllowedPlan h n c p
+  pub knows : KnowsPlan h.options p
+  pub short : IsShortPlan p
+
+leads_at : (h : Hall) (n : ℕ) (c d : Call) (p q : Plan) → c ≡ d → p ≡ q → Leads h n d q → Leads h n c p
+leads_at h n c d p q is by all = subst (λ (r : Plan). Leads h n c r) (sym by) (subst (λ (e : Call). Leads h n e q) (sym is) all)
+
+pub begin_leads : (h : Hall) (n : ℕ) (c : Call) (p : Plan) → c ≡ call.Begin → p ≡ leads.Act (record { act = act.Began; said = None }) → Leads h n c p
+begin_leads h n c p is by =
+    leads_at h n c call.Begin p (leads.Act (record { act = act.Began; said = None })) is by (record { shape = refl; stands = λ files s holds may. may; knows = refl; short = tt })
+
+pub gone_leads : (h : Hall) (n : ℕ) (c : Call) (p : Plan) → c ≡ call.Gone → p ≡ leads.Act (record { act = act.Gone; said = None }) → Serves h n c → Leads h n c p
+gone_leads h n c p is by serves =
+    let there : is_some (client_in h.clients.items n) ≡ true = there_at h n c call.Gone is refl serves in
+    leads_at h n c call.Gone p (leads.Act (record { act = act.Gone; said = None })) is by (record { shape = refl; stands = λ files s holds may. gone h n there files s holds; knows = refl; short = tt })
+
+pub tick_leads : (h : Hall) (n : ℕ) (c : Call) (p : Plan) → c ≡ call.Tick → p ≡ leads.Act (record { act = act.Ticked; said = None }) → Serves h n c → Leads h n c p
+tick_leads h n c p is by serves =
+    let running : h.stopped ≡ false = running_at h n c call.Tick is tt serves in
+    leads_at h n c call.Tick p (leads.Act (record { act = act.Ticked; said = None })) is by (record { shape = refl; stands = λ files s holds may. record { daemon = refl; running = holds.stands.stopped ∙ running }; knows = refl; short = tt })
+
+pub stop_leads : (h : Hall) (n : ℕ) (c : Call) (p : Plan) → c ≡ call.Stop → p ≡ leads.Act (record { act = act.Stop; said = None }) → Serves h n c → Leads h n c p
+stop_leads h n c p is by serves =
+    let running : h.stopped ≡ false = running_at h n c call.Stop is tt serves in
+    leads_at h n c call.Stop p (leads.Act (record { act = act.Stop; said = None })) is by (record { shape = refl; stands = λ files s holds may. holds.stands.stopped ∙ running; knows = refl; short = tt })
 
 -- an act by whether the client's channel was deleted
 by_lost : (h : Hall) (c : Client) (command : Command) (a : Act) (b : Bool) → b ≡ true → a ≡ act.Dropped → MatchBool b (a ≡ act.Dropped) (a ≡ act.Did command (reply_in h c command))

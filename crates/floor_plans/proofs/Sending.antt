@@ -1,6 +1,6 @@
 -- What a client may be sent, by what a hall has.
 use Rattle.std.proofs.Common.{◌≡◌, ◌⊎◌, inl, inr, ℕ, Bool, true, false, not, ◌&&◌, List, Option, Some, None, refl, sym, ap, subst, ◌∙◌}
-use Rattle.std.specs.Prelude.{option_and_then}
+use Rattle.std.specs.Prelude.{HoldsAt, option_and_then}
 use Rattle.std.proofs.lemmas.Bool.{false≢true}
 use Rattle.nsq_outside.specs.Files.{Files}
 use Rattle.broker_history.specs.State.{Client, Channel, Route, State, channel_at, client_channel, is_lost, is_subscribed}
@@ -10,8 +10,10 @@ use Rattle.floor_clients.specs.Seen.{held_channel}
 use Rattle.floor_laws.proofs.Pairs.{IfBoth}
 use Rattle.floor_rooms.specs.declared.room.Room.{Room}
 use Rattle.floor_rooms.specs.declared.hall.Hall.{Hall}
-use Rattle.floor_rooms.specs.Rooms.{room_in, stall_at, stall_in}
+use Rattle.floor_rooms.specs.Places.{IsThere}
+use Rattle.floor_rooms.specs.Rooms.{channel_name, room_in, stall_at, stall_in, topic_name}
 use Rattle.floor_rooms.specs.Standing.{HoldsFor, IsStallOf}
+use Rattle.floor_acts.specs.Dues.{GetsFrom}
 use Rattle.floor_acts.specs.Replies.{stall_of, stall_on}
 use Rattle.floor_acts.proofs.Found.{found_channel, held_route}
 
@@ -56,3 +58,8 @@ none_of h c topic channel held none = ap (stall_on h.rooms.items) (sym held) ∙
 
 pub no_room : (rooms : List Room) (topic channel : List ℕ) → room_in rooms topic ≡ None → None ≡ stall_at rooms topic channel
 no_room rooms topic channel none = sym (ap (option_and_then (λ (r : Room). stall_in r.stalls.items channel)) none)
+
+-- a client gets messages of its channel, which is there
+pub gets_from : (h : Hall) (c : Client) (topic channel : List ℕ) (i j : ℕ) → is_lost c.phase ≡ false → is_subscribed c.phase ≡ true → Some (record { topic = topic; channel = channel }) ≡ held_channel c.phase c.route
+    → IsThere topic_name h.rooms.items topic i → HoldsAt (λ r. IsThere channel_name r.stalls.items channel j) h.rooms.items i → GetsFrom h c i j
+gets_from h c topic channel i j lost subscribed held room stall = record { route = record { topic = topic; channel = channel }; on = sym (held ∙ held_route c.phase c.route lost); subscribed = subscribed; room = room; stall = stall }

@@ -1,5 +1,6 @@
 -- Lists that are written one behind the other.
-use Rattle.std.proofs.Common.{◌≡◌, ℕ, ◌≤◌, ◌++◌, List, [], ◌∷◌, fold, flat_map, take, take_all, length, append_assoc, append-nil, refl, sym, ap, ◌∙◌}
+use Rattle.std.proofs.Common.{◌≡◌, ℕ, ◌+◌, ◌<◌, ◌≤◌, ◌++◌, List, [], ◌∷◌, fold, flat_map, take, take_all, length, get_or, append_assoc, append-nil, refl, sym, ap, ◌∙◌}
+use Rattle.std.proofs.lemmas.List.{take_more, flat_map_more}
 use Rattle.std.specs.Str.{IsUtf8}
 use Rattle.std.specs.Str.Lossy.{utf8_lossy}
 use Rattle.json.specs.Token.{Token, key, begin_array, end_array}
@@ -30,6 +31,11 @@ all_appended old first (part ∷ parts) = ap (λ all. appended all parts) (appen
 -- of a list nothing is written yet
 pub none_yet : {X : Type 0} (tokens : X → List Token) (items : List X) (old : List Token) → old ≡ old ++ flat_map tokens (take 0 items)
 none_yet tokens items old = sym (append-nil old)
+
+-- one more item is written
+pub one_written : {X : Type 0} (tokens : X → List Token) (items : List X) (i : ℕ) (x : X) (old mid new : List Token) → x ≡ get_or items i x → i < length items → mid ≡ old ++ flat_map tokens (take i items) → new ≡ mid ++ tokens x → new ≡ old ++ flat_map tokens (take (i + 1) items)
+one_written {X} tokens items i x old mid new is within so more =
+    more ∙ ap (λ (m : List Token). m ++ tokens x) so ∙ flat_map_more tokens old (take i items) x ∙ ap (λ (y : X). old ++ flat_map tokens (take i items ++ y ∷ [])) is ∙ ap (λ (xs : List X). old ++ flat_map tokens xs) (sym (take_more items i x within))
 
 -- a list whose items are all written is whole
 pub list_whole : {X : Type 0} (tokens : X → List Token) (name : List ℕ) (items : List X) (i : ℕ) (old named begun all : List Token)

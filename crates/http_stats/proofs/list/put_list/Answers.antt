@@ -1,7 +1,7 @@
 use Rattle.std.proofs.Common.{◌≡◌, ◌++◌, [], ◌∷◌, List, OnOk, arith, refl, subst, ◌∙◌}
 use Rattle.json.specs.Token.{Token, end_array}
 use Rattle.http_stats.specs.Tokens.{list_tokens}
-use Rattle.http_stats.proofs.Appending.{none_yet, list_whole}
+use Rattle.http_stats.proofs.Appending.{none_yet, one_written, list_whole}
 use Rattle.http_stats.proofs.list.put_list.Goals as goal
 
 pub returns-in_err-key-clause-before : goal.returns-in_err-key-clause-before
@@ -12,6 +12,12 @@ returns-in_err-begin_array-clause-before g c = c.begin_array.ensures.room.0 ∙ 
 
 pub items-init : goal.items-init
 items-init g c = record { written = none_yet g.T.Item.tokens c.args.items.now c.begin_array.new.self.tokens; before = refl }
+
+pub items-preserved : goal.items-preserved
+items-preserved g c = record {
+  written = one_written g.T.Item.tokens c.args.items.now c.items.item-index c.item-item.result c.begin_array.new.self.tokens c.items.page.tokens c.put.new.page.tokens c.item-item.is c.items-test.true c.items.invariant.written c.in_ok-put.ensures.ok;
+  before = c.put.ensures.before ∙ c.items.invariant.before;
+}
 
 pub returns-in_err-put-clause-before : goal.returns-in_err-put-clause-before
 returns-in_err-put-clause-before g c = c.put.ensures.before ∙ c.items.invariant.before ∙ c.begin_array.ensures.room.0 ∙ c.key.ensures.room.0

@@ -9,16 +9,16 @@ use Rattle.v2_frame.specs.declared.frame.Frame.{Frame}
 use Rattle.broker_history.specs.declared.ask.Ask.{Ask}
 use Rattle.broker_history.specs.declared.entry.Entry.{Entry}
 use Rattle.broker_history.specs.Entries.{History, has_stop, is_stop, own}
-use Rattle.desk.specs.declared.call.Call.{Call}
-use Rattle.desk.specs.declared.call.Call.TheVariants as call
-use Rattle.desk.specs.declared.turned.Turned.{Turned}
-use Rattle.desk.specs.declared.turned.Turned.TheVariants as turned
-use Rattle.desk.specs.Answers.{Adds, AddsNothing, Answers, AnswersCommand, AnswersNext, EndsAtStop, Grows, IsAnswerTo, StopsSeen}
-use Rattle.desk.specs.Calls.{MayCall, has_began, is_over}
+use Rattle.broker_history.specs.declared.call.Call.{Call}
+use Rattle.broker_history.specs.declared.call.Call.TheVariants as call
+use Rattle.broker_history.specs.declared.turned.Turned.{Turned}
+use Rattle.broker_history.specs.declared.turned.Turned.TheVariants as turned
+use Rattle.broker_history.specs.Answers.{Adds, AddsNothing, Answers, AnswersCommand, AnswersNext, EndsAtStop, Grows, IsAnswerTo, StopsSeen}
+use Rattle.broker_history.specs.Calls.{MayCall, has_began, is_over}
 use Rattle.floor_rooms.specs.declared.hall.Hall.{Hall}
 use Rattle.floor_serving.specs.Plans.{is_strange}
 use Rattle.floor_serving.specs.Moves.{Sight}
-use Rattle.turn_laws.proofs.Laying.{laid_adds}
+use Rattle.floor_laws.proofs.Laying.{laid_adds}
 use Rattle.floor_serving.specs.Acting.{ActsBy, ClientsBy}
 use Rattle.floor_serving.specs.Scenes.{IsTied, Scene, is_here}
 use Rattle.floor_serving.specs.Turning.{IsAnswered, IsServed, IsStopped, IsTurnedAway, TakesTurn}

@@ -7,9 +7,9 @@ use Rattle.nsq_outside.specs.Files.{Files}
 use Rattle.nsq_base.specs.declared.options.Options.{Options}
 use Rattle.broker_history.specs.State.{Client, State}
 use Rattle.broker_history.specs.Entries.{History, has_stop, own}
-use Rattle.desk.specs.declared.call.Call.{Call}
-use Rattle.desk.specs.declared.turned.Turned.{Turned}
-use Rattle.desk.specs.Calls.{MayCall, is_over}
+use Rattle.broker_history.specs.declared.call.Call.{Call}
+use Rattle.broker_history.specs.declared.turned.Turned.{Turned}
+use Rattle.broker_history.specs.Calls.{MayCall, is_over}
 use Rattle.floor_rooms.specs.declared.hall.Hall.{Hall}
 use Rattle.floor_rooms.specs.Made.{IsEmptyHall}
 use Rattle.floor_rooms.specs.Rooms.{client_in}

@@ -8,3 +8,14 @@ pub use Rattle.floor_serving.proofs.Leading
 pub use Rattle.floor_serving.proofs.KeptNames
 pub use Rattle.floor_files.proofs.Parting
 pub use Rattle.floor_files.proofs.Found
+pub mod Orders
+pub mod Finding
+pub mod Decoding
+pub mod Joining
+pub mod Idling
+pub mod PathEnding
+pub mod Texts
+pub mod Apart
+pub mod Named
+pub mod Leaving
+pub mod PathStoring

@@ -4,13 +4,13 @@ use Rattle.std.specs.Prelude.{IsTrue}
 use Rattle.nsq_outside.specs.declared.journal.End.{End}
 use Rattle.broker_history.specs.declared.entry.Entry.{Entry}
 use Rattle.broker_history.specs.Entries.{History, is_tick}
-use Rattle.desk.specs.Answers.{TicksNoted, ticks_of}
-use Rattle.desk.specs.declared.call.Call.{Call}
-use Rattle.desk.specs.declared.call.Call.TheVariants as call
-use Rattle.desk.specs.declared.turned.Turned.{Turned}
-use Rattle.desk.specs.declared.turned.Turned.TheVariants as turned
-use Rattle.turn_laws.specs.Laid.{AreActsFor, IsLaid}
-use Rattle.turn_laws.proofs.Ticking.{ticks-append}
+use Rattle.broker_history.specs.Answers.{TicksNoted, ticks_of}
+use Rattle.broker_history.specs.declared.call.Call.{Call}
+use Rattle.broker_history.specs.declared.call.Call.TheVariants as call
+use Rattle.broker_history.specs.declared.turned.Turned.{Turned}
+use Rattle.broker_history.specs.declared.turned.Turned.TheVariants as turned
+use Rattle.floor_laws.specs.Laid.{AreActsFor, IsLaid}
+use Rattle.floor_laws.proofs.Ticking.{ticks-append}
 use Rattle.floor_serving.specs.Scenes.{Scene}
 use Rattle.floor_serving.specs.Turns.{IsTurn}
 

@@ -6,3 +6,7 @@ pub use Rattle.floor_serving.specs.Scenes
 pub use Rattle.floor_serving.specs.Leads
 pub use Rattle.floor_serving.specs.Flushing
 pub use Rattle.floor_files.specs.Opened
+pub mod Adding
+pub mod Opening
+pub mod Closings
+pub use Rattle.floor_rooms.specs.Standing

@@ -4,7 +4,7 @@ ghost use Rattle.queue_opening.specs.Refusals.{OpenFails};
 ghost use Rattle.nsq_outside.specs.Files.{Files};
 ghost use Rattle.backlog.specs.Answers.{FlushFails};
 ghost use Rattle.broker_history.specs.State.{State};
-ghost use Rattle.desk.specs.Calls.{CanCall};
+ghost use Rattle.broker_history.specs.Calls.{CanCall};
 ghost use Rattle.floor_rooms.specs.Changes.{OnlyQueueFiles};
 ghost use Rattle.floor_rooms.specs.Kept.{hall_kept};
 ghost use Rattle.floor_rooms.specs.Rooms.{room_in};
@@ -16,8 +16,7 @@ ghost use Rattle.floor_serving.specs.Turning.{TakesTurn};
 ghost use Rattle.floor_files.specs.Opened.{AreApart, BadStays, FindsBack, FindsThem, ListsStay, NoneIsBad, OnlyTheirFiles, OnlyTopicFiles, OpensRoom, OpensTo, RefusesTopic};
 
 use backlog::Flushed;
-use broker_history::Entry;
-use desk::{Call, Turned};
+use broker_history::{Call, Entry, Turned};
 use floor_files::open_topic;
 use floor_rooms::Hall;
 use floor_serving::{flush_all, turn_at};

@@ -1,15 +1,14 @@
 ghost use Rattle.std.specs.Prelude.{◌≡◌, ◌≢◌, ◌<◌, IsTrue, false};
 ghost use Rattle.broker_history.specs.Entries.{own};
-ghost use Rattle.desk.specs.Answers.{Adds, Grows, IsAnswerTo, IsShortAnswer, StopsSeen};
-ghost use Rattle.desk.specs.Calls.{CanCall, MayCall};
-ghost use Rattle.desk.specs.declared.turned.Turned.TheVariants.{Strange};
+ghost use Rattle.broker_history.specs.Answers.{Adds, Grows, IsAnswerTo, IsShortAnswer, StopsSeen};
+ghost use Rattle.broker_history.specs.Calls.{CanCall, MayCall};
+ghost use Rattle.broker_history.specs.declared.turned.Turned.TheVariants.{Strange};
 ghost use Rattle.floor_serving.specs.Timely.{TicksTimely};
 ghost use Rattle.floor_serving.specs.Turns.{IsTurn};
 ghost use Rattle.broker_floor.specs.Floors.{faults_of, flushed_of, hall_of, notes_of, scene_of};
 
 use crate::Floor;
-use broker_history::Entry;
-use desk::{Call, Turned, Turner};
+use broker_history::{Call, Entry, Turned, Turner};
 use nsq_outside::{Clock, Folder, Journal};
 use std::alloc::Global;
 use std::marker::Brand;

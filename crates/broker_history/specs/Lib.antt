@@ -17,3 +17,6 @@ pub mod Left
 pub mod Copies
 pub mod Laws
 pub mod Scripts
+pub mod Calls
+pub mod Answers
+pub mod Composed

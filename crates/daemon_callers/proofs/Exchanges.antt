@@ -8,8 +8,8 @@ use Rattle.broker_history.specs.declared.entry.Entry.{Entry}
 use Rattle.broker_history.specs.Entries.{History, is_own, is_stop, own}
 use Rattle.broker_history.specs.Talk.{bytes_of}
 use Rattle.broker_history.proofs.Own.{own-append}
-use Rattle.http_api.specs.declared.ended.EndedHttp.{EndedHttp}
-use Rattle.http_api.specs.Exchange.{HasCause, IsExchange, IsExchangeIn, IsWarnedHttp, before_stop, is_listed}
+use Rattle.daemon_callers.specs.declared.http.ended.EndedHttp.{EndedHttp}
+use Rattle.daemon_callers.specs.Exchange.{HasCause, IsExchange, IsExchangeIn, IsWarnedHttp, before_stop, is_listed}
 
 pub own_stays : (k : ℕ) (h es : History) → own k es ≡ [] → own k (h ++ es) ≡ own k h
 own_stays k h es none = own-append k h es ∙ ap (λ x. own k h ++ x) none ∙ append-nil (own k h)

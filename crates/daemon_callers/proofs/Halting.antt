@@ -12,10 +12,10 @@ use Rattle.broker_history.specs.declared.ended.Ended.TheVariants as ended
 use Rattle.broker_history.specs.declared.entry.Entry.{Entry}
 use Rattle.broker_history.specs.Entries.{History, has_stop, is_stop, own, stops_of}
 use Rattle.broker_history.specs.Talk.{Going, Round, Sending, Reading, Doing, began, sent, rested, spent, nothing, read, greet, did, done, ClosesBy, ClosesDoing, ClosesSending, IsClosed, IsOpen, IsRest, IsSending, IsTalk, Leaves, Reaches, WithGone, place_of}
-use Rattle.desk.specs.Answers.{Adds, Joins, StopsSeen}
-use Rattle.desk.specs.declared.call.Call.TheVariants as call
-use Rattle.desk.specs.declared.turned.Turned.{Turned}
-use Rattle.desk.specs.declared.turned.Turned.TheVariants as turned
+use Rattle.broker_history.specs.Answers.{Adds, Joins, StopsSeen}
+use Rattle.broker_history.specs.declared.call.Call.TheVariants as call
+use Rattle.broker_history.specs.declared.turned.Turned.{Turned}
+use Rattle.broker_history.specs.declared.turned.Turned.TheVariants as turned
 use Rattle.daemon_callers.specs.Stops.{says_stopping, AddsStop}
 use Rattle.daemon_callers.specs.Served.{Views, IsServedTcp}
 use Rattle.daemon_callers.proofs.Others.{stops-append}

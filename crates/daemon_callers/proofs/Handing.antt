@@ -12,9 +12,9 @@ use Rattle.broker_history.specs.declared.ended.Ended.TheVariants.{EndOfInput, Cl
 use Rattle.broker_history.specs.Entries.{History, own}
 use Rattle.broker_history.specs.Talk.{Allows}
 use Rattle.broker_history.proofs.Own.{talk_stays}
-use Rattle.desk.specs.Calls.{IsHere}
-use Rattle.turn_laws.specs.Laws.{IsOf}
-use Rattle.v2_session.specs.Sessions.{HasCause}
+use Rattle.broker_history.specs.Calls.{IsHere}
+use Rattle.floor_laws.specs.Laws.{IsOf}
+use Rattle.daemon_callers.specs.Sessions.{HasCause}
 use Rattle.daemon_callers.specs.Served.{Views, IsServed, AreServed, HasServed, OnlyCallersChange, limits_of}
 use Rattle.daemon_callers.proofs.Exchanges.{exchange_stays, own_stays}
 use Rattle.daemon_callers.proofs.Others.{none_of}

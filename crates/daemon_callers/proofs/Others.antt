@@ -10,8 +10,8 @@ use Rattle.broker_history.specs.declared.entry.Act.TheVariants.{Stop}
 use Rattle.broker_history.specs.declared.entry.Entry.{Entry}
 use Rattle.broker_history.specs.Entries.{History, is_common, is_stop, own, stops_of}
 use Rattle.broker_history.proofs.Own.{own-append, common_none}
-use Rattle.turn_laws.specs.Laws.{IsOf}
-use Rattle.turn_laws.proofs.Laying.{all_both, all_so}
+use Rattle.floor_laws.specs.Laws.{IsOf}
+use Rattle.floor_laws.proofs.Laying.{all_both, all_so}
 use Rattle.daemon_callers.specs.Served.{NamesUpTo, UpTo}
 
 -- an equation of numbers that is tested false

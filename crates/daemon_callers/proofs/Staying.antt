@@ -2,12 +2,12 @@
 use Rattle.std.proofs.Common.{ℕ, ◌<◌, [], inl, inr, refl, subst, sym, append-nil}
 use Rattle.nsq_outside.specs.Causes.{CountsFault}
 use Rattle.broker_history.specs.Entries.{History}
-use Rattle.desk.specs.Answers.{Adds, AddsNothing, Grows, IsAnswerTo, stays_for_memory}
-use Rattle.desk.specs.Calls.{IsHere, MayCall}
-use Rattle.desk.specs.declared.call.Call.{Call}
-use Rattle.desk.specs.declared.call.Call.TheVariants as call
-use Rattle.desk.specs.declared.turned.Turned.{Turned}
-use Rattle.desk.specs.declared.turned.Turned.TheVariants as turned
+use Rattle.broker_history.specs.Answers.{Adds, AddsNothing, Grows, IsAnswerTo, stays_for_memory}
+use Rattle.broker_history.specs.Calls.{IsHere, MayCall}
+use Rattle.broker_history.specs.declared.call.Call.{Call}
+use Rattle.broker_history.specs.declared.call.Call.TheVariants as call
+use Rattle.broker_history.specs.declared.turned.Turned.{Turned}
+use Rattle.broker_history.specs.declared.turned.Turned.TheVariants as turned
 
 -- where a turn is the first for whose going memory was wanting, its connection is still there
 pub stays_behind : (number : ℕ) (own own' : History) (c : Call) (t : Turned) (wanted wanted' : ℕ) → (0 < wanted → ⊥) → MayCall number own c → Adds number own own' c t → CountsFault wanted wanted' (stays_for_memory c t) → 0 < wanted' → IsHere own'

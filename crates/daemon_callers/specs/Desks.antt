@@ -1,7 +1,7 @@
 -- Where a caller is for whose going memory was wanting.
 use Rattle.std.specs.Prelude.{ℕ, ◌<◌, Bool, IsTrue}
 use Rattle.broker_history.specs.Entries.{History, own}
-use Rattle.desk.specs.Calls.{IsHere}
+use Rattle.broker_history.specs.Calls.{IsHere}
 
 -- where memory was wanting for noting that the connection of this number is gone, it began and is still there
 abbrev pub StaysThere : (tells : Bool) → (number wanted : ℕ) → History → Type 0

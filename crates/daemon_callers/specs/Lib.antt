@@ -1,3 +1,10 @@
+pub mod Written
+pub mod Noted
+pub mod Responses
+pub mod Comings
+pub mod Exchange
+pub mod Outputs
+pub mod Sessions
 pub mod Desks
 pub mod Served
 pub mod Stops

@@ -12,10 +12,10 @@ use Rattle.broker_history.specs.declared.ended.Ended.{Ended}
 use Rattle.broker_history.specs.declared.entry.Entry.{Entry}
 use Rattle.broker_history.specs.Entries.{History, IsCommon, own}
 use Rattle.broker_history.specs.Talk.{Allows, IsTalkIn, bytes_of}
-use Rattle.desk.specs.Calls.{IsHere}
-use Rattle.v2_session.specs.Sessions.{IsWarned}
-use Rattle.http_api.specs.declared.ended.EndedHttp.{EndedHttp}
-use Rattle.http_api.specs.Exchange.{HasCause, IsExchangeIn, IsWarnedHttp}
+use Rattle.broker_history.specs.Calls.{IsHere}
+use Rattle.daemon_callers.specs.Sessions.{IsWarned}
+use Rattle.daemon_callers.specs.declared.http.ended.EndedHttp.{EndedHttp}
+use Rattle.daemon_callers.specs.Exchange.{HasCause, IsExchangeIn, IsWarnedHttp}
 
 -- what is seen of a connection: the pieces read, the bytes still to come, whether it ended, the bytes written, and how often a read and a write failed
 pub record Views (K : Type 0) : Type 0 where

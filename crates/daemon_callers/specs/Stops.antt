@@ -1,10 +1,10 @@
 -- The daemon's Stop.
 use Rattle.std.specs.Prelude.{◌≡◌, ◌⊎◌, Bool, true, false}
 use Rattle.broker_history.specs.Entries.{History}
-use Rattle.desk.specs.declared.call.Call.TheVariants as call
-use Rattle.desk.specs.declared.turned.Turned.{Turned}
-use Rattle.desk.specs.declared.turned.Turned.TheVariants as turned
-use Rattle.desk.specs.Answers.{Joins}
+use Rattle.broker_history.specs.declared.call.Call.TheVariants as call
+use Rattle.broker_history.specs.declared.turned.Turned.{Turned}
+use Rattle.broker_history.specs.declared.turned.Turned.TheVariants as turned
+use Rattle.broker_history.specs.Answers.{Joins}
 
 -- the answer of a turn is that the daemon stops
 abbrev pub says_stopping : Turned → Bool

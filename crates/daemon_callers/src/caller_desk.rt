@@ -1,9 +1,9 @@
 ghost use Rattle.std.specs.Prelude.{◌<◌, ◌↔◌, IsTrue};
 ghost use Rattle.nsq_outside.specs.Causes.{CountsFault};
-ghost use Rattle.desk.specs.Answers.{stays_for_memory};
-ghost use Rattle.desk.specs.declared.turned.Turned.TheVariants.{Memory};
+ghost use Rattle.broker_history.specs.Answers.{stays_for_memory};
+ghost use Rattle.broker_history.specs.declared.turned.Turned.TheVariants.{Memory};
 
-use desk::{Call, Desk, FloorDesk, Turned, Turner};
+use broker_history::{Call, Desk, FloorDesk, Turned, Turner};
 use std::alloc::Global;
 use std::sync::Wait;
 
@@ -17,7 +17,7 @@ pub(crate) struct CallerDesk<'a, T: Turner> {
 
 impl<'a, T: Turner> Desk for CallerDesk<'a, T> {
     ghost use Rattle.std.specs.Prelude.{◌≡◌, refl};
-    ghost use Rattle.desk.specs.Composed.{steps_join};
+    ghost use Rattle.broker_history.specs.Composed.{steps_join};
     ghost use Rattle.daemon_callers.specs.Desks.{StaysThere};
 
     ghost tells = { T.tells };

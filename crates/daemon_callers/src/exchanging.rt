@@ -3,12 +3,12 @@ ghost use Rattle.nsq_base.specs.Options.{IsInRange};
 ghost use Rattle.nsq_outside.specs.Hosts.{IsFresh};
 ghost use Rattle.broker_history.specs.Entries.{own};
 ghost use Rattle.broker_history.specs.Talk.{bytes_of};
-ghost use Rattle.http_api.specs.Exchange.{HasCause, IsExchangeIn, IsWarnedHttp};
+ghost use Rattle.daemon_callers.specs.Exchange.{HasCause, IsExchangeIn, IsWarnedHttp};
 ghost use Rattle.daemon_callers.specs.Served.{views, IsServedHttp};
 
 use crate::caller_desk::CallerDesk;
-use desk::{FloorDesk, Turner};
-use http_api::{EndedHttp, serve_http};
+use crate::{EndedHttp, serve_http};
+use broker_history::{FloorDesk, Turner};
 use nsq_base::Options;
 use nsq_outside::Conn;
 use std::alloc::Global;

@@ -3,20 +3,19 @@ ghost use Rattle.nsq_base.specs.Options.{IsInRange};
 ghost use Rattle.nsq_outside.specs.Hosts.{IsFresh};
 ghost use Rattle.broker_history.specs.Entries.{own};
 ghost use Rattle.broker_history.specs.Talk.{bytes_of};
-ghost use Rattle.desk.specs.Calls.{AreAllowed};
-ghost use Rattle.v2_session.specs.Sessions.{HasCause};
+ghost use Rattle.broker_history.specs.Calls.{AreAllowed};
+ghost use Rattle.daemon_callers.specs.Sessions.{HasCause};
 ghost use Rattle.daemon_callers.specs.Served.{views, IsServed, IsServedTcp, Talks, limits_of};
 
 use crate::caller_desk::CallerDesk;
 use crate::exchanging::serve_http_caller;
-use broker_history::Ended;
-use desk::{FloorDesk, Turner};
+use crate::serve_v2;
+use broker_history::{Ended, FloorDesk, Turner};
 use nsq_base::Options;
 use nsq_outside::{Conn, Kind};
 use std::alloc::Global;
 use std::sync::Wait;
 use v2_frame::Limits;
-use v2_session::serve_v2;
 
 /// Serves a caller as its kind asks: by a conversation of the TCP protocol, or by an exchange of HTTP.
 pub fn serve_caller<R: Wait, K: Conn, T: Turner>(

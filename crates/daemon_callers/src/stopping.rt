@@ -2,7 +2,7 @@ ghost use Rattle.std.specs.Prelude.{◌≡◌, true, IsTrue};
 ghost use Rattle.broker_history.specs.Entries.{has_stop, own};
 ghost use Rattle.daemon_callers.specs.Stops.{says_stopping, AddsStop};
 
-use desk::{Call, Turned, Turner};
+use broker_history::{Call, Turned, Turner};
 use std::alloc::Global;
 
 /// Notes the Stop of the daemon. Where memory is wanting it is tried once more. Whether it was noted.

@@ -13,8 +13,8 @@ use Rattle.nsq_fakes.proofs.Shown.{nobody_to_come, nothing_left}
 use Rattle.broker_history.specs.declared.ended.Ended.TheVariants.{Memory}
 use Rattle.broker_history.specs.declared.entry.Entry.{Entry}
 use Rattle.broker_history.specs.Entries.{History, faults_of}
-use Rattle.daemon_run.specs.Served.{IsServedTcp}
-use Rattle.daemon_run.specs.Callers.{IsHandedBack, numbers_of}
+use Rattle.daemon_callers.specs.Served.{IsServedTcp}
+use Rattle.daemon_main.specs.Callers.{IsHandedBack, numbers_of}
 use Rattle.daemon_endings.specs.declared.serving.ServeEnd.TheVariants as end
 use Rattle.drill_parts.specs.Counts.{published}
 use Rattle.drill_parts.specs.Publishing.{IsQuiet, PublishesAlone}
@@ -28,7 +28,7 @@ use Rattle.drill_parts.specs.Hosts.{drill_options, stream_of}
 use Rattle.drill_parts.specs.declared.draws.Publish.{Publish}
 use Rattle.daemon_main.proofs.Entering.{among, drill_limits, numbered, publisher_sends, spell_of}
 use Rattle.daemon_main.proofs.Publishing.{Stands, all_calm, all_pubs, all_stand, at_zero, ends_well, first_served, no_callers_stop, nobody_left, publishes_alone, some_came, unstopped}
-use Rattle.daemon_main.proofs.Running.{all_came, begun, moment, notes, notes_entered, notes_tallied, ones_begun}
+use Rattle.daemon_main.proofs.DrillRunning.{all_came, begun, moment, notes, notes_entered, notes_tallied, ones_begun}
 use Rattle.drill_parts.proofs.Spelling.{IsShort, pub_of}
 use Rattle.drill_parts.proofs.Tallying.{entries_keep, only_c}
 

@@ -25,7 +25,7 @@ use Rattle.drill_parts.specs.Left.{messages_in}
 use Rattle.drill_parts.proofs.Leaving.{all_found}
 use Rattle.drill_parts.proofs.Spelling.{IsShort, publishes_short}
 use Rattle.drill_parts.proofs.Tallying.{entries_keep, only_c}
-use Rattle.daemon_main.proofs.Running.{begun, found_nothing, no_topics_begun, notes, notes_entered, notes_tallied, ones_begun}
+use Rattle.daemon_main.proofs.DrillRunning.{begun, found_nothing, no_topics_begun, notes, notes_entered, notes_tallied, ones_begun}
 use Rattle.daemon_main.proofs.Counted.{accepts_all, all_accepted, length-publishes, nobody_to_serve}
 
 -- all that a drill left is found, and that is what was published and not finished

@@ -17,8 +17,8 @@ use Rattle.broker_history.specs.declared.entry.Entry.{Entry}
 use Rattle.broker_history.specs.Entries.{History, is_common, own}
 use Rattle.broker_history.specs.Talk.{bytes_of, commands_of, stops_before_gone}
 use Rattle.broker_history.proofs.Own.{own-append}
-use Rattle.daemon_run.specs.Served.{IsServed, IsServedTcp, UpTo, Views, limits_of}
-use Rattle.daemon_run.specs.Callers.{IsHandedBack, IsOfStop, StopsLast, numbers_of, one_to}
+use Rattle.daemon_callers.specs.Served.{IsServed, IsServedTcp, UpTo, Views, limits_of}
+use Rattle.daemon_main.specs.Callers.{IsHandedBack, IsOfStop, StopsLast, numbers_of, one_to}
 use Rattle.drill_parts.specs.Talking.{Spell}
 use Rattle.drill_parts.proofs.Owning.{Takes, all_front, all_own, of_owners, takes_all}
 use Rattle.drill_parts.proofs.Talking.{gives_commands, talk_talks}

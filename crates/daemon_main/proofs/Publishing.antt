@@ -18,9 +18,9 @@ use Rattle.broker_history.specs.Entries.{History, is_common, is_gone, is_own, is
 use Rattle.broker_history.specs.Moments as moments
 use Rattle.broker_history.specs.Moments.{HasReadings, greatest, moment_of}
 use Rattle.broker_history.specs.Talk.{Allows, stops_before_gone}
-use Rattle.daemon_run.specs.Rounds.{IsHalted}
-use Rattle.daemon_run.specs.Served.{IsServed, IsServedTcp, UpTo, Views}
-use Rattle.daemon_run.specs.Callers.{HasCallersStop, HasStopCause, IsHandedBack, IsOfStop, StopsAreCaused, StopsLast, numbers_of, one_to}
+use Rattle.daemon_main.specs.Rounds.{IsHalted}
+use Rattle.daemon_callers.specs.Served.{IsServed, IsServedTcp, UpTo, Views}
+use Rattle.daemon_main.specs.Callers.{HasCallersStop, HasStopCause, IsHandedBack, IsOfStop, StopsAreCaused, StopsLast, numbers_of, one_to}
 use Rattle.daemon_endings.specs.declared.serving.ServeEnd.{ServeEnd}
 use Rattle.drill_parts.specs.Conserving.{KeepAll}
 use Rattle.drill_parts.specs.Counts.{messages_in}

@@ -7,20 +7,20 @@ use Rattle.nsq_outside.specs.Files.{Files}
 use Rattle.nsq_outside.specs.Hosts.{HostContent, HostState, OnlyTellFaults, Tells}
 use Rattle.nsq_outside.specs.declared.host.Kit.{Kit}
 use Rattle.broker_history.specs.Entries.{History}
-use Rattle.daemon_run.specs.Served.{Views}
-use Rattle.daemon_run.specs.Asked.{StartsOnce, start_of}
+use Rattle.daemon_callers.specs.Served.{Views}
+use Rattle.daemon_main.specs.Asked.{StartsOnce, start_of}
 use Rattle.daemon_endings.specs.Endings.{status_of as serve_status}
 use Rattle.daemon_endings.specs.Statuses.{line_of, status_of}
-use Rattle.daemon_run.specs.Endings.{IsCaused}
-use Rattle.daemon_run.specs.Runs.{HasWorked, NoCaller, Runs, StayedHome}
-use Rattle.daemon_run.specs.Sights.{Both, Sight, counts_of, sight, sight_of}
+use Rattle.daemon_main.specs.Endings.{IsCaused}
+use Rattle.daemon_main.specs.Runs.{HasWorked, NoCaller, Runs, StayedHome}
+use Rattle.daemon_main.specs.Sights.{Both, Sight, counts_of, sight, sight_of}
 use Rattle.daemon_endings.specs.declared.serving.ServeEnd.{ServeEnd}
 use Rattle.daemon_endings.specs.declared.serving.ServeEnd.TheVariants as end
-use Rattle.daemon_run.proofs.Asking.{no_caller_then}
-use Rattle.daemon_run.proofs.Causes.{caused_wider, completes_told}
-use Rattle.daemon_run.proofs.Sighting.{worked_between}
+use Rattle.daemon_main.proofs.Asking.{no_caller_then}
+use Rattle.daemon_main.proofs.Causes.{caused_wider, completes_told}
+use Rattle.daemon_main.proofs.Sighting.{worked_between}
 use Rattle.daemon_main.specs.Doing.{DoesNothing, ServesSo}
-use Rattle.daemon_main.specs.Endings.{IsTold, TellsLine}
+use Rattle.daemon_main.specs.ProgramEndings.{IsTold, TellsLine}
 use Rattle.daemon_main.specs.Programs.{IsPlainRun}
 use Rattle.daemon_endings.specs.declared.ending.Ending.{Ending}
 use Rattle.daemon_endings.specs.declared.ending.Ending.TheVariants.{Memory, Served}

@@ -8,12 +8,12 @@ use Rattle.daemon_endings.specs.Prints.{PrintsSo}
 use Rattle.daemon_endings.specs.declared.ending.Ending.{Ending}
 use Rattle.daemon_endings.specs.declared.ending.Ending.TheVariants.{BadOptions, Memory, Served}
 use Rattle.daemon_endings.specs.declared.serving.ServeEnd.{ServeEnd}
-use Rattle.daemon_run.specs.Served.{Views}
-use Rattle.daemon_run.specs.Asked.{HasAsked}
-use Rattle.daemon_run.specs.Endings.{IsCaused}
-use Rattle.daemon_run.specs.Parts.{KeepsFaults}
-use Rattle.daemon_run.specs.Runs.{Runs}
-use Rattle.daemon_run.specs.Sights.{Both, Sight}
+use Rattle.daemon_callers.specs.Served.{Views}
+use Rattle.daemon_main.specs.Asked.{HasAsked}
+use Rattle.daemon_main.specs.Endings.{IsCaused}
+use Rattle.daemon_main.specs.Parts.{KeepsFaults}
+use Rattle.daemon_main.specs.Runs.{Runs}
+use Rattle.daemon_main.specs.Sights.{Both, Sight}
 use Rattle.daemon_main.specs.DrillTexts.{ShowsDrill}
 use Rattle.nsqd_words.specs.declared.request.Request.{Request}
 use Rattle.nsqd_words.specs.declared.request.Request.TheVariants as request

@@ -12,10 +12,10 @@ use Rattle.path_image.specs.Found.{Found, IsFound, Names}
 use Rattle.broker_history.specs.declared.ended.Ended.TheVariants.{Memory}
 use Rattle.broker_history.specs.declared.entry.Entry.{Entry}
 use Rattle.broker_history.specs.Entries.{History}
-use Rattle.daemon_run.specs.Served.{IsServedTcp, Views, limits_of, views}
-use Rattle.daemon_run.specs.Asked.{StartsOnce}
-use Rattle.daemon_run.specs.Runs.{HasRun}
-use Rattle.daemon_run.specs.Sights.{Sight, sight}
+use Rattle.daemon_callers.specs.Served.{IsServedTcp, Views, limits_of, views}
+use Rattle.daemon_main.specs.Asked.{StartsOnce}
+use Rattle.daemon_main.specs.Runs.{HasRun}
+use Rattle.daemon_main.specs.Sights.{Sight, sight}
 use Rattle.daemon_endings.specs.declared.serving.ServeEnd.TheVariants as end
 use Rattle.drill_parts.specs.Callers.{publisher}
 use Rattle.drill_parts.specs.Counting.{finished_in, published_in, sent_in}

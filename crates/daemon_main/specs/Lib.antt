@@ -1,5 +1,15 @@
+pub mod Going
+pub mod Rounds
+pub mod Sights
+pub mod Endings
+pub mod Asked
+pub mod Callers
+pub mod Runs
+pub mod Parts
+pub use Rattle.daemon_callers.specs.Served
+pub use Rattle.broker_floor.specs.Opening
 pub mod Drills
 pub mod DrillTexts
-pub mod Endings
+pub mod ProgramEndings
 pub mod Programs
 pub mod Doing

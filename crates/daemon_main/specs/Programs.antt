@@ -3,17 +3,17 @@ use Rattle.std.specs.Prelude.{◌≡◌, ℕ, Bool, IsTrue, List, [], ◌∷◌,
 use Rattle.nsq_base.specs.declared.options.Options.{Options}
 use Rattle.nsq_outside.specs.Causes.{Rose}
 use Rattle.nsq_outside.specs.Hosts.{HostContent, HostState}
-use Rattle.daemon_run.specs.Opening.{HaveBytes}
-use Rattle.daemon_run.specs.Served.{Views}
-use Rattle.daemon_run.specs.Asked.{HasAsked}
+use Rattle.broker_floor.specs.Opening.{HaveBytes}
+use Rattle.daemon_callers.specs.Served.{Views}
+use Rattle.daemon_main.specs.Asked.{HasAsked}
 use Rattle.daemon_endings.specs.Endings.{status_of as serve_status}
 use Rattle.daemon_endings.specs.Statuses.{line_of, status_of}
-use Rattle.daemon_run.specs.Endings.{IsCaused, IsComplete}
-use Rattle.daemon_run.specs.Runs.{NoCaller, Runs}
-use Rattle.daemon_run.specs.Sights.{Sight}
+use Rattle.daemon_main.specs.Endings.{IsCaused, IsComplete}
+use Rattle.daemon_main.specs.Runs.{NoCaller, Runs}
+use Rattle.daemon_main.specs.Sights.{Sight}
 use Rattle.daemon_endings.specs.declared.serving.ServeEnd.{ServeEnd}
 use Rattle.daemon_main.specs.DrillTexts.{ShowsDrill}
-use Rattle.daemon_main.specs.Endings.{IsTold, IsUnserved}
+use Rattle.daemon_main.specs.ProgramEndings.{IsTold, IsUnserved}
 use Rattle.daemon_endings.specs.declared.ending.Ending.{Ending}
 use Rattle.daemon_endings.specs.declared.ending.Ending.TheVariants.{Served}
 use Rattle.nsqd_words.specs.Command.{Words}

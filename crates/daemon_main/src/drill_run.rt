@@ -6,8 +6,8 @@ ghost use Rattle.daemon_main.specs.Drills.{HasCounted, HasDrilled, HasNames, Has
 ghost use Rattle.drill_parts.specs.Left.{CountsAll};
 ghost use Rattle.nsq_fakes.specs.MemFolders.{faults_of, files_in};
 
+use crate::{ServeEnd, serve};
 use broker_history::Entry;
-use daemon_run::{ServeEnd, serve};
 use drill_parts::{
     Publish, draw, drill_options, finished_in, host_of, left_in, published_in, sent_in,
 };

@@ -1,175 +1,141 @@
-ghost use Rattle.std.specs.Prelude.{◌≡◌, ◌⊎◌, ◌≤◌, ◌^◌, IfOk, IsSome, IsTrue, map, string_bytes};
+ghost use Rattle.std.specs.Prelude.{◌≡◌, [], false, IsSome, IsTrue};
 ghost use Rattle.nsq_base.specs.Options.{IsInRange};
-ghost use Rattle.nsq_base.specs.declared.options.Options.{Options as SaidOptions};
-ghost use Rattle.nsq_outside.specs.Causes.{Rose};
-ghost use Rattle.nsq_outside.specs.Hosts.{OnlyPrintFaults, OnlyTellFaults};
-ghost use Rattle.daemon_endings.specs.Statuses.{line_of, status_of};
-ghost use Rattle.daemon_run.specs.Served.{ListenersFailedLast};
-ghost use Rattle.daemon_run.specs.Sights.{Both};
-ghost use Rattle.daemon_main.specs.Doing.{CanDo, Does, DrillsSo, Obeys};
-ghost use Rattle.daemon_main.specs.DrillTexts.{ShowsDrill, drill_text};
-ghost use Rattle.daemon_main.specs.Endings.{TellsLine};
-ghost use Rattle.daemon_main.specs.Programs.{IsAsked, IsPlainRun, StaysHome};
-ghost use Rattle.nsqd_words.specs.Requests.{Asks, IsUnknown, SaysOptions};
+ghost use Rattle.nsq_base.specs.Text.{IsText};
+ghost use Rattle.nsq_outside.specs.Causes.{DidFails};
+ghost use Rattle.nsq_outside.specs.Hosts.{OnlyAcceptFaults, Starts};
+ghost use Rattle.broker_floor.specs.Floors.{flushed_of, notes_of, scene_of};
+ghost use Rattle.broker_floor.specs.Opening.{HaveBytes};
+ghost use Rattle.daemon_callers.specs.Served.{AllTell, ListenersFailedLast, OnlyCallersChange, views};
+ghost use Rattle.daemon_endings.specs.Endings.{status_of};
+ghost use Rattle.daemon_main.specs.Asked.{HasAsked};
+ghost use Rattle.daemon_main.specs.Endings.{IsCaused, IsComplete};
+ghost use Rattle.daemon_main.specs.Parts.{KeepsFaults, RunsOn};
+ghost use Rattle.daemon_main.specs.Runs.{HasWorked, Runs};
+ghost use Rattle.daemon_main.specs.Sights.{AllTold, Both, counts_of, sight};
+ghost use Rattle.daemon_endings.specs.declared.serving.ServeEnd.TheVariants.{AcceptFailed};
 
-use crate::drill_run::{Drilled, drill};
+use crate::callers::serve_callers;
+use crate::watched::Watched;
+use broker_floor::{Floor, Refused, open, shut};
 use broker_history::Entry;
-use daemon_endings::{Ending, line, print, status};
-use daemon_run::{Watched, serve};
-use nsq_base::Memory;
-use nsq_outside::Host;
-use nsqd_words::{
-    Request, options_are_known, options_are_one, other_requests_are_known, read_words,
-    requests_exclude_each_other,
-};
+use daemon_callers::stop;
+use daemon_endings::{ServeEnd, ending_after, refusal};
+use nsq_base::{Body, Options};
+use nsq_outside::{Did, Host, Kit};
 use std::alloc::Global;
+use std::str;
 use std::sync::Wait;
 
-/// Does all that the program does: it reads the words, the program's name first, and serves with the options that they say until nobody calls any more, or
-/// prints what they ask for. It tells the line that goes with its ending, and returns its status:
+/// Serves with these options, each in its range: it starts the host at their addresses and data path, opens that, serves the callers, one after another, until
+/// nobody calls any more or a caller stops it over HTTP, stops, and shuts the data path. The host's kit is at home, and is again at the end.
 ///
-/// | status | comes | line |
-/// |---|---|---|
-/// | 0 | a clean stop; what was asked for was printed | none |
-/// | 1 | exactly where the words aren't right | `nsqd: bad options` |
-/// | 2 | the data path's files aren't in their grammar; no further epoch is left; the folder failed while it was opened | `nsqd: data path: bad data`, `ids spent`, `disk fault` |
-/// | 3 | the folder failed at the stop | `nsqd: stop: disk fault` |
-/// | 4 | the listeners failed, at the start or behind the last caller | `nsqd: accept failed` |
-/// | 5 | want of memory | `nsqd: out of memory` |
-/// | 6 | standard output failed | `nsqd: output fault` |
-pub fn nsqd_run<R: Wait, H: Host<Entry>>(
+/// The end `AcceptFailed` comes only where the count of the listeners' faults rose in the start or behind the last caller: a fault behind which
+/// further callers came is no cause of it.
+pub fn serve<R: Wait, H: Host<Entry>>(
     rt: &R,
     alloc: Global,
-    words: &[String],
+    options: &Options,
     host: &mut H,
-) -> u8
-    requires { IsSome (H.state host.old).kit }
+) -> ServeEnd
+    requires home { IsSome (H.state host.old).kit }
+    requires options { IsInRange options.now }
     ensures home { IsSome (H.state host.new).kit }
-    ensures unknown { result ≡ 1 → IsUnknown (map string_bytes words.now) }
-    ensures bad { IsUnknown (map string_bytes words.now) → (result ≡ 1) ⊎ (result ≡ 5) }
-    ensures serves { (o : SaidOptions) → SaysOptions (map string_bytes words.now) o → IsInRange o
-        → Both (⟦<H as Watched>⟧.sight host.old) (⟦<H as Watched>⟧.sight host.new) (IsPlainRun ⟦<H as Watched>⟧.told H.tells H.Folder.tells_files H.Journal.tells_notes ⟦<H as Watched>⟧.seen o result) }
-    ensures output { result ≡ 6 → Rose (H.state host.old).print_faults (H.state host.new).print_faults }
-    ensures prints { IsAsked H.tells (map string_bytes words.now) result (H.content host.old).printed (H.content host.new).printed (H.state host.old).print_faults (H.state host.new).print_faults }
-    ensures stays { ((o : SaidOptions) → SaysOptions (map string_bytes words.now) o → IsInRange o → ⊥)
-        → StaysHome H.tells (map string_bytes words.now) result (H.state host.old) (H.state host.new) (H.content host.old) (H.content host.new) }
-    ensures listeners { IsTrue H.tells → result ≡ 4 → ListenersFailedLast H.state H.content host.old host.new }
+    ensures asked { IsTrue H.tells → HasAsked options.now (status_of result) (H.content host.old) (H.content host.new) }
+    ensures lines { IsTrue H.tells → (H.content host.new).lines ≡ (H.content host.old).lines }
+    ensures faults { KeepsFaults (H.state host.old) (H.state host.new) }
+    ensures cause { Both (⟦<H as Watched>⟧.sight host.old) (⟦<H as Watched>⟧.sight host.new) (λ old new. IsCaused result H.Folder.tells_files H.Journal.tells_notes old.files old.counts new.counts) }
+    ensures complete { IsTrue H.Folder.tells_files → IsTrue H.Journal.tells_notes → Both (⟦<H as Watched>⟧.sight host.old) (⟦<H as Watched>⟧.sight host.new) (λ old new. HaveBytes old.files → IsComplete result old.files old.counts new.counts) }
+    ensures run { ⟦<H as Watched>⟧.told → Both (⟦<H as Watched>⟧.sight host.old) (⟦<H as Watched>⟧.sight host.new) (Runs ⟦<H as Watched>⟧.seen options.now result) }
+    ensures listeners { IsTrue H.tells → result ≡ AcceptFailed → ListenersFailedLast H.state H.content host.old host.new }
 {
-    // Laws: what words ask for excludes all else.
-    options_are_known();
-    options_are_one();
-    other_requests_are_known();
-    requests_exclude_each_other();
-    let ending = obey(rt, alloc, words, host);
-    close(rt, host, ending)
-}
-
-/// Does what the words ask for.
-fn obey<R: Wait, H: Host<Entry>>(rt: &R, alloc: Global, words: &[String], host: &mut H) -> Ending
-    requires { IsSome (H.state host.old).kit }
-    ensures home { IsSome (H.state host.new).kit }
-    ensures obeys { Obeys ⟦<H as Watched>⟧.told H.tells H.Folder.tells_files H.Journal.tells_notes ⟦<H as Watched>⟧.seen (H.state host.old) (H.state host.new) (H.content host.old) (H.content host.new)
-        (⟦<H as Watched>⟧.sight host.old) (⟦<H as Watched>⟧.sight host.new) (Asks (map string_bytes words.now)) result }
-    ensures listeners { IsTrue H.tells → status_of result ≡ 4 → ListenersFailedLast H.state H.content host.old host.new }
-{
-    match read_words(alloc, words) {
-        Ok(request) => {
-            let ending = carry_out(rt, alloc, &request, host);
-            let_go(request);
+    match start(rt, options, host) {
+        Did::Failed => ServeEnd::AcceptFailed,
+        Did::Done => {
+            let kit = host.lend();
+            let (ending, kit) = work(rt, alloc, options, host, kit);
+            host.restore(kit);
             ending
         }
-        Err(_) => Ending::Memory,
     }
 }
 
-/// Lets go of what was asked for.
-fn let_go(_request: Request) {}
+/// Starts the host with the addresses and the data path of the options.
+fn start<R: Wait, H: Host<Entry>>(rt: &R, options: &Options, host: &mut H) -> Did
+    requires options { IsInRange options.now }
+    ensures state { OnlyAcceptFaults (H.state host.old) (H.state host.new) }
+    ensures cause { DidFails (H.state host.old).accept_faults (H.state host.new).accept_faults result }
+    ensures content { IsTrue H.tells → Starts (H.content host.old) (H.content host.new) options.now.tcp_address options.now.http_address options.now.data_path result }
+{
+    let tcp = text_of(&options.tcp_address);
+    let http = text_of(&options.http_address);
+    let path = text_of(&options.data_path);
+    host.start(rt, tcp, http, path)
+}
 
-/// Does what is asked for.
-fn carry_out<R: Wait, H: Host<Entry>>(
+/// A text of the options.
+fn text_of(text: &Body) -> &str
+    requires { IsText text.now }
+    ensures { result.now ≡ text.now }
+{
+    match str::from_utf8(text.bytes()) {
+        Ok(text) => text,
+        Err(_) => unreachable!(),
+    }
+}
+
+/// Opens the data path, serves the callers and stops. It gives the kit back.
+fn work<R: Wait, H: Host<Entry>>(
     rt: &R,
     alloc: Global,
-    request: &Request,
+    options: &Options,
     host: &mut H,
-) -> Ending
-    requires home { IsSome (H.state host.old).kit }
-    requires can { CanDo request.now }
-    ensures home { IsSome (H.state host.new).kit }
-    ensures does { Does ⟦<H as Watched>⟧.told H.tells H.Folder.tells_files H.Journal.tells_notes ⟦<H as Watched>⟧.seen (H.state host.old) (H.state host.new) (H.content host.old) (H.content host.new)
-        (⟦<H as Watched>⟧.sight host.old) (⟦<H as Watched>⟧.sight host.new) request.now result }
-    ensures listeners { IsTrue H.tells → status_of result ≡ 4 → ListenersFailedLast H.state H.content host.old host.new }
+    kit: Kit<H::Folder, H::Clock, H::Journal>,
+) -> (ServeEnd, Kit<H::Folder, H::Clock, H::Journal>)
+    requires options { IsInRange options.now }
+    requires aside { H.Journal.is_aside kit.journal ≡ false }
+    requires empty { IsTrue H.Journal.tells_notes → H.Journal.notes kit.journal ≡ [] }
+    ensures worked { AllTold H.tells H.Conn.tells_pieces H.Conn.tells_written H.Journal.tells_notes H.Folder.tells_files H.Clock.tells_readings → HaveBytes (H.Folder.files kit.folder)
+        → HasWorked (views H.Conn.pieces H.Conn.left H.Conn.ended H.Conn.written H.Conn.read_faults H.Conn.write_faults) options.now result.0
+        (sight H.Journal.notes H.Folder.files H.Clock.coming H.Folder.folder_faults kit (H.state host.old) (H.content host.old)) (sight H.Journal.notes H.Folder.files H.Clock.coming H.Folder.folder_faults result.1 (H.state host.new) (H.content host.new)) }
+    ensures rest { IsTrue H.tells → OnlyCallersChange (H.content host.old) (H.content host.new) }
+    ensures state { OnlyAcceptFaults (H.state host.old) (H.state host.new) }
+    ensures cause { IsCaused result.0 H.Folder.tells_files H.Journal.tells_notes (H.Folder.files kit.folder) (counts_of H.Folder.folder_faults kit.folder (H.state host.old)) (counts_of H.Folder.folder_faults result.1.folder (H.state host.new)) }
+    ensures listeners { IsTrue H.tells → result.0 ≡ AcceptFailed → ListenersFailedLast H.state H.content host.old host.new }
 {
-    match request {
-        Request::Serve(options) => Ending::Served(serve(rt, alloc, options, host)),
-        Request::Drill(seed, count) => print_drill(rt, alloc, *seed, *count, host),
-        Request::Help(text) => print(rt, host, text.as_bytes()),
-        Request::Version(text) => print(rt, host, text.as_bytes()),
-        Request::Unknown => Ending::BadOptions,
+    match open(alloc, kit, options) {
+        Ok(floor) => {
+            let began = floor.began();
+            run(rt, alloc, options, began, host, floor)
+        }
+        Err(refused) => {
+            let Refused { why, kit } = refused;
+            (refusal(why), kit)
+        }
     }
 }
 
-/// Runs a drill and prints what it counted.
-fn print_drill<R: Wait, H: Host<Entry>>(
+/// Serves the callers at an opened floor, stops it and shuts it. `began` is the moment of the opening, in nanoseconds.
+fn run<R: Wait, H: Host<Entry>>(
     rt: &R,
     alloc: Global,
-    seed: u64,
-    count: u64,
+    options: &Options,
+    began: u64,
     host: &mut H,
-) -> Ending
-    requires seed { seed ≤ 2 ^ 59 }
-    requires count { count ≤ 100000 }
-    ensures drills { DrillsSo H.tells (H.state host.old) (H.state host.new) (H.content host.old) (H.content host.new) seed count result }
-    ensures state { OnlyPrintFaults (H.state host.old) (H.state host.new) }
-    ensures unserved { status_of result ≡ 4 → ⊥ }
+    floor: Floor<H::Folder, H::Clock, H::Journal>,
+) -> (ServeEnd, Kit<H::Folder, H::Clock, H::Journal>)
+    requires options { IsInRange options.now }
+    requires unflushed { flushed_of floor ≡ false }
+    requires empty { IsTrue H.Journal.tells_notes → notes_of floor ≡ [] }
+    ensures runs { RunsOn (AllTell H.tells H.Conn.tells_pieces H.Conn.tells_written H.Journal.tells_notes) H.tells H.Journal.tells_notes H.Folder.tells_files H.Clock.tells_readings
+        (views H.Conn.pieces H.Conn.left H.Conn.ended H.Conn.written H.Conn.read_faults H.Conn.write_faults) options.now began result.0 (H.state host.old).accept_faults (H.state host.new).accept_faults
+        (scene_of floor) (H.Folder.files result.1.folder) (H.Journal.notes result.1.journal) (H.Clock.coming result.1.clock) (H.Folder.folder_faults result.1.folder) (H.content host.old) (H.content host.new) }
+    ensures rest { IsTrue H.tells → OnlyCallersChange (H.content host.old) (H.content host.new) }
+    ensures state { OnlyAcceptFaults (H.state host.old) (H.state host.new) }
+    ensures listeners { IsTrue H.tells → result.0 ≡ AcceptFailed → ListenersFailedLast H.state H.content host.old host.new }
 {
-    match drilled_text(rt, alloc, seed, count) {
-        Ok(text) => print(rt, host, text.as_bytes()),
-        Err(_) => Ending::Memory,
-    }
-}
-
-/// What a drill counted, as it is printed.
-fn drilled_text<R: Wait>(rt: &R, alloc: Global, seed: u64, count: u64) -> Result<String, Memory>
-    requires seed { seed ≤ 2 ^ 59 }
-    requires count { count ≤ 100000 }
-    ensures { IfOk result (λ text. ShowsDrill seed count (string_bytes text)) }
-{
-    let drilled = drill(rt, alloc, seed, count)?;
-    let text = text_of(alloc, &drilled);
-    let_end(drilled);
-    text
-}
-
-/// Lets go of a drill that was told.
-fn let_end(_drilled: Drilled) {}
-
-/// The four numbers of a drill, each on a line.
-fn text_of(alloc: Global, drilled: &Drilled) -> Result<String, Memory>
-    ensures { IfOk result (λ text. string_bytes text ≡ drill_text drilled.now) }
-{
-    Ok(format!(in alloc;
-        "published {}\nsent {}\nfinished {}\nleft {}\n",
-        drilled.published, drilled.sent, drilled.finished, drilled.left
-    )?)
-}
-
-/// Tells the line of an ending, where one is, and returns its status.
-pub fn close<R: Wait, H: Host<Entry>>(rt: &R, host: &mut H, ending: Ending) -> u8
-    ensures status { result ≡ status_of ending }
-    ensures state { OnlyTellFaults (H.state host.old) (H.state host.new) }
-    ensures content { IsTrue H.tells → TellsLine (line_of ending) (H.content host.old) (H.content host.new) (H.state host.old).tell_faults (H.state host.new).tell_faults }
-{
-    tell_line(rt, host, ending);
-    status(ending)
-}
-
-/// Tells the line of an ending, where one is.
-fn tell_line<R: Wait, H: Host<Entry>>(rt: &R, host: &mut H, ending: Ending)
-    ensures state { OnlyTellFaults (H.state host.old) (H.state host.new) }
-    ensures content { IsTrue H.tells → TellsLine (line_of ending) (H.content host.old) (H.content host.new) (H.state host.old).tell_faults (H.state host.new).tell_faults }
-{
-    match line(ending) {
-        Some(text) => host.tell(rt, text),
-        None => {}
-    }
+    let mut floor = floor;
+    let looped = serve_callers(rt, alloc, options, began, host, &mut floor);
+    let stopped = stop(alloc, &mut floor);
+    let (shutting, kit) = shut(alloc, floor);
+    (ending_after(looped, stopped, shutting), kit)
 }

@@ -2,10 +2,10 @@
 use Rattle.std.proofs.Common.{inl, inr, ◌≡◌, Bool, true, false, sym, ◌∙◌, ap, subst}
 use Rattle.std.proofs.lemmas.Bool.{false≢true}
 use Rattle.broker_history.specs.Entries.{History, is_common}
-use Rattle.desk.specs.Answers.{Adds, Answers, StopsSeen, TicksNoted}
-use Rattle.desk.specs.declared.call.Call.TheVariants as call
-use Rattle.desk.specs.declared.turned.Turned.{Turned}
-use Rattle.desk.specs.declared.turned.Turned.TheVariants as turned
+use Rattle.broker_history.specs.Answers.{Adds, Answers, StopsSeen, TicksNoted}
+use Rattle.broker_history.specs.declared.call.Call.TheVariants as call
+use Rattle.broker_history.specs.declared.turned.Turned.{Turned}
+use Rattle.broker_history.specs.declared.turned.Turned.TheVariants as turned
 use Rattle.daemon_tick.specs.Ticks.{IsTicked, ticked_of}
 use Rattle.daemon_tick.specs.declared.ticking.Ticked.{Ticked}
 

@@ -1,9 +1,9 @@
 -- How a turn of the daemon that ticks is answered.
 use Rattle.std.specs.Prelude.{◌≡◌, ◌+◌, ◌≤◌, true}
 use Rattle.broker_history.specs.Entries.{History, has_stop}
-use Rattle.desk.specs.Answers.{ticks_of}
-use Rattle.desk.specs.declared.turned.Turned.{Turned}
-use Rattle.desk.specs.declared.turned.Turned.TheVariants as turned
+use Rattle.broker_history.specs.Answers.{ticks_of}
+use Rattle.broker_history.specs.declared.turned.Turned.{Turned}
+use Rattle.broker_history.specs.declared.turned.Turned.TheVariants as turned
 use Rattle.daemon_tick.specs.declared.ticking.Ticked.{Ticked}
 use Rattle.daemon_tick.specs.declared.ticking.Ticked.TheVariants as ticked
 

@@ -2,7 +2,7 @@ ghost use Rattle.std.specs.Prelude.{◌≡◌, IsTrue};
 ghost use Rattle.broker_history.specs.Entries.{own};
 ghost use Rattle.daemon_tick.specs.Ticks.{IsTicked, ticked_of};
 
-use desk::{Call, Turned, Turner};
+use broker_history::{Call, Turned, Turner};
 use std::alloc::Global;
 
 /// How a tick was answered.

@@ -14,7 +14,7 @@ use Rattle.channel_copies.specs.declared.clients.Client as copies
 use Rattle.channel_core.specs.declared.about.About.{About}
 use Rattle.channel_core.specs.Answers.{IsYours}
 use Rattle.channel_core.specs.Drawing.{timeout_of}
-use Rattle.floor_clients.specs.Seen.{held_channel}
+use Rattle.floor_rooms.specs.Seen.{held_channel}
 use Rattle.floor_laws.specs.Lifting.{Lift}
 use Rattle.floor_laws.proofs.Lifting.{finishes, touches}
 use Rattle.floor_acts.specs.Replies.{copies_at, flies_in, stall_on}

@@ -13,8 +13,8 @@ use Rattle.broker_history.specs.State.{Client, Route, is_empty}
 use Rattle.broker_history.proofs.Lists.{exact_bytes, find_put}
 use Rattle.topic_core.specs.Seen.{owed_of}
 use Rattle.channel_core.specs.declared.about.About.{About}
-use Rattle.floor_clients.specs.Places.{AreInOrder}
-use Rattle.floor_clients.specs.Seen.{held_channel}
+use Rattle.floor_rooms.specs.ClientPlaces.{AreInOrder}
+use Rattle.floor_rooms.specs.Seen.{held_channel}
 use Rattle.floor_rooms.specs.declared.stall.Stall.{Stall}
 use Rattle.floor_rooms.specs.declared.room.Room.{Room}
 use Rattle.floor_rooms.specs.declared.hall.Hall.{Hall}

@@ -15,7 +15,7 @@ use Rattle.channel_core.specs.Answers.{Looks}
 use Rattle.channel_core.specs.Seen.{channel_with, queued_in}
 use Rattle.channel_core.specs.declared.answers.Look.{Look}
 use Rattle.channel_core.specs.declared.answers.Look.TheVariants.{Yours, NotYours, NotInFlight}
-use Rattle.floor_clients.specs.Seen.{held_channel}
+use Rattle.floor_rooms.specs.Seen.{held_channel}
 use Rattle.floor_laws.proofs.Counting.{counts_alike}
 use Rattle.floor_laws.proofs.Pairs.{IfBoth, pairs_found}
 use Rattle.floor_rooms.specs.declared.stall.Stall.{Stall}

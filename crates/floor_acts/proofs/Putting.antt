@@ -14,10 +14,10 @@ use Rattle.broker_history.specs.Identify.{Identity, identity_of}
 use Rattle.broker_history.specs.State.{Client, Phase, Fresh, Subscribed, Closing, Lost, Route, State, is_lost, is_on, is_subscribed, put_client, with_client}
 use Rattle.v2_frame.specs.declared.command.Command.TheVariants.{Identify}
 use Rattle.broker_history.specs.Step.{begun, known_as, new_client, spoke, with_identity}
-use Rattle.floor_clients.specs.Places.{AreInOrder, BelongsAt, StandsAt}
-use Rattle.floor_clients.specs.Seen.{held_channel}
-use Rattle.floor_clients.proofs.Placing.{stands}
-use Rattle.floor_clients.proofs.Putting.{found_put, order_put, put_belonging, put_standing}
+use Rattle.floor_rooms.specs.ClientPlaces.{AreInOrder, BelongsAt, StandsAt}
+use Rattle.floor_rooms.specs.Seen.{held_channel}
+use Rattle.floor_rooms.proofs.ClientPlacing.{stands}
+use Rattle.floor_rooms.proofs.Putting.{found_put, order_put, put_belonging, put_standing}
 use Rattle.floor_rooms.specs.declared.room.Room.{Room}
 use Rattle.floor_rooms.specs.declared.hall.Hall.{Hall}
 use Rattle.floor_rooms.specs.Rooms.{channel_name, topic_name, client_in, stall_at}

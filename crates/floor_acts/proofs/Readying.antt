@@ -16,9 +16,9 @@ use Rattle.broker_history.proofs.Lists.{exact_bytes, same_bytes}
 use Rattle.channel_copies.specs.Clients.{client_of, now_ready}
 use Rattle.channel_copies.specs.declared.clients.Client as copies
 use Rattle.channel_core.specs.Seen.{Seen as ChannelSeen, seen_channel}
-use Rattle.floor_clients.specs.Places.{AreInOrder}
-use Rattle.floor_clients.specs.Seen.{held_channel}
-use Rattle.floor_clients.proofs.Putting.{found_put, order_put}
+use Rattle.floor_rooms.specs.ClientPlaces.{AreInOrder}
+use Rattle.floor_rooms.specs.Seen.{held_channel}
+use Rattle.floor_rooms.proofs.Putting.{found_put, order_put}
 use Rattle.floor_rooms.specs.declared.stall.Stall.{Stall}
 use Rattle.floor_rooms.specs.declared.room.Room.{Room}
 use Rattle.floor_rooms.specs.declared.hall.Hall.{Hall}

@@ -11,7 +11,7 @@ use Rattle.channel_copies.specs.Clients.{client_of}
 use Rattle.channel_core.specs.Answers.{IsYours}
 use Rattle.channel_core.specs.Seen.{channel_with}
 use Rattle.channel_core.proofs.Copies.{flying_with_is}
-use Rattle.floor_clients.specs.Seen.{held_channel, route_named}
+use Rattle.floor_rooms.specs.Seen.{held_channel, route_named}
 use Rattle.floor_acts.specs.Replies.{copies_at, flies_in, stall_on}
 use Rattle.floor_acts.proofs.Found.{none_at}
 use Rattle.floor_rooms.specs.declared.room.Room.{Room}

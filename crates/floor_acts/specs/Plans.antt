@@ -10,9 +10,9 @@ use Rattle.broker_history.specs.declared.entry.Act.TheVariants as act
 use Rattle.broker_history.specs.State.{Client, State, has_begun, is_lost}
 use Rattle.broker_history.specs.Reply.{refusal}
 use Rattle.broker_history.specs.Step.{IsAllowedAct}
-use Rattle.desk.specs.declared.call.Call.{Call}
-use Rattle.desk.specs.declared.call.Call.TheVariants as call
-use Rattle.desk.specs.Answers.{EndsAtStop}
+use Rattle.broker_history.specs.declared.call.Call.{Call}
+use Rattle.broker_history.specs.declared.call.Call.TheVariants as call
+use Rattle.broker_history.specs.Answers.{EndsAtStop}
 use Rattle.negotiation.specs.declared.identity.Identity.{Identity}
 use Rattle.floor_rooms.specs.declared.hall.Hall.{Hall}
 use Rattle.floor_rooms.specs.Rooms.{client_in, hall_names}

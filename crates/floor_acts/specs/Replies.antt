@@ -13,7 +13,7 @@ use Rattle.broker_history.specs.Step.{is_error}
 use Rattle.negotiation.specs.declared.identity.Identity.{Identity}
 use Rattle.negotiation.specs.Said.{said, IsTimely}
 use Rattle.channel_core.specs.Seen.{channel_with}
-use Rattle.floor_clients.specs.Seen.{held_channel}
+use Rattle.floor_rooms.specs.Seen.{held_channel}
 use Rattle.floor_rooms.specs.declared.stall.Stall.{Stall}
 use Rattle.floor_rooms.specs.declared.room.Room.{Room}
 use Rattle.floor_rooms.specs.declared.hall.Hall.{Hall}

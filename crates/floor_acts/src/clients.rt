@@ -7,14 +7,13 @@ ghost use Rattle.broker_history.specs.State.{Client as StateClient, Closing, is_
 ghost use Rattle.broker_history.specs.Changes.{at_client};
 ghost use Rattle.broker_history.specs.Identify.{identity_of};
 ghost use Rattle.broker_history.specs.Step.{begun, known_as, new_client, spoke};
-ghost use Rattle.floor_clients.specs.Seen.{held_channel};
+ghost use Rattle.floor_rooms.specs.Seen.{held_channel};
 ghost use Rattle.floor_rooms.specs.Rooms.{client_in};
 ghost use Rattle.floor_rooms.specs.Sound.{IsSound};
 ghost use Rattle.floor_rooms.specs.Standing.{Carries};
 ghost use Rattle.floor_acts.specs.Acts.{ChangesAt, DoesAt};
 
-use floor_clients::{Client, place_of};
-use floor_rooms::Hall;
+use floor_rooms::{Client, Hall, place_of};
 use negotiation::Identity;
 use nsq_base::Memory;
 

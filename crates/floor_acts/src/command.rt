@@ -13,8 +13,7 @@ use crate::replies::{
     batch_reply, close_reply, delayed_reply, flight_reply, publish_reply, ready_reply,
     subscribe_reply,
 };
-use floor_clients::Client;
-use floor_rooms::Hall;
+use floor_rooms::{Client, Hall};
 use negotiation::{Identity, identify_reply, read_identity};
 use nsq_base::{Memory, MsgId, Options};
 use std::alloc::Global;

@@ -4,8 +4,7 @@ ghost use Rattle.floor_rooms.specs.Sound.{IsSound};
 ghost use Rattle.floor_acts.specs.Replies.{flies_in, stall_of};
 
 use channel_core::Look;
-use floor_clients::Client;
-use floor_rooms::{Hall, Room, Stall};
+use floor_rooms::{Client, Hall, Room, Stall};
 use nsq_base::{Chan, MsgId, Topic};
 
 /// The client of this number, where there is one.

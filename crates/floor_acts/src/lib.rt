@@ -6,7 +6,7 @@
 //!
 //! `specs/Acts.antt` says what a command of the client at a place makes of a hall, `specs/Replies.antt` what is replied.
 //!
-//! It says too what a plan is, the act that a call leads to, which `floor_plans` makes: `specs/Plans.antt`, and `specs/Dues.antt` of what a client is to be
+//! It says too what a plan is, the act that a call leads to, which `floor_calls` makes: `specs/Plans.antt`, and `specs/Dues.antt` of what a client is to be
 //! sent. They stand here since a turn's definitions name them, and need none of what makes a plan.
 #![tactic(auto)]
 

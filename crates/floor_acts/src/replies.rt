@@ -5,7 +5,7 @@ ghost use Rattle.floor_acts.specs.Replies.{IsShort, IsShortFrame};
 
 use crate::frames::{error, frame, ok_frame, wrong_state};
 use crate::numbers::{are_left, is_count_to, is_span_to};
-use floor_clients::Client;
+use floor_rooms::Client;
 use nsq_base::{Bodies, Memory, Options};
 use std::alloc::Global;
 use v2_frame::{Frame, FrameKind};

@@ -1,5 +1,5 @@
 ghost use Rattle.std.specs.Prelude.{◌<◌, HoldsAt, length};
-ghost use Rattle.floor_clients.specs.Seen.{held_channel};
+ghost use Rattle.floor_rooms.specs.Seen.{held_channel};
 ghost use Rattle.floor_rooms.specs.Sound.{IsSound};
 ghost use Rattle.floor_acts.specs.Spots.{IsSpotFor, IsSpotOf};
 

@@ -18,10 +18,10 @@ use Rattle.broker_history.specs.Step.{DoesAct, IsAllowedAct}
 use Rattle.channel_core.specs.declared.answers.Next.{Next}
 use Rattle.channel_core.specs.declared.answers.Next.TheVariants as next
 use Rattle.channel_core.specs.Seen.{Seen as ChannelSeen}
-use Rattle.desk.specs.declared.call.Call.TheVariants as call
-use Rattle.desk.specs.declared.turned.Turned.{Turned}
-use Rattle.desk.specs.declared.turned.Turned.TheVariants as turned
-use Rattle.desk.specs.Answers.{Answers, IsShortAnswer}
+use Rattle.broker_history.specs.declared.call.Call.TheVariants as call
+use Rattle.broker_history.specs.declared.turned.Turned.{Turned}
+use Rattle.broker_history.specs.declared.turned.Turned.TheVariants as turned
+use Rattle.broker_history.specs.Answers.{Answers, IsShortAnswer}
 use Rattle.floor_rooms.specs.declared.stall.Stall.{Stall}
 use Rattle.floor_rooms.specs.declared.room.Room.{Room}
 use Rattle.floor_rooms.specs.declared.hall.Hall.{Hall}

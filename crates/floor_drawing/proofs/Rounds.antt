@@ -15,9 +15,9 @@ use Rattle.broker_history.specs.Before.{is_any_due}
 use Rattle.broker_history.specs.Legal.{Legal, more, none}
 use Rattle.broker_history.proofs.Histories.{Legal-append}
 use Rattle.channel_core.specs.declared.answers.Next.TheVariants as next
-use Rattle.desk.specs.declared.call.Call.TheVariants as call
-use Rattle.desk.specs.declared.turned.Turned.{Turned}
-use Rattle.desk.specs.declared.turned.Turned.TheVariants as turned
+use Rattle.broker_history.specs.declared.call.Call.TheVariants as call
+use Rattle.broker_history.specs.declared.turned.Turned.{Turned}
+use Rattle.broker_history.specs.declared.turned.Turned.TheVariants as turned
 use Rattle.floor_rooms.specs.declared.hall.Hall.{Hall}
 use Rattle.floor_rooms.specs.Changes.{KeepsSince, OnlyQueueFiles}
 use Rattle.floor_rooms.specs.Rooms.{client_in}
@@ -32,9 +32,9 @@ use Rattle.floor_turns.specs.Moves.{Keeps, NothingNoted, Notes, RoseBy, Sight, s
 use Rattle.floor_turns.proofs.Keeping.{keeps_marked, keeps_on, keeps_same}
 use Rattle.floor_acts.specs.Sending.{HasDrawn}
 use Rattle.floor_acts.proofs.Flying.{stands_now}
-use Rattle.turn_laws.specs.Laid.{AreHeldBack, IsHeld}
-use Rattle.turn_laws.proofs.Allowing.{held_calm}
-use Rattle.turn_laws.proofs.Laying.{all_both}
+use Rattle.floor_laws.specs.Laid.{AreHeldBack, IsHeld}
+use Rattle.floor_laws.proofs.Allowing.{held_calm}
+use Rattle.floor_laws.proofs.Laying.{all_both}
 use Rattle.floor_turns.specs.Acting.{Acts, ActsBy, ClientsBy, FaultRose, FaultsRose, StaysSet, there_after}
 use Rattle.floor_turns.proofs.Owing.{held_loose, loose_paid, notes_on}
 use Rattle.floor_drawing.proofs.Answering.{wants}

@@ -19,10 +19,10 @@ use Rattle.channel_core.specs.declared.answers.Next.{Next}
 use Rattle.channel_core.specs.declared.answers.Next.TheVariants as next
 use Rattle.channel_core.specs.Drawing.{IsDrawnFor}
 use Rattle.channel_core.specs.Seen.{Seen as ChannelSeen}
-use Rattle.desk.specs.declared.call.Call.TheVariants as call
-use Rattle.desk.specs.declared.turned.Turned.TheVariants as turned
-use Rattle.floor_clients.specs.Places.{AreInOrder, StandsAt}
-use Rattle.floor_clients.proofs.Putting.{found_put}
+use Rattle.broker_history.specs.declared.call.Call.TheVariants as call
+use Rattle.broker_history.specs.declared.turned.Turned.TheVariants as turned
+use Rattle.floor_rooms.specs.ClientPlaces.{AreInOrder, StandsAt}
+use Rattle.floor_rooms.proofs.Putting.{found_put}
 use Rattle.floor_rooms.specs.declared.stall.Stall.{Stall}
 use Rattle.floor_rooms.specs.declared.room.Room.{Room}
 use Rattle.floor_rooms.specs.declared.hall.Hall.{Hall}

@@ -22,7 +22,7 @@ use Rattle.channel_core.specs.declared.answers.Next.{Next}
 use Rattle.channel_core.specs.declared.answers.Next.TheVariants as next
 use Rattle.channel_core.specs.Drawing.{Draws, NextWhere, ready_of}
 use Rattle.channel_core.specs.Seen.{queued_in, seen_channel}
-use Rattle.floor_clients.specs.Seen.{held_channel}
+use Rattle.floor_rooms.specs.Seen.{held_channel}
 use Rattle.floor_laws.proofs.Counting.{counts_alike, none_sent}
 use Rattle.floor_laws.proofs.Pairs.{IfBoth}
 use Rattle.floor_rooms.specs.declared.stall.Stall.{Stall}

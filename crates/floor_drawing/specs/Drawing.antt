@@ -9,9 +9,9 @@ use Rattle.broker_history.specs.declared.entry.Entry.{Entry}
 use Rattle.broker_history.specs.State.{Client}
 use Rattle.broker_history.specs.Credit.{is_quiet}
 use Rattle.broker_history.specs.Entries.{History}
-use Rattle.desk.specs.declared.call.Call.TheVariants as call
-use Rattle.desk.specs.declared.turned.Turned.{Turned}
-use Rattle.desk.specs.declared.turned.Turned.TheVariants as turned
+use Rattle.broker_history.specs.declared.call.Call.TheVariants as call
+use Rattle.broker_history.specs.declared.turned.Turned.{Turned}
+use Rattle.broker_history.specs.declared.turned.Turned.TheVariants as turned
 use Rattle.floor_rooms.specs.declared.stall.Stall.{Stall}
 use Rattle.floor_rooms.specs.declared.room.Room.{Room}
 use Rattle.floor_rooms.specs.declared.hall.Hall.{Hall}
@@ -19,7 +19,7 @@ use Rattle.floor_rooms.specs.Rooms.{channel_name, client_in, topic_name}
 use Rattle.floor_turns.specs.Place.{Place}
 use Rattle.floor_turns.specs.Moves.{Keeps, Notes, Sight}
 use Rattle.floor_acts.specs.Spots.{GetsOf}
-use Rattle.turn_laws.specs.Laid.{IsHeld}
+use Rattle.floor_laws.specs.Laid.{IsHeld}
 use Rattle.floor_turns.specs.Acting.{Acts}
 use Rattle.floor_drawing.specs.declared.drawing.Round.{Round}
 use Rattle.floor_drawing.specs.declared.drawing.Round.TheVariants as round

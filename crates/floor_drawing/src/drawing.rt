@@ -1,5 +1,5 @@
 ghost use Rattle.std.specs.Prelude.{◌≡◌, ◌≤◌, IsTrue, false, length};
-ghost use Rattle.desk.specs.declared.call.Call.TheVariants as calls;
+ghost use Rattle.broker_history.specs.declared.call.Call.TheVariants as calls;
 ghost use Rattle.floor_rooms.specs.Changes.{OnlyQueueFiles};
 ghost use Rattle.floor_rooms.specs.Sound.{IsSound};
 ghost use Rattle.floor_turns.specs.Plans.{DrawsAt};
@@ -9,9 +9,8 @@ ghost use Rattle.floor_drawing.specs.Drawing.{IsServedAt, Rounds};
 
 use crate::noting::{rest, stick};
 use crate::sending::send;
-use broker_history::Entry;
+use broker_history::{Entry, Turned};
 use channel_core::Next;
-use desk::Turned;
 use floor_rooms::Hall;
 use floor_turns::{Place, hold_back};
 use nsq_base::{MsgId, Steps};

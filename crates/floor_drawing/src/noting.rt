@@ -5,8 +5,7 @@ ghost use Rattle.floor_turns.specs.Acting.{IsNoted};
 ghost use Rattle.floor_drawing.specs.Drawing.{IsIdleBy, SticksAt, entry_of};
 
 use crate::sending::lend;
-use broker_history::{Act, Entry};
-use desk::Turned;
+use broker_history::{Act, Entry, Turned};
 use floor_rooms::Hall;
 use floor_turns::Place;
 use nsq_outside::{End, Journal};

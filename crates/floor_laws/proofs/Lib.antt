@@ -2,3 +2,8 @@ pub mod Lifting
 pub mod Counting
 pub mod Paying
 pub mod Pairs
+pub mod Laying
+pub mod Allowing
+pub mod Beginning
+pub mod Faulting
+pub mod Ticking

@@ -1,3 +1,5 @@
 pub mod Lifting
 pub mod Counts
 pub mod Paying
+pub mod Laid
+pub mod Laws

@@ -1,6 +1,8 @@
 //! What a floor rests on, as laws: what its channels keep changes and counts as the channels of a state do, and what stands in a turn before its act.
-//! Each function's contract is a law, and its body is empty.
+//! Each function's contract is a law, and its body is empty. `turns` has what a turn notes, and what follows from that.
 #![tactic(auto)]
+
+pub mod turns;
 
 ghost use Rattle.floor_laws.specs.Lifting.{SendsLift, FinishesLift, TouchesLift, GivesBackLift, TimesOutLift, ComesDueLift, HoldsBackLift, GetsLift, SameIsKept, NewIsKept, EmptiedIsKept, PausedIsKept, DueCanMove, DueCanCome, AnyCanJoin};
 ghost use Rattle.floor_laws.specs.Counts.{KeptCountsAlike, LiveTestsAlike, NoneIsDue, NoneCanBeSent};

@@ -26,7 +26,7 @@ use Rattle.broker_history.proofs.Lists.{exact_bytes, find_passes}
 use Rattle.topic_core.specs.Seen.{Seen as TopicSeen, fresh_topic, owed_of, queue_options}
 use Rattle.topic_core.specs.Kept.{IsNamed}
 use Rattle.topic_core.specs.Rows.{IsTopicOf}
-use Rattle.floor_clients.specs.Places.{AreInOrder}
+use Rattle.floor_rooms.specs.ClientPlaces.{AreInOrder}
 use Rattle.floor_laws.proofs.Pairs.{IfBoth, pairs_found}
 use Rattle.floor_rooms.specs.declared.stall.Stall.{Stall}
 use Rattle.floor_rooms.specs.declared.room.Room.{Room}

@@ -33,7 +33,7 @@ use Rattle.channel_core.specs.Clients.{client_of}
 use Rattle.channel_core.specs.Answers.{all_due}
 use Rattle.channel_core.specs.Made.{FitsRun, IsFresh, about_of, queue_options}
 use Rattle.channel_core.specs.Seen.{Seen as ChannelSeen, channel_with, queue_name, seen_channel}
-use Rattle.floor_clients.specs.Seen.{held_channel}
+use Rattle.floor_rooms.specs.Seen.{held_channel}
 use Rattle.floor_laws.proofs.Lifting.{new_kept}
 use Rattle.floor_laws.proofs.Pairs.{IfBoth, pairs_found, pairs_put}
 use Rattle.floor_rooms.specs.declared.stall.Stall.{Stall}

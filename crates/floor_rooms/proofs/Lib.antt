@@ -1,3 +1,5 @@
+pub mod ClientPlacing
+pub mod Putting
 pub mod Placing
 pub mod Staying
 pub mod Changing

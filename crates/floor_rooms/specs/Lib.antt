@@ -1,3 +1,6 @@
+pub mod Seen
+pub mod ClientPlaces
+pub mod Laws
 pub mod Rooms
 pub mod Places
 pub mod Sound

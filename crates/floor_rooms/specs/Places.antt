@@ -3,7 +3,7 @@ use Rattle.std.specs.Prelude.{◌≡◌, ℕ, List, Option, Some, None, find, sl
 use Rattle.std.specs.Str.{bytes_eq}
 use Rattle.nsq_base.specs.Places.{StandsAt}
 use Rattle.broker_history.specs.State.{Client}
-use Rattle.floor_clients.specs.Places as clients
+use Rattle.floor_rooms.specs.ClientPlaces as clients
 use Rattle.floor_rooms.specs.Rooms.{client_in}
 
 -- the item of this name stands at a place, and is the one that is found by the name

@@ -17,8 +17,8 @@ use Rattle.channel_core.specs.Answers.{all_due}
 use Rattle.channel_core.specs.Made.{about_of, queue_options}
 use Rattle.channel_core.specs.Seen.{Seen as ChannelSeen, channel_with, queue_name}
 use Rattle.channel_core.specs.declared.drawn.Drawn.TheVariants.{Nothing}
-use Rattle.floor_clients.specs.Places.{AreInOrder}
-use Rattle.floor_clients.specs.Seen.{held_channel}
+use Rattle.floor_rooms.specs.ClientPlaces.{AreInOrder}
+use Rattle.floor_rooms.specs.Seen.{held_channel}
 use Rattle.floor_rooms.specs.declared.stall.Stall.{Stall}
 use Rattle.floor_rooms.specs.declared.room.Room.{Room}
 use Rattle.floor_rooms.specs.declared.hall.Hall.{Hall}

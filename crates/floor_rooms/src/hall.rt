@@ -6,8 +6,7 @@ ghost use Rattle.floor_rooms.specs.Made.{IsEmptyHall, IsUnused, empty_state};
 ghost use Rattle.floor_rooms.specs.Sound.{IsSound};
 ghost use Rattle.floor_rooms.specs.Standing.{HoldsFor, StandsFor};
 
-use crate::Room;
-use floor_clients::Client;
+use crate::{Client, Room};
 use nsq_base::{Options, Topic};
 use std::alloc::Global;
 use std::collections::VecDeque;

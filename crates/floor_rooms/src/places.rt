@@ -4,8 +4,7 @@ ghost use Rattle.floor_rooms.specs.Places.{IsClientPlace, IsPlace};
 ghost use Rattle.floor_rooms.specs.Rooms.{channel_name, topic_name};
 ghost use Rattle.floor_rooms.specs.Sound.{IsSound};
 
-use crate::Hall;
-use floor_clients::place_of;
+use crate::{Hall, place_of};
 use nsq_base::{Chan, Topic};
 
 /// Where things stand.

@@ -3,8 +3,7 @@
 use crate::entries::told_by;
 use crate::stats::put_stats;
 use crate::texts::{put, put_names, put_number, put_sent};
-use broker_history::{Act, Said};
-use desk::Turned;
+use broker_history::{Act, Said, Turned};
 use nsq_base::Names;
 use nsq_outside::End;
 use std::alloc::Global;

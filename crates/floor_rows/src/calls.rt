@@ -2,11 +2,10 @@
 //! of one of the first sixteen of the first run.
 
 ghost use Rattle.std.specs.Prelude.{◌≡◌, ◌∷◌, [], IfSome};
-ghost use Rattle.desk.specs.Calls.{CanAsk, CanCall};
+ghost use Rattle.broker_history.specs.Calls.{CanAsk, CanCall};
 
 use crate::texts::{FIRST_IDS, count_of, parted, put, put_word};
-use broker_history::Ask;
-use desk::Call;
+use broker_history::{Ask, Call};
 use nsq_base::{Bodies, Body, Chan, Topic};
 use std::alloc::Global;
 use std::process::Abort;

@@ -1,8 +1,7 @@
 //! Entries as text, and whether they are those of a turn.
 
 use crate::texts::{put, put_channels, put_id, put_message, put_number, put_sent, put_word, same};
-use broker_history::{Act, Ask, Entry};
-use desk::Call;
+use broker_history::{Act, Ask, Call, Entry};
 use nsq_base::{Body, Chan, Names, Topic};
 use nsq_outside::End;
 use std::process::Abort;

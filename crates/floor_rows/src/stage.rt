@@ -3,7 +3,7 @@
 ghost use Rattle.std.specs.Prelude.{◌≡◌, false};
 ghost use Rattle.nsq_base.specs.Options.{IsInRange};
 ghost use Rattle.broker_floor.specs.Floors.{flushed_of};
-ghost use Rattle.desk.specs.Calls.{CanCall};
+ghost use Rattle.broker_history.specs.Calls.{CanCall};
 
 use crate::answers::put_answer;
 use crate::calls::call_of;
@@ -16,10 +16,8 @@ use crate::texts::{
     halves, parted, put, put_flag, put_line, put_names, put_number, put_word, same,
 };
 use backlog::Flushed;
-use broker_floor::Floor;
-use broker_history::Entry;
-use data_path::{Refused, Saved, ShutEnd, Why, open, save, shut};
-use desk::{Call, Turned};
+use broker_floor::{Floor, Refused, Saved, ShutEnd, Why, open, save, shut};
+use broker_history::{Call, Entry, Turned};
 use names_file::{KeptChannel, KeptTopic};
 use nsq_base::Options;
 use nsq_fakes::{Failing, MemFolder};

@@ -15,8 +15,8 @@ use Rattle.broker_history.specs.Changes.{set_paused}
 use Rattle.broker_history.specs.Reply.{are_left}
 use Rattle.broker_history.specs.Said.{Says, said_of}
 use Rattle.broker_history.specs.Step.{carried_out, is_done}
-use Rattle.desk.specs.declared.turned.Turned.TheVariants as turned
-use Rattle.floor_members.specs.Lost.TheVariants as losing
+use Rattle.broker_history.specs.declared.turned.Turned.TheVariants as turned
+use Rattle.floor_calls.specs.Lost.TheVariants as losing
 use Rattle.floor_rooms.specs.declared.room.Room.{Room}
 use Rattle.floor_rooms.specs.declared.stall.Stall.{Stall}
 use Rattle.floor_rooms.specs.declared.hall.Hall.{Hall}
@@ -25,10 +25,10 @@ use Rattle.floor_rooms.specs.Rooms.{channel_name, room_in, stall_in, topic_name}
 use Rattle.floor_rooms.specs.Sound.{IsSound}
 use Rattle.floor_rooms.specs.Standing.{Carries, HoldsFor}
 use Rattle.floor_rooms.proofs.Forming.{some_at}
-use Rattle.floor_members.specs.Deleting.{DeletesChannel, DeletesTopic}
-use Rattle.floor_members.specs.Deleted.TheVariants as deleting
-use Rattle.floor_plans.specs.Asked.{found_where}
-use Rattle.floor_plans.proofs.Saying.{said_is}
+use Rattle.floor_calls.specs.Deleting.{DeletesChannel, DeletesTopic}
+use Rattle.floor_calls.specs.Deleted.TheVariants as deleting
+use Rattle.floor_calls.specs.Asked.{found_where}
+use Rattle.floor_calls.proofs.Saying.{said_is}
 use Rattle.floor_drawing.specs.Acting.{LeavesClients, SameClients}
 use Rattle.floor_serving.specs.declared.served.Served.{Served}
 use Rattle.floor_serving.specs.declared.served.Served.TheVariants.{Done, Fault}

@@ -15,10 +15,10 @@ use Rattle.floor_rooms.specs.Changes.{KeepsSince, OnlyQueueFiles}
 use Rattle.floor_rooms.specs.Kept.{NamesTold}
 use Rattle.floor_rooms.specs.Sound.{IsSound}
 use Rattle.floor_rooms.specs.Standing.{Carries}
-use Rattle.floor_plans.specs.Replies.{IsShortFrame}
-use Rattle.floor_members.specs.Acts.{ChangesAt, DoesAt}
-use Rattle.floor_members.specs.Published.{Published}
-use Rattle.floor_members.specs.Published.TheVariants as published_so
+use Rattle.floor_calls.specs.Replies.{IsShortFrame}
+use Rattle.floor_calls.specs.Acts.{ChangesAt, DoesAt}
+use Rattle.floor_calls.specs.Published.{Published}
+use Rattle.floor_calls.specs.Published.TheVariants as published_so
 use Rattle.floor_drawing.specs.Acting.{SameClients, StaysSet}
 use Rattle.floor_serving.specs.declared.commanded.Commanded.TheVariants as commanded
 use Rattle.floor_serving.specs.Carrying.{Around, basis}

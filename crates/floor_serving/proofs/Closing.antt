@@ -10,9 +10,9 @@ use Rattle.broker_history.specs.declared.entry.Act.TheVariants.{Began, Beat, Gon
 use Rattle.broker_history.specs.State.{Client, State, put_client, without_client}
 use Rattle.broker_history.specs.Entries.{is_stop}
 use Rattle.broker_history.specs.Step.{DoesAct, new_client}
-use Rattle.desk.specs.Answers.{IsShortAnswer}
-use Rattle.desk.specs.declared.turned.Turned.{Turned}
-use Rattle.floor_clients.proofs.Putting.{found_gone, found_put}
+use Rattle.broker_history.specs.Answers.{IsShortAnswer}
+use Rattle.broker_history.specs.declared.turned.Turned.{Turned}
+use Rattle.floor_rooms.proofs.Putting.{found_gone, found_put}
 use Rattle.floor_rooms.specs.declared.hall.Hall.{Hall}
 use Rattle.floor_rooms.specs.Changes.{KeepsRooms}
 use Rattle.floor_rooms.specs.Places.{IsClientPlace}
@@ -21,7 +21,7 @@ use Rattle.floor_rooms.specs.Sound.{IsSound}
 use Rattle.floor_rooms.specs.Standing.{Carries}
 use Rattle.floor_rooms.proofs.Dating.{keeps_same}
 use Rattle.floor_rooms.proofs.Forming.{some_at}
-use Rattle.floor_plans.specs.Plans.{IsShortAct}
+use Rattle.floor_calls.specs.Plans.{IsShortAct}
 use Rattle.floor_drawing.specs.Acting.{LeavesClients, SameClients, StaysSet, answer_of, there_after}
 use Rattle.floor_drawing.proofs.Carrying.{entry_of}
 use Rattle.floor_serving.specs.declared.carried.Carried.{Carried}

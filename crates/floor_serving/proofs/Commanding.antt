@@ -13,17 +13,17 @@ use Rattle.broker_history.specs.State.{Client, State, is_fresh}
 use Rattle.broker_history.specs.Step as step
 use Rattle.broker_history.specs.Step.{CanFault, IsAllowedAct, is_error, is_kept_off}
 use Rattle.negotiation.specs.declared.identity.Identity.{Identity}
-use Rattle.floor_clients.specs.Seen.{held_channel}
-use Rattle.floor_members.specs.Seating.{IsFree}
+use Rattle.floor_rooms.specs.Seen.{held_channel}
+use Rattle.floor_calls.specs.Seating.{IsFree}
 use Rattle.floor_rooms.specs.declared.hall.Hall.{Hall}
 use Rattle.floor_rooms.specs.Places.{IsClientPlace}
 use Rattle.floor_rooms.specs.Rooms.{client_in}
 use Rattle.floor_rooms.specs.Sound.{IsSound}
 use Rattle.floor_rooms.specs.Standing.{Carries}
-use Rattle.floor_plans.specs.Replies.{IsShort, KnowsOf, flies_in}
-use Rattle.floor_members.specs.Acts.{DoesAt}
+use Rattle.floor_calls.specs.Replies.{IsShort, KnowsOf, flies_in}
+use Rattle.floor_calls.specs.Acts.{DoesAt}
 use Rattle.floor_drawing.specs.Acting.{ActCarries, IsPlanned, LeavesClients, SameClients, StaysSet, answer_to}
-use Rattle.desk.specs.Answers.{IsShortAnswer}
+use Rattle.broker_history.specs.Answers.{IsShortAnswer}
 use Rattle.floor_serving.specs.declared.carried.Carried.{Carried}
 use Rattle.floor_serving.specs.declared.commanded.Commanded.TheVariants as commanded
 use Rattle.floor_serving.specs.Carrying.{Around, Basis, CarriesOut, basis}
@@ -31,7 +31,7 @@ use Rattle.floor_serving.specs.Commands.{CarriesCommand, IsAccepted, IsLine, IsN
 use Rattle.floor_serving.proofs.Conditions.{at_accepted, can_fault}
 use Rattle.floor_serving.proofs.Planning.{IsDid, planned_did}
 use Rattle.floor_serving.proofs.Staying.{around_kept}
-use Rattle.floor_members.proofs.Marks.{some_same}
+use Rattle.floor_calls.proofs.Marks.{some_same}
 
 -- which command it isn't
 pub no_identify : (c : Command) → ((body : List ℕ) → c ≡ command.Identify body → ⊥) → IsNoIdentify c

@@ -17,13 +17,13 @@ use Rattle.broker_history.specs.Identify.{identity_of}
 use Rattle.nsq_outside.specs.Files.{Files}
 use Rattle.broker_history.specs.Reply.{are_left, count_of, delayed_reply, disk_reply, error, flight_reply, identified, ids_spent, is_delay, not_in_flight, ok_frame, publish_reply, ready_reply, reply_by, response, span_of, wrong_state}
 use Rattle.broker_history.specs.Step.{CanFault, is_error, ready_for, spoke}
-use Rattle.desk.specs.Calls.{IsAllowedBody, IsWhole}
+use Rattle.broker_history.specs.Calls.{IsAllowedBody, IsWhole}
 use Rattle.floor_rooms.specs.declared.hall.Hall.{Hall}
 use Rattle.floor_rooms.specs.Standing.{longest_delay}
-use Rattle.floor_plans.specs.Replies.{SaysOf, flies_in}
+use Rattle.floor_calls.specs.Replies.{SaysOf, flies_in}
 use Rattle.negotiation.specs.Said.{IsTimely, said}
 use Rattle.negotiation.specs.declared.identity.Identity.{Identity}
-use Rattle.floor_members.specs.Acts.{DoesAt, FliesAt}
+use Rattle.floor_calls.specs.Acts.{DoesAt, FliesAt}
 use Rattle.floor_serving.specs.Commands.{IsAccepted}
 
 -- a reply that is chosen by a test, and is an error where that fails

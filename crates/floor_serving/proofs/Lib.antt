@@ -10,4 +10,4 @@ pub mod Staying
 pub use Rattle.floor_drawing.proofs.Following
 pub use Rattle.floor_drawing.proofs.Tying
 pub use Rattle.floor_drawing.proofs.Leading
-pub use Rattle.floor_plans.proofs.KeptNames
+pub use Rattle.floor_calls.proofs.KeptNames

@@ -9,14 +9,14 @@ use Rattle.broker_history.specs.declared.ask.Said.{Said}
 use Rattle.broker_history.specs.declared.entry.Act.{Act}
 use Rattle.broker_history.specs.declared.entry.Act.TheVariants.{Began, Did, Refused, Beat, Idle, Silent, Dropped, Gone, Asked, Listed, Ticked, Stop}
 use Rattle.broker_history.specs.State.{Client, is_lost}
-use Rattle.desk.specs.Calls.{CanAsk, CanCall, IsWhole}
-use Rattle.desk.specs.declared.call.Call.{Call}
-use Rattle.desk.specs.declared.call.Call.TheVariants as call
+use Rattle.broker_history.specs.Calls.{CanAsk, CanCall, IsWhole}
+use Rattle.broker_history.specs.declared.call.Call.{Call}
+use Rattle.broker_history.specs.declared.call.Call.TheVariants as call
 use Rattle.negotiation.specs.declared.identity.Identity.{Identity}
 use Rattle.floor_rooms.specs.declared.hall.Hall.{Hall}
 use Rattle.floor_rooms.specs.Rooms.{client_in}
-use Rattle.floor_plans.specs.Replies.{reply_in}
-use Rattle.floor_plans.specs.Plans.{IsCallsAct, IsNextAct, is_strange}
+use Rattle.floor_calls.specs.Replies.{reply_in}
+use Rattle.floor_calls.specs.Plans.{IsCallsAct, IsNextAct, is_strange}
 use Rattle.floor_drawing.specs.Acting.{IsPlanned}
 use Rattle.floor_serving.specs.Carrying.{IsLeft, IsNoCommand}
 

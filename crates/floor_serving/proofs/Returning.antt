@@ -14,8 +14,8 @@ use Rattle.channel_core.specs.declared.answers.Requeue.TheVariants as answer
 use Rattle.floor_rooms.specs.declared.hall.Hall.{Hall}
 use Rattle.floor_rooms.specs.Changes.{KeepsRooms, OnlyQueueFiles}
 use Rattle.floor_rooms.specs.Sound.{IsSound}
-use Rattle.floor_plans.specs.Replies.{IsShort, IsShortFrame}
-use Rattle.floor_members.specs.Acts.{ChangesAt, RequeuesAt, gave_back}
+use Rattle.floor_calls.specs.Replies.{IsShort, IsShortFrame}
+use Rattle.floor_calls.specs.Acts.{ChangesAt, RequeuesAt, gave_back}
 use Rattle.floor_drawing.specs.Acting.{SameClients}
 use Rattle.floor_serving.specs.declared.commanded.Commanded.TheVariants as commanded
 use Rattle.floor_serving.specs.Carrying.{Around, basis}

@@ -4,8 +4,8 @@ use Rattle.std.specs.Prelude.{IsTrue}
 use Rattle.std.proofs.lemmas.List.{get_or_default}
 use Rattle.nsq_outside.specs.Files.{Files}
 use Rattle.broker_history.specs.State.{Client}
-use Rattle.floor_clients.specs.Places.{AreInOrder}
-use Rattle.floor_clients.proofs.Putting.{found_put}
+use Rattle.floor_rooms.specs.ClientPlaces.{AreInOrder}
+use Rattle.floor_rooms.proofs.Putting.{found_put}
 use Rattle.floor_rooms.specs.declared.hall.Hall.{Hall}
 use Rattle.floor_rooms.specs.Changes.{KeepsRooms, KeepsSince, OnlyQueueFiles}
 use Rattle.floor_rooms.specs.Kept.{NamesTold}
@@ -14,8 +14,8 @@ use Rattle.floor_rooms.specs.Sound.{IsSound}
 use Rattle.floor_rooms.proofs.Dating.{keeps_equal, since_kept}
 use Rattle.floor_rooms.proofs.Forming.{some_at}
 use Rattle.floor_rooms.proofs.Naming.{names_kept, names_then}
-use Rattle.floor_members.specs.Acts.{ChangesAt}
-use Rattle.floor_members.proofs.Putting.{found_at_place, put_at_place}
+use Rattle.floor_calls.specs.Acts.{ChangesAt}
+use Rattle.floor_calls.proofs.Putting.{found_at_place, put_at_place}
 use Rattle.floor_drawing.specs.Acting.{SameClients, StaysSet}
 use Rattle.floor_drawing.proofs.Carrying.{stays_same}
 use Rattle.floor_serving.specs.Carrying.{Around, basis}

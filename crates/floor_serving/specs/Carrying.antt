@@ -6,7 +6,7 @@ use Rattle.broker_history.specs.Entries.{is_faulted}
 use Rattle.broker_history.specs.State.{State}
 use Rattle.broker_history.specs.declared.entry.Act.{Act}
 use Rattle.broker_history.specs.declared.entry.Act.TheVariants as act
-use Rattle.desk.specs.Answers.{IsShortAnswer}
+use Rattle.broker_history.specs.Answers.{IsShortAnswer}
 use Rattle.floor_rooms.specs.declared.hall.Hall.{Hall}
 use Rattle.floor_rooms.specs.Changes.{OnlyQueueFiles}
 use Rattle.floor_rooms.specs.Sound.{IsSound}

@@ -10,11 +10,11 @@ use Rattle.broker_history.specs.Changes.{published}
 use Rattle.broker_history.specs.Reply.{disk_fault, disk_reply}
 use Rattle.broker_history.specs.Step as step
 use Rattle.broker_history.specs.Step.{is_error}
-use Rattle.desk.specs.Calls.{IsWhole}
+use Rattle.broker_history.specs.Calls.{IsWhole}
 use Rattle.negotiation.specs.declared.identity.Identity.{Identity}
 use Rattle.floor_rooms.specs.declared.hall.Hall.{Hall}
-use Rattle.floor_plans.specs.Replies.{IsShortFrame, SaysOf, reply_in}
-use Rattle.floor_members.specs.Acts.{DoesAt}
+use Rattle.floor_calls.specs.Replies.{IsShortFrame, SaysOf, reply_in}
+use Rattle.floor_calls.specs.Acts.{DoesAt}
 use Rattle.floor_drawing.specs.Acting.{SameClients}
 use Rattle.floor_serving.specs.declared.commanded.Commanded.{Commanded}
 use Rattle.floor_serving.specs.declared.commanded.Commanded.TheVariants.{Done, Fault}

@@ -9,5 +9,5 @@ pub use Rattle.floor_drawing.specs.Turns
 pub use Rattle.floor_drawing.specs.Scenes
 pub use Rattle.floor_drawing.specs.Leads
 pub use Rattle.floor_drawing.specs.Moves
-pub use Rattle.floor_plans.specs.Plans
+pub use Rattle.floor_calls.specs.Plans
 pub use Rattle.floor_drawing.specs.Flushing

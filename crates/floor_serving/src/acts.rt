@@ -8,10 +8,8 @@ ghost use Rattle.floor_drawing.specs.Acting.{answer_of};
 ghost use Rattle.floor_serving.specs.Carrying.{CarriesOut, IsLeft, basis};
 
 use crate::carried::Carried;
-use broker_history::Act;
-use desk::Turned;
-use floor_members::{beat, begin, gone, stop};
-use floor_plans::beat_frame;
+use broker_history::{Act, Turned};
+use floor_calls::{beat, beat_frame, begin, gone, stop};
 use floor_rooms::Hall;
 use nsq_base::Memory;
 use nsq_outside::{End, Folder};

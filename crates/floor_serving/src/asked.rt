@@ -1,7 +1,7 @@
 ghost use Rattle.std.specs.Prelude.{◌≡◌, ◌≤◌, IsTrue, length, ℕ};
 ghost use Rattle.broker_history.specs.declared.entry.Act.TheVariants.{Asked};
 ghost use Rattle.broker_history.specs.declared.ask.Ask.TheVariants as ask;
-ghost use Rattle.desk.specs.Calls.{CanAsk};
+ghost use Rattle.broker_history.specs.Calls.{CanAsk};
 ghost use Rattle.floor_rooms.specs.Sound.{IsSound};
 ghost use Rattle.floor_serving.specs.Carrying.{CarriesOut, basis};
 ghost use Rattle.floor_serving.specs.Asks.{CarriesAsk};
@@ -12,8 +12,7 @@ use crate::requests::{
     serve_creation, serve_deletion, serve_emptying, serve_nothing, serve_pause, serve_publish,
 };
 use crate::served::Served;
-use broker_history::{Ask, Said};
-use desk::Turned;
+use broker_history::{Ask, Said, Turned};
 use floor_rooms::Hall;
 use nsq_base::Memory;
 use nsq_outside::{End, Folder};

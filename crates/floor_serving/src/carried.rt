@@ -1,4 +1,4 @@
-use desk::Turned;
+use broker_history::Turned;
 use nsq_outside::End;
 
 /// How an act ended that was carried out, and what its call is answered.

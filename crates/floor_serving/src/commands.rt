@@ -13,7 +13,7 @@ use crate::flights::{finish_own, requeue_own, touch_own};
 use crate::publishing::{publish_batch, publish_delayed, publish_one};
 use crate::replied::{is_error, kept_off, replied};
 use crate::spans::count_of;
-use floor_members::{close, identify, set_ready, speak, subscribe};
+use floor_calls::{close, identify, set_ready, speak, subscribe};
 use floor_rooms::Hall;
 use negotiation::Identity;
 use nsq_base::{Body, Chan, Memory, Steps, Topic};

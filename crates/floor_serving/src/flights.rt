@@ -3,7 +3,7 @@ ghost use Rattle.nsq_outside.specs.Files.{Files};
 ghost use Rattle.v2_frame.specs.declared.command.Command.TheVariants as command;
 ghost use Rattle.broker_history.specs.Reply.{disk_fault};
 ghost use Rattle.floor_rooms.specs.Sound.{IsSound};
-ghost use Rattle.floor_plans.specs.Replies.{IsShort};
+ghost use Rattle.floor_calls.specs.Replies.{IsShort};
 ghost use Rattle.floor_serving.specs.Carrying.{basis};
 ghost use Rattle.floor_serving.specs.Commands.{CarriesCommand, IsAccepted};
 
@@ -11,7 +11,7 @@ use crate::commanded::Commanded;
 use crate::spans::span_of;
 use channel_core::Requeue;
 use disk_refusals::disk_fault;
-use floor_members::{finish, requeue, touch};
+use floor_calls::{finish, requeue, touch};
 use floor_rooms::Hall;
 use nsq_base::{Memory, MsgId, Steps};
 use nsq_outside::Folder;

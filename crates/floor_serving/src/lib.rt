@@ -25,6 +25,6 @@ mod served;
 mod serving;
 mod spans;
 
+pub use floor_calls::{kept, names};
 pub use floor_drawing::flush_all;
-pub use floor_plans::{kept, names};
 pub use serving::turn_at;

@@ -2,7 +2,7 @@ ghost use Rattle.std.specs.Prelude.{◌≡◌, ◌∷◌, [], ◌+◌, ◌≤◌
 ghost use Rattle.v2_frame.specs.declared.command.Command.{Command};
 ghost use Rattle.v2_frame.specs.declared.command.Command.TheVariants as command;
 ghost use Rattle.broker_history.specs.Reply.{span_of};
-ghost use Rattle.floor_members.specs.Published.TheVariants as published_so;
+ghost use Rattle.floor_calls.specs.Published.TheVariants as published_so;
 ghost use Rattle.floor_rooms.specs.Sound.{IsSound};
 ghost use Rattle.floor_rooms.specs.Standing.{longest_delay};
 ghost use Rattle.floor_serving.specs.Carrying.{basis};
@@ -11,7 +11,7 @@ ghost use Rattle.floor_serving.specs.Commands.{CarriesCommand, IsAccepted, IsPub
 use crate::commanded::Commanded;
 use crate::spans::span_of;
 use disk_refusals::publish_refusal;
-use floor_members::{Published, publish, speak};
+use floor_calls::{Published, publish, speak};
 use floor_rooms::Hall;
 use nsq_base::{Bodies, Body, Memory, Topic};
 use nsq_outside::Folder;

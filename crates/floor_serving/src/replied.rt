@@ -4,9 +4,8 @@ ghost use Rattle.broker_history.specs.Step.{is_done, is_error};
 ghost use Rattle.floor_drawing.specs.Acting.{answer_to};
 
 use crate::carried::Carried;
-use broker_history::Said;
-use desk::Turned;
-use floor_plans::closes;
+use broker_history::{Said, Turned};
+use floor_calls::closes;
 use nsq_outside::End;
 use v2_frame::{Frame, FrameKind};
 

@@ -1,18 +1,17 @@
 ghost use Rattle.std.specs.Prelude.{◌≡◌, ◌≤◌, Bool, ℕ, length};
 ghost use Rattle.nsq_outside.specs.Files.{Files};
 ghost use Rattle.broker_history.specs.declared.ask.Ask.TheVariants as ask;
-ghost use Rattle.desk.specs.Calls.{CanAsk};
+ghost use Rattle.broker_history.specs.Calls.{CanAsk};
 ghost use Rattle.floor_rooms.specs.Sound.{IsSound};
 ghost use Rattle.floor_serving.specs.Carrying.{basis};
 ghost use Rattle.floor_serving.specs.Asks.{CarriesAsk, pauses};
 
 use crate::served::Served;
 use disk_queue::Emptied;
-use floor_members::{
-    Deleted, Lost, Published, create, delete_channel, delete_topic, empty_channel, empty_topic,
-    pause, pause_channel, publish,
+use floor_calls::{
+    Deleted, Lost, Published, are_left, create, delete_channel, delete_topic, empty_channel,
+    empty_topic, pause, pause_channel, publish,
 };
-use floor_plans::are_left;
 use floor_rooms::Hall;
 use nsq_base::{Bodies, Chan, Memory, Topic};
 use nsq_outside::Folder;

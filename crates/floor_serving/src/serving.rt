@@ -1,10 +1,10 @@
 ghost use Rattle.std.specs.Prelude.{◌≡◌, ◌&&◌, ◌≤◌, IsTrue, false, not, true, length};
 ghost use Rattle.broker_history.specs.Entries.{History};
-ghost use Rattle.desk.specs.Calls.{CanCall};
-ghost use Rattle.desk.specs.declared.call.Call.{Call as AnyCall};
+ghost use Rattle.broker_history.specs.Calls.{CanCall};
+ghost use Rattle.broker_history.specs.declared.call.Call.{Call as AnyCall};
 ghost use Rattle.floor_rooms.specs.Changes.{OnlyQueueFiles};
 ghost use Rattle.floor_rooms.specs.Sound.{IsSound};
-ghost use Rattle.floor_plans.specs.Plans.{Serves};
+ghost use Rattle.floor_calls.specs.Plans.{Serves};
 ghost use Rattle.floor_drawing.specs.Moves.{sight, Keeps};
 ghost use Rattle.floor_drawing.specs.Acting.{Acts};
 ghost use Rattle.floor_drawing.specs.Timely.{TicksTimely};
@@ -12,10 +12,9 @@ ghost use Rattle.floor_drawing.specs.Turning.{PaysFor, Settles, TakesTurn, ends_
 ghost use Rattle.floor_serving.specs.Ticks.{is_saving, is_ticking};
 
 use crate::acting::make_act;
-use broker_history::Entry;
-use desk::{Call, Turned};
+use broker_history::{Call, Entry, Turned};
+use floor_calls::{Plan, is_strange, plan_call};
 use floor_drawing::{Paid, Place, draw, pay, sync_all};
-use floor_plans::{Plan, is_strange, plan_call};
 use floor_rooms::Hall;
 use nsq_base::Steps;
 use nsq_outside::{Folder, Journal};

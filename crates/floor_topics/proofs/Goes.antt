@@ -33,8 +33,8 @@ use Rattle.broker_history.specs.State.{Route, State, Topic}
 use Rattle.broker_history.specs.Changes.{without_topic}
 use Rattle.broker_history.proofs.Lists.{exact_bytes, find_gone, same_bytes}
 use Rattle.channel_core.specs.Seen.{queue_name}
-use Rattle.floor_clients.specs.Places.{AreInOrder}
-use Rattle.floor_clients.specs.Seen.{held_channel}
+use Rattle.floor_rooms.specs.ClientPlaces.{AreInOrder}
+use Rattle.floor_rooms.specs.Seen.{held_channel}
 use Rattle.floor_laws.proofs.Pairs.{pairs_become, pairs_gone}
 use Rattle.floor_rooms.specs.declared.stall.Stall.{Stall}
 use Rattle.floor_rooms.specs.declared.room.Room.{Room}

@@ -9,7 +9,7 @@ use Rattle.std.proofs.lemmas.List.Kept.{AllPairs-cons}
 use Rattle.nsq_base.proofs.PutBy.{parts_at}
 use Rattle.broker_history.specs.State.{Client, Lost, has_channel}
 use Rattle.broker_history.specs.Changes.{lost}
-use Rattle.floor_clients.specs.Places.{AreInOrder, StandsAt}
+use Rattle.floor_rooms.specs.ClientPlaces.{AreInOrder, StandsAt}
 use Rattle.floor_rooms.specs.Rooms.{client_in}
 use Rattle.floor_rooms.specs.Sound.{AsksForNone}
 use Rattle.floor_topics.specs.Losing.{lost_among, lost_one}

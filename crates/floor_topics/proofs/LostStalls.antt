@@ -27,9 +27,9 @@ use Rattle.topic_core.specs.Rows.{IsTopicOf}
 use Rattle.topic_core.proofs.Heads.{head_changed}
 use Rattle.topic_core.proofs.Keeping.{save_stays, topic_stays}
 use Rattle.channel_core.specs.Seen.{queue_name}
-use Rattle.floor_clients.specs.Seen.{held_channel}
-use Rattle.floor_clients.specs.Places.{AreInOrder}
-use Rattle.floor_clients.proofs.Putting.{found_map}
+use Rattle.floor_rooms.specs.Seen.{held_channel}
+use Rattle.floor_rooms.specs.ClientPlaces.{AreInOrder}
+use Rattle.floor_rooms.proofs.Putting.{found_map}
 use Rattle.floor_laws.proofs.Pairs.{IfBoth, pairs_become, pairs_found, pairs_gone, pairs_put}
 use Rattle.floor_rooms.specs.declared.stall.Stall.{Stall}
 use Rattle.floor_rooms.specs.declared.room.Room.{Room}

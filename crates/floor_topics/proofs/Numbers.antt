@@ -2,7 +2,7 @@
 use Rattle.std.proofs.Common.{◌≡◌, ℕ, Bool, true, false, if◌then◌else◌, List, Option, Some, None, is_some, option_map, refl, ap, ◌∙◌}
 use Rattle.broker_history.specs.State.{Client, Lost as IsLost, has_channel}
 use Rattle.broker_history.specs.Changes.{lost}
-use Rattle.floor_clients.proofs.Putting.{found_map}
+use Rattle.floor_rooms.proofs.Putting.{found_map}
 use Rattle.floor_rooms.specs.Rooms.{client_in}
 use Rattle.floor_topics.specs.Losing.{LosesClients}
 use Rattle.floor_topics.specs.declared.lost.Lost.{Lost}

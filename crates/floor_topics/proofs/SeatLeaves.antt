@@ -11,9 +11,9 @@ use Rattle.nsq_outside.specs.Files.{Files}
 use Rattle.broker_history.specs.State.{Client, Closing, Fresh, Lost, Phase, Route, State, Subscribed, has_channel, is_lost, is_on, without_client}
 use Rattle.broker_history.proofs.Lists.{same_bytes}
 use Rattle.channel_copies.specs.Clients.{client_of}
-use Rattle.floor_clients.specs.Places.{AreInOrder}
-use Rattle.floor_clients.specs.Seen.{held_channel}
-use Rattle.floor_clients.proofs.Putting.{found_gone, gone_standing, order_gone}
+use Rattle.floor_rooms.specs.ClientPlaces.{AreInOrder}
+use Rattle.floor_rooms.specs.Seen.{held_channel}
+use Rattle.floor_rooms.proofs.Putting.{found_gone, gone_standing, order_gone}
 use Rattle.floor_rooms.specs.declared.stall.Stall.{Stall}
 use Rattle.floor_rooms.specs.declared.room.Room.{Room}
 use Rattle.floor_rooms.specs.declared.hall.Hall.{Hall}

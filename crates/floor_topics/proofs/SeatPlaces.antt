@@ -14,10 +14,10 @@ use Rattle.broker_history.specs.Step.{subscribed}
 use Rattle.broker_history.proofs.Lists.{exact_bytes, same_bytes}
 use Rattle.channel_copies.specs.Clients.{client_of}
 use Rattle.channel_copies.specs.declared.clients.Client.{Client as Known}
-use Rattle.floor_clients.specs.Places.{AreInOrder, StandsAt}
-use Rattle.floor_clients.specs.Seen.{held_channel}
-use Rattle.floor_clients.proofs.Placing.{stands}
-use Rattle.floor_clients.proofs.Putting.{found_put, order_put, put_standing}
+use Rattle.floor_rooms.specs.ClientPlaces.{AreInOrder, StandsAt}
+use Rattle.floor_rooms.specs.Seen.{held_channel}
+use Rattle.floor_rooms.proofs.ClientPlacing.{stands}
+use Rattle.floor_rooms.proofs.Putting.{found_put, order_put, put_standing}
 use Rattle.floor_rooms.specs.declared.stall.Stall.{Stall}
 use Rattle.floor_rooms.specs.declared.room.Room.{Room}
 use Rattle.floor_rooms.specs.declared.hall.Hall.{Hall}

@@ -21,8 +21,8 @@ use Rattle.topic_core.specs.Seen.{owed_of}
 use Rattle.channel_copies.specs.Clients.{client_of}
 use Rattle.channel_copies.specs.declared.clients.Client.{Client as Known}
 use Rattle.channel_core.specs.Seen.{Seen as ChannelSeen, seen_channel}
-use Rattle.floor_clients.specs.Places.{AreInOrder}
-use Rattle.floor_clients.specs.Seen.{held_channel}
+use Rattle.floor_rooms.specs.ClientPlaces.{AreInOrder}
+use Rattle.floor_rooms.specs.Seen.{held_channel}
 use Rattle.floor_laws.proofs.Pairs.{IfBoth, pairs_found}
 use Rattle.floor_rooms.specs.declared.stall.Stall.{Stall}
 use Rattle.floor_rooms.specs.declared.room.Room.{Room}

@@ -4,7 +4,7 @@ use Rattle.std.specs.List.{list_any}
 use Rattle.broker_history.specs.State.{Client, is_fresh}
 use Rattle.channel_copies.specs.Clients.{PutsClient}
 use Rattle.channel_copies.specs.declared.clients.Client as copies
-use Rattle.floor_clients.specs.Seen.{held_channel}
+use Rattle.floor_rooms.specs.Seen.{held_channel}
 use Rattle.floor_rooms.specs.declared.room.Room.{Room}
 use Rattle.floor_rooms.specs.declared.stall.Stall.{Stall}
 use Rattle.floor_rooms.specs.Rooms.{channel_name, topic_name}

@@ -4,7 +4,7 @@ ghost use Rattle.backlog.specs.Lists.{DiskChanges};
 ghost use Rattle.broker_history.specs.State.{is_ephemeral_channel};
 ghost use Rattle.channel_core.specs.Seen.{queue_name};
 ghost use Rattle.channel_core.specs.declared.drawn.Drawn.TheVariants as drawn;
-ghost use Rattle.floor_clients.specs.Places.{AreInOrder};
+ghost use Rattle.floor_rooms.specs.ClientPlaces.{AreInOrder};
 ghost use Rattle.topic_core.specs.Seen.{IsSettled};
 ghost use Rattle.floor_rooms.specs.Changes.{AtRoom, KeepsSince, OnlyQueueFiles, OthersStay};
 ghost use Rattle.floor_rooms.specs.Kept.{NamesTold};
@@ -18,8 +18,7 @@ ghost use Rattle.floor_topics.specs.declared.lost.Lost.TheVariants.{Done};
 use crate::Lost;
 use crate::items::put_back;
 use channel_core::DropChannel;
-use floor_clients::{Client, place_of};
-use floor_rooms::{Hall, Room, Stall};
+use floor_rooms::{Client, Hall, Room, Stall, place_of};
 use nsq_base::{Chan, Topic};
 use nsq_outside::Folder;
 

@@ -17,11 +17,11 @@ use Rattle.broker_history.specs.Reply.{did_answered}
 use Rattle.broker_history.specs.Entries.{History, faults_of, is_faulted, is_tick}
 use Rattle.broker_history.specs.Legal.{none}
 use Rattle.broker_history.specs.Step.{IsAllowedAct}
-use Rattle.desk.specs.declared.call.Call.{Call}
-use Rattle.desk.specs.declared.call.Call.TheVariants as call
-use Rattle.desk.specs.declared.turned.Turned.{Turned}
-use Rattle.desk.specs.declared.turned.Turned.TheVariants as turned
-use Rattle.desk.specs.Answers.{Answers, AnswersCommand, IsShortAnswer}
+use Rattle.broker_history.specs.declared.call.Call.{Call}
+use Rattle.broker_history.specs.declared.call.Call.TheVariants as call
+use Rattle.broker_history.specs.declared.turned.Turned.{Turned}
+use Rattle.broker_history.specs.declared.turned.Turned.TheVariants as turned
+use Rattle.broker_history.specs.Answers.{Answers, AnswersCommand, IsShortAnswer}
 use Rattle.negotiation.specs.declared.identity.Identity.{Identity}
 use Rattle.floor_rooms.specs.declared.hall.Hall.{Hall}
 use Rattle.floor_rooms.specs.Sound.{IsSound}

@@ -13,7 +13,7 @@ use Rattle.floor_rooms.specs.Rooms.{topic_name}
 use Rattle.floor_rooms.specs.Sound.{IsRoomSound, IsSound, rests}
 use Rattle.floor_rooms.specs.Standing.{HoldsFor, IsRoomOf}
 use Rattle.floor_rooms.proofs.Quieting.{none_due}
-use Rattle.turn_laws.proofs.Allowing.{moves_allow, stuck_allows, stuck_stops}
+use Rattle.floor_laws.proofs.Allowing.{moves_allow, stuck_allows, stuck_stops}
 use Rattle.floor_turns.specs.declared.paying.Paid.TheVariants as paid
 use Rattle.floor_turns.specs.Paying.{PaidMayAct, PaidMayStop}
 

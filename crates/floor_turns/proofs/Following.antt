@@ -12,11 +12,11 @@ use Rattle.floor_rooms.specs.declared.room.Room.{Room}
 use Rattle.floor_rooms.specs.declared.stall.Stall.{Stall}
 use Rattle.floor_rooms.specs.Rooms.{room_in, stall_at}
 use Rattle.floor_rooms.specs.Changes.{room_since, stall_since}
-use Rattle.turn_laws.specs.Laid.{AreTurns}
-use Rattle.turn_laws.specs.Laid as laid
-use Rattle.turn_laws.specs.Laws.{RoseBy}
-use Rattle.turn_laws.proofs.Laying.{timed_join, turns_join}
-use Rattle.turn_laws.proofs.Faulting.{faults_join, stuck_join}
+use Rattle.floor_laws.specs.Laid.{AreTurns}
+use Rattle.floor_laws.specs.Laid as laid
+use Rattle.floor_laws.specs.Laws.{RoseBy}
+use Rattle.floor_laws.proofs.Laying.{timed_join, turns_join}
+use Rattle.floor_laws.proofs.Faulting.{faults_join, stuck_join}
 use Rattle.floor_turns.specs.Scenes.{Scene}
 use Rattle.floor_turns.specs.Leads.{AddsTurns, IsMarkLater, LeavesHall, LedTo, LeadsFollow, LeadsStay, MarksStand, Times}
 

@@ -8,17 +8,17 @@ use Rattle.broker_history.specs.Entries.{History, faults_apart, is_began, own}
 use Rattle.broker_history.specs.Moments.{greatest, moment_of, starts}
 use Rattle.broker_history.specs.Step.{last_moment}
 use Rattle.broker_history.proofs.Own.{own-append}
-use Rattle.desk.specs.declared.call.Call.{Call}
-use Rattle.desk.specs.declared.call.Call.TheVariants as call
-use Rattle.desk.specs.declared.turned.Turned.{Turned}
-use Rattle.desk.specs.Calls.{MayCall, has_began}
+use Rattle.broker_history.specs.declared.call.Call.{Call}
+use Rattle.broker_history.specs.declared.call.Call.TheVariants as call
+use Rattle.broker_history.specs.declared.turned.Turned.{Turned}
+use Rattle.broker_history.specs.Calls.{MayCall, has_began}
 use Rattle.floor_rooms.specs.Standing.{HoldsFor}
 use Rattle.floor_acts.specs.Plans.{MayBegin}
-use Rattle.turn_laws.specs.Laid.{IsLaid}
-use Rattle.turn_laws.specs.Laid as laid
-use Rattle.turn_laws.specs.Laws.{RoseBy}
-use Rattle.turn_laws.proofs.Beginning.{legal_begins}
-use Rattle.turn_laws.proofs.Laying.{laid_timed}
+use Rattle.floor_laws.specs.Laid.{IsLaid}
+use Rattle.floor_laws.specs.Laid as laid
+use Rattle.floor_laws.specs.Laws.{RoseBy}
+use Rattle.floor_laws.proofs.Beginning.{legal_begins}
+use Rattle.floor_laws.proofs.Laying.{laid_timed}
 use Rattle.floor_turns.specs.Turning.{IsStuckStop}
 use Rattle.floor_turns.specs.Scenes.{IsAt, Scene, Stands}
 use Rattle.floor_turns.specs.Leads.{LedTo, Leads, Times}

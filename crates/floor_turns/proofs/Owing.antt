@@ -27,9 +27,9 @@ use Rattle.floor_rooms.specs.Sound.{IsSound}
 use Rattle.floor_moves.proofs.Keeping.{keeps_on, keeps_same}
 use Rattle.floor_moves.proofs.Stepping.{rose_none}
 use Rattle.floor_laws.proofs.Counting.{parts}
-use Rattle.turn_laws.specs.Laid.{EndsStuck, IsHeld, IsMoved}
-use Rattle.turn_laws.proofs.Laying.{all_both, holds_free, moved_free, sticks_free}
-use Rattle.turn_laws.proofs.Faulting.{faults-append, rise_behind, rise_later, rises_add}
+use Rattle.floor_laws.specs.Laid.{EndsStuck, IsHeld, IsMoved}
+use Rattle.floor_laws.proofs.Laying.{all_both, holds_free, moved_free, sticks_free}
+use Rattle.floor_laws.proofs.Faulting.{faults-append, rise_behind, rise_later, rises_add}
 use Rattle.floor_turns.specs.declared.paying.Paid.TheVariants as paid
 use Rattle.floor_turns.specs.declared.paying.Moved.{Moved}
 use Rattle.floor_turns.specs.declared.paying.Moved.TheVariants as moved

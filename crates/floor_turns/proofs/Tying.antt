@@ -13,14 +13,14 @@ use Rattle.broker_history.proofs.Own.{own-append, common_none}
 use Rattle.broker_history.specs.Talk.{IsRest, IsSending}
 use Rattle.broker_history.specs.Moments.{IsFree}
 use Rattle.v2_frame.specs.declared.command.Command.{Command}
-use Rattle.desk.specs.declared.call.Call.{Call}
-use Rattle.desk.specs.declared.call.Call.TheVariants as call
-use Rattle.desk.specs.declared.turned.Turned.{Turned}
-use Rattle.desk.specs.declared.turned.Turned.TheVariants as turned
-use Rattle.desk.specs.Answers.{Answers, AnswersCommand, AnswersNext}
-use Rattle.desk.specs.Calls.{MayCall, has_began, is_over}
-use Rattle.turn_laws.specs.Laid.{AreActsFor, IsActFor}
-use Rattle.turn_laws.proofs.Laying.{all_so, free_common, front_free, front_whole}
+use Rattle.broker_history.specs.declared.call.Call.{Call}
+use Rattle.broker_history.specs.declared.call.Call.TheVariants as call
+use Rattle.broker_history.specs.declared.turned.Turned.{Turned}
+use Rattle.broker_history.specs.declared.turned.Turned.TheVariants as turned
+use Rattle.broker_history.specs.Answers.{Answers, AnswersCommand, AnswersNext}
+use Rattle.broker_history.specs.Calls.{MayCall, has_began, is_over}
+use Rattle.floor_laws.specs.Laid.{AreActsFor, IsActFor}
+use Rattle.floor_laws.proofs.Laying.{all_so, free_common, front_free, front_whole}
 use Rattle.floor_turns.specs.Turns.{TurnTies}
 use Rattle.floor_rooms.specs.declared.hall.Hall.{Hall}
 use Rattle.floor_rooms.specs.Rooms.{client_in}

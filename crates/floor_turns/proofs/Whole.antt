@@ -23,12 +23,12 @@ use Rattle.broker_history.specs.Step.{IsAllowedAct}
 use Rattle.broker_history.specs.Moments.{IsFree}
 use Rattle.broker_history.proofs.Histories.{Legal-append}
 use Rattle.broker_history.proofs.Own.{common_none}
-use Rattle.desk.specs.declared.call.Call.{Call}
-use Rattle.desk.specs.declared.call.Call.TheVariants as call
-use Rattle.desk.specs.declared.turned.Turned.{Turned}
-use Rattle.desk.specs.declared.turned.Turned.TheVariants as turned
-use Rattle.desk.specs.Answers.{Answers, EndsAtStop, HasNoAct, IsShortAnswer}
-use Rattle.desk.specs.Calls.{has_began}
+use Rattle.broker_history.specs.declared.call.Call.{Call}
+use Rattle.broker_history.specs.declared.call.Call.TheVariants as call
+use Rattle.broker_history.specs.declared.turned.Turned.{Turned}
+use Rattle.broker_history.specs.declared.turned.Turned.TheVariants as turned
+use Rattle.broker_history.specs.Answers.{Answers, EndsAtStop, HasNoAct, IsShortAnswer}
+use Rattle.broker_history.specs.Calls.{has_began}
 use Rattle.floor_rooms.specs.declared.hall.Hall.{Hall}
 use Rattle.floor_rooms.specs.Rooms.{client_in}
 use Rattle.floor_rooms.specs.Sound.{IsRoomSound, IsSound}
@@ -40,11 +40,11 @@ use Rattle.floor_rooms.proofs.Naming.{names_kept, names_then}
 use Rattle.floor_rooms.specs.Standing.{HoldsFor}
 use Rattle.floor_acts.specs.Plans.{MayBegin, Serves, is_strange}
 use Rattle.floor_moves.specs.Moves.{Keeps, RoseBy, Sight}
-use Rattle.turn_laws.specs.Laid.{AreActsFor, AreHeldBack, AreMoved, AreStuck, EndsStuck, IsLaid, IsMoved}
-use Rattle.turn_laws.proofs.Allowing.{moves_allow}
-use Rattle.turn_laws.proofs.Beginning.{legal_begins}
-use Rattle.turn_laws.proofs.Faulting.{apart-cons, faults-append, no_fault, one_where}
-use Rattle.turn_laws.proofs.Laying.{all_both, all_so, free_common, moved_free, sticks_free}
+use Rattle.floor_laws.specs.Laid.{AreActsFor, AreHeldBack, AreMoved, AreStuck, EndsStuck, IsLaid, IsMoved}
+use Rattle.floor_laws.proofs.Allowing.{moves_allow}
+use Rattle.floor_laws.proofs.Beginning.{legal_begins}
+use Rattle.floor_laws.proofs.Faulting.{apart-cons, faults-append, no_fault, one_where}
+use Rattle.floor_laws.proofs.Laying.{all_both, all_so, free_common, moved_free, sticks_free}
 use Rattle.floor_turns.specs.declared.paying.Paid.{Paid}
 use Rattle.floor_turns.specs.declared.paying.Paid.TheVariants as paid
 use Rattle.floor_turns.specs.Paying.{CountsStuck, IsPayment, Pays}

@@ -13,12 +13,12 @@ use Rattle.broker_history.specs.Entries.{History, faults_of, is_faulted, is_stop
 use Rattle.broker_history.specs.Before.{is_any_due}
 use Rattle.broker_history.specs.Step.{DoesAct, IsAllowedAct, Step}
 use Rattle.broker_history.specs.Legal.{Legal}
-use Rattle.desk.specs.declared.call.Call.{Call}
-use Rattle.desk.specs.declared.call.Call.TheVariants as call
-use Rattle.desk.specs.declared.turned.Turned.{Turned}
-use Rattle.desk.specs.declared.turned.Turned.TheVariants as turned
-use Rattle.desk.specs.Answers.{IsShortAnswer, said_at}
-use Rattle.desk.specs.Calls.{CanCall}
+use Rattle.broker_history.specs.declared.call.Call.{Call}
+use Rattle.broker_history.specs.declared.call.Call.TheVariants as call
+use Rattle.broker_history.specs.declared.turned.Turned.{Turned}
+use Rattle.broker_history.specs.declared.turned.Turned.TheVariants as turned
+use Rattle.broker_history.specs.Answers.{IsShortAnswer, said_at}
+use Rattle.broker_history.specs.Calls.{CanCall}
 use Rattle.negotiation.specs.declared.identity.Identity.{Identity}
 use Rattle.floor_rooms.specs.declared.hall.Hall.{Hall}
 use Rattle.floor_rooms.specs.Rooms.{client_in}
@@ -28,7 +28,7 @@ use Rattle.floor_rooms.specs.Standing.{HoldsFor}
 use Rattle.floor_acts.specs.Plans.{IsAllowedPlan, IsCallsAct, IsShortAct, KnowsAct, MayBegin, Serves, number_of}
 use Rattle.floor_acts.specs.declared.plan.Plan.TheVariants as plan
 use Rattle.floor_moves.specs.Moves.{Sight, RoseBy}
-use Rattle.turn_laws.specs.Laid.{AreHeldBack, IsActFor}
+use Rattle.floor_laws.specs.Laid.{AreHeldBack, IsActFor}
 
 -- a call of this number leads to this act in this hall
 pub record IsPlanned (h : Hall) (number : ℕ) (a : Act) (said : Option Identity) : Type 0 where

@@ -9,8 +9,8 @@ use Rattle.floor_rooms.specs.declared.room.Room.{Room}
 use Rattle.floor_rooms.specs.Rooms.{room_in, stall_at}
 use Rattle.floor_rooms.specs.Changes.{OnlyQueueFiles, room_since, stall_since}
 use Rattle.floor_rooms.specs.Kept.{NamesTold}
-use Rattle.turn_laws.specs.Laid.{AreTurns}
-use Rattle.turn_laws.specs.Laws.{RoseBy}
+use Rattle.floor_laws.specs.Laid.{AreTurns}
+use Rattle.floor_laws.specs.Laws.{RoseBy}
 use Rattle.floor_turns.specs.Scenes.{IsAt, Scene, Stands}
 
 -- from a state that the floor stood for, turns led to another one: the entries that they noted are legal, and no more of them ended with a disk fault than

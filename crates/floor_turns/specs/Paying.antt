@@ -11,7 +11,7 @@ use Rattle.floor_rooms.specs.Standing.{HoldsFor}
 use Rattle.floor_moves.specs.Moves.{Sight, Notes, NothingNoted, RoseBy}
 use Rattle.floor_moves.specs.declared.made.Made.{Made}
 use Rattle.floor_moves.specs.declared.made.Made.TheVariants as made
-use Rattle.turn_laws.specs.Laid.{AreMoved, AreHeldBack, EndsStuck, IsMoved}
+use Rattle.floor_laws.specs.Laid.{AreMoved, AreHeldBack, EndsStuck, IsMoved}
 use Rattle.floor_turns.specs.declared.paying.Paid.{Paid}
 use Rattle.floor_turns.specs.declared.paying.Paid.TheVariants.{Clear, Most, Stuck, Wants}
 use Rattle.floor_turns.specs.declared.paying.Moved.{Moved}

@@ -4,7 +4,7 @@ use Rattle.nsq_outside.specs.Files.{Files}
 use Rattle.broker_history.specs.State.{State, has_begun}
 use Rattle.broker_history.specs.Entries.{History, has_stop, own}
 use Rattle.broker_history.specs.Moments.{moment_of}
-use Rattle.desk.specs.Calls.{has_began, is_over}
+use Rattle.broker_history.specs.Calls.{has_began, is_over}
 use Rattle.floor_rooms.specs.declared.hall.Hall.{Hall}
 use Rattle.floor_rooms.specs.Rooms.{client_in}
 use Rattle.floor_rooms.specs.Standing.{HoldsFor}

@@ -1,10 +1,10 @@
 -- What a tick leaves unsaved.
 use Rattle.std.specs.Prelude.{◌⊎◌, ℕ}
 use Rattle.nsq_outside.specs.Causes.{Rose}
-use Rattle.desk.specs.declared.call.Call.{Call}
-use Rattle.desk.specs.declared.call.Call.TheVariants as call
-use Rattle.desk.specs.declared.turned.Turned.{Turned}
-use Rattle.desk.specs.declared.turned.Turned.TheVariants as turned
+use Rattle.broker_history.specs.declared.call.Call.{Call}
+use Rattle.broker_history.specs.declared.call.Call.TheVariants as call
+use Rattle.broker_history.specs.declared.turned.Turned.{Turned}
+use Rattle.broker_history.specs.declared.turned.Turned.TheVariants as turned
 use Rattle.floor_rooms.specs.declared.hall.Hall.{Hall}
 use Rattle.floor_files.specs.Timely.{IsTimely}
 

@@ -5,11 +5,11 @@ use Rattle.broker_history.specs.State.{State}
 use Rattle.broker_history.specs.Entries.{History, faults_apart, faults_of}
 use Rattle.broker_history.specs.Before.{MayStop, most_moves}
 use Rattle.broker_history.specs.Legal.{Legal}
-use Rattle.desk.specs.declared.call.Call.{Call}
-use Rattle.desk.specs.declared.call.Call.TheVariants as call
-use Rattle.desk.specs.declared.turned.Turned.{Turned}
-use Rattle.desk.specs.declared.turned.Turned.TheVariants as turned
-use Rattle.desk.specs.Answers.{EndsAtStop, IsShortAnswer}
+use Rattle.broker_history.specs.declared.call.Call.{Call}
+use Rattle.broker_history.specs.declared.call.Call.TheVariants as call
+use Rattle.broker_history.specs.declared.turned.Turned.{Turned}
+use Rattle.broker_history.specs.declared.turned.Turned.TheVariants as turned
+use Rattle.broker_history.specs.Answers.{EndsAtStop, IsShortAnswer}
 use Rattle.floor_rooms.specs.declared.hall.Hall.{Hall}
 use Rattle.floor_rooms.specs.declared.room.Room.{Room}
 use Rattle.floor_rooms.specs.Rooms.{client_in, room_in, stall_at}
@@ -19,7 +19,7 @@ use Rattle.floor_rooms.specs.Standing.{HoldsFor}
 use Rattle.floor_acts.specs.Plans.{MayBegin, Serves, is_strange}
 use Rattle.floor_moves.specs.Moves.{RoseBy, Sight}
 use Rattle.floor_files.specs.Saving.{MarksGo}
-use Rattle.turn_laws.specs.Laid.{IsLaid}
+use Rattle.floor_laws.specs.Laid.{IsLaid}
 use Rattle.floor_turns.specs.declared.paying.Paid.{Paid}
 use Rattle.floor_turns.specs.declared.paying.Paid.TheVariants as paid
 use Rattle.floor_turns.specs.Paying.{CountsStuck, Extends, IsPayment, MayActBehind}

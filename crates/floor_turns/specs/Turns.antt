@@ -3,9 +3,9 @@ use Rattle.std.specs.Prelude.{◌≡◌, ◌≤◌, ℕ, ◌+◌, ◌^◌, min, 
 use Rattle.nsq_outside.specs.Files.{Files}
 use Rattle.broker_history.specs.State.{State}
 use Rattle.broker_history.specs.Entries.{own}
-use Rattle.desk.specs.declared.call.Call.{Call}
-use Rattle.desk.specs.declared.turned.Turned.{Turned}
-use Rattle.desk.specs.Calls.{MayCall}
+use Rattle.broker_history.specs.declared.call.Call.{Call}
+use Rattle.broker_history.specs.declared.turned.Turned.{Turned}
+use Rattle.broker_history.specs.Calls.{MayCall}
 use Rattle.floor_rooms.specs.declared.hall.Hall.{Hall}
 use Rattle.floor_rooms.specs.Changes.{OnlyQueueFiles}
 use Rattle.floor_rooms.specs.Standing.{HoldsFor}

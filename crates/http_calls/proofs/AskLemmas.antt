@@ -10,7 +10,7 @@ use Rattle.nsq_base.specs.Options.{IsInRange}
 use Rattle.nsq_base.specs.Time.{millisecond}
 use Rattle.broker_history.specs.declared.ask.Ask.{Ask}
 use Rattle.broker_history.specs.declared.ask.Ask.TheVariants as ask
-use Rattle.desk.specs.Calls.{CanAsk, IsAllowedBody, longest_message}
+use Rattle.broker_history.specs.Calls.{CanAsk, IsAllowedBody, longest_message}
 use Rattle.http_wire.specs.declared.request.Request.{Request}
 use Rattle.http_calls.specs.declared.refusal.Refusal.{Refusal}
 use Rattle.http_calls.specs.declared.call.HttpCall.{HttpCall}

@@ -1,3 +1,6 @@
+pub mod Numbers
+pub mod Appending
+pub mod Printing
 mod ArgumentLemmas
 mod RouteLemmas
 mod DelayLemmas

@@ -4,7 +4,7 @@ use Rattle.broker_history.specs.declared.ask.Ask.{Ask}
 use Rattle.broker_history.specs.declared.ask.Ask.TheVariants.{Publish}
 use Rattle.broker_history.specs.declared.ask.Said.{Said}
 use Rattle.broker_history.specs.declared.ask.Said.TheVariants as said
-use Rattle.http_stats.specs.Stats.{stats_bytes}
+use Rattle.http_calls.specs.Stats.{stats_bytes}
 use Rattle.http_calls.specs.declared.answer.HttpAnswer.{HttpAnswer}
 use Rattle.http_calls.specs.declared.refusal.Refusal.TheVariants.{TopicNotFound, ChannelNotFound, IdsSpent, DiskFault}
 use Rattle.http_calls.specs.Refusals.{refused_answer}

@@ -6,7 +6,7 @@ use Rattle.broker_history.specs.declared.ask.Ask.{Ask}
 use Rattle.broker_history.specs.declared.ask.Ask.TheVariants as ask
 use Rattle.http_wire.specs.Answer.{IsStatus}
 use Rattle.http_wire.specs.declared.request.Request.{Request}
-use Rattle.desk.specs.Calls.{CanAsk}
+use Rattle.broker_history.specs.Calls.{CanAsk}
 use Rattle.http_calls.specs.declared.call.HttpCall.{HttpCall}
 use Rattle.http_calls.specs.declared.call.HttpCall.TheVariants as call
 use Rattle.http_calls.specs.declared.refusal.Refusal.{Refusal}

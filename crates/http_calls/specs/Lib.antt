@@ -1,3 +1,5 @@
+pub mod Stats
+pub mod Tokens
 pub mod Refusals
 pub mod Routes
 pub mod Arguments

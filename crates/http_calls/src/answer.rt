@@ -1,11 +1,10 @@
 ghost use Rattle.std.specs.Prelude.{◌≡◌, IfOk};
 ghost use Rattle.http_wire.specs.Answer.{IsStatus};
-ghost use Rattle.http_stats.specs.Stats.{stats_bytes};
+ghost use Rattle.http_calls.specs.Stats.{stats_bytes};
 ghost use Rattle.http_calls.specs.Answers.{text_answer, json_answer, done_answer, stop_answer, publishes, answer_for};
 
-use crate::Refusal;
+use crate::{Refusal, stats_text};
 use broker_history::{Ask, Said, Stats};
-use http_stats::stats_text;
 use nsq_base::{Body, Memory};
 use std::alloc::Global;
 

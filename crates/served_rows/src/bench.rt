@@ -2,13 +2,13 @@
 //! turn goes otherwise than it must.
 
 ghost use Rattle.std.specs.Prelude.{◌<◌, IfSome};
-ghost use Rattle.desk.specs.Calls.{CanCall};
+ghost use Rattle.broker_history.specs.Calls.{CanCall};
 
 use crate::conn::WatchedConn;
 use crate::floor::{MemFloor, floor_of, options_of};
 use crate::text::word_of;
-use desk::{Call, FloorDesk, Turned, Turner};
-use http_api::{EndedHttp, serve_http};
+use broker_history::{Call, FloorDesk, Turned, Turner};
+use daemon_callers::{EndedHttp, serve_http, serve_v2};
 use nsq_base::Options;
 use nsq_fakes::MemFolder;
 use nsq_outside::Kit;
@@ -17,7 +17,6 @@ use std::process::Abort;
 use std::sync::Wait;
 use std::sync::atomic::{AtomicU64, Ordering};
 use v2_frame::{Got, Limits, Reader};
-use v2_session::serve_v2;
 
 // More than the messages of any client.
 const MANY: usize = 100;

@@ -24,7 +24,7 @@ use crate::conn::{Fails, failing};
 use crate::lists::same;
 use crate::tables::{client_rows, floor_rows, request_rows};
 use crate::text::{bytes_of, cut, moment, number, part, unknown};
-use desk::Call;
+use broker_history::Call;
 use nsq_fakes::MemFolder;
 use std::alloc::Global;
 use std::process::Abort;

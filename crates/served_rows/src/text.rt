@@ -4,9 +4,9 @@
 //! `5s`, or one nanosecond before them, `5s-1`.
 
 use crate::lists::put;
+use daemon_callers::Ended;
 use std::alloc::Global;
 use std::process::Abort;
-use v2_session::Ended;
 
 const SECOND: u64 = 1_000_000_000;
 

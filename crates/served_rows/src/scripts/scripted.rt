@@ -2,11 +2,11 @@
 ghost use Rattle.std.specs.Prelude.{◌<◌, length};
 ghost use Rattle.v2_frame.specs.declared.command.Command.{Command};
 ghost use Rattle.v2_frame.specs.declared.fault.Fault.{Fault};
-ghost use Rattle.desk.specs.Answers.{IsShortAnswer, IsAnswerTo};
-ghost use Rattle.desk.specs.declared.call.Call.TheVariants as call;
+ghost use Rattle.broker_history.specs.Answers.{IsShortAnswer, IsAnswerTo};
+ghost use Rattle.broker_history.specs.declared.call.Call.TheVariants as call;
 
 use super::trace::Trace;
-use desk::{Call, Turned, Turner};
+use broker_history::{Call, Turned, Turner};
 use nsq_base::{Body, Memory};
 use std::alloc::Global;
 use v2_frame::{Frame, FrameKind};

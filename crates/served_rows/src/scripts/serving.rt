@@ -1,14 +1,14 @@
 //! Connections that are served at a floor that answers by a script.
 use super::scripted::ScriptedFloor;
 use super::trace::Trace;
-use desk::FloorDesk;
+use broker_history::FloorDesk;
+use daemon_callers::{Ended, serve_v2};
 use nsq_base::{Body, Memory};
 use nsq_fakes::Piece;
 use nsq_outside::Conn;
 use std::alloc::Global;
 use std::sync::Wait;
 use v2_frame::Limits;
-use v2_session::{Ended, serve_v2};
 
 /// The limits of each connection.
 const LIMITS: Limits = Limits { msg: 5, body: 100 };

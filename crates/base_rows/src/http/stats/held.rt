@@ -4,7 +4,7 @@ use crate::http::stats::told::stats_of;
 use crate::same;
 use crate::text::{check_row, cut, number_of, rows_of};
 use broker_history::Stats;
-use http_stats::stats_text;
+use http_calls::stats_text;
 use serde_json::Value;
 use std::alloc::Global;
 use std::process::Abort;

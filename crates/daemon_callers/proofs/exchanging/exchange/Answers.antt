@@ -1,5 +1,5 @@
 use Rattle.std.proofs.Common.{refl, rules}
-use Rattle.http_api.specs.Exchange.{IsExchangeIn}
+use Rattle.daemon_callers.specs.Exchange.{IsExchangeIn}
 use Rattle.daemon_callers.proofs.Moving.{at_same}
 use Rattle.daemon_callers.proofs.exchanging.exchange.Goals as goal
 

@@ -1,5 +1,5 @@
 use Rattle.std.proofs.Common.{refl}
-use Rattle.daemon_main.proofs.Running.{has_run_home}
+use Rattle.daemon_main.proofs.DrillRunning.{has_run_home}
 use Rattle.daemon_main.proofs.drill_run.run.Goals as goal
 
 pub returns-then-has_no_fault : goal.returns-then-has_no_fault

@@ -1,6 +1,6 @@
 use Rattle.std.proofs.Common.{◌≡◌, ◌∙◌, ◌≤◌, refl, subst, sym}
 use Rattle.broker_history.specs.Step.{new_client}
-use Rattle.floor_clients.specs.Places.{AreInOrder, StandsAt}
+use Rattle.floor_rooms.specs.ClientPlaces.{AreInOrder, StandsAt}
 use Rattle.floor_rooms.specs.declared.hall.Hall.{Hall}
 use Rattle.floor_rooms.specs.Standing.{Carries}
 use Rattle.floor_acts.proofs.Putting.{begins_at, carries_begun, in_error, none_stands, sound_begun, still_sound, still_told, timeout_fits}

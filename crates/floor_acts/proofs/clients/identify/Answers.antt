@@ -2,7 +2,7 @@ use Rattle.std.proofs.Common.{◌∙◌, ap, arith, refl}
 use Rattle.broker_history.specs.State.{Client}
 use Rattle.broker_history.specs.Step.{known_as, spoke}
 use Rattle.negotiation.specs.Said.{said}
-use Rattle.floor_clients.specs.Seen.{held_channel}
+use Rattle.floor_rooms.specs.Seen.{held_channel}
 use Rattle.floor_acts.proofs.Putting.{carries_twice, changed_length, changed_range, changed_read, changed_twice, clients_rest, identifies, introduced, sound_client}
 use Rattle.floor_acts.proofs.clients.identify.Goals as goal
 

@@ -3,7 +3,7 @@ use Rattle.std.specs.Prelude.{HoldsAt, IsTrue}
 use Rattle.broker_history.specs.declared.entry.Act.TheVariants.{Sent}
 use Rattle.broker_history.specs.Reply.{message_frame}
 use Rattle.broker_history.specs.Step.{DoesSend}
-use Rattle.floor_clients.specs.Places.{StandsAt}
+use Rattle.floor_rooms.specs.ClientPlaces.{StandsAt}
 use Rattle.floor_rooms.specs.declared.room.Room.{Room}
 use Rattle.floor_rooms.specs.Changes.{KeepsRooms, OnlyQueueFiles}
 use Rattle.floor_rooms.specs.Sound.{IsSound}

@@ -2,7 +2,7 @@ use Rattle.std.proofs.Common.{◌≡◌, refl, ap}
 use Rattle.broker_history.specs.State.{Client}
 use Rattle.broker_history.specs.Changes.{at_client}
 use Rattle.broker_history.specs.declared.entry.Act.TheVariants.{Beat}
-use Rattle.desk.specs.declared.turned.Turned.TheVariants as turned
+use Rattle.broker_history.specs.declared.turned.Turned.TheVariants as turned
 use Rattle.floor_serving.specs.Carrying.{basis}
 use Rattle.floor_serving.proofs.Closing.{act_made, act_not, beat_leaves, by_number, is_placed}
 use Rattle.floor_serving.proofs.Staying.{around_clients, around_same, same_changed, same_hall}

@@ -2,7 +2,7 @@ use Rattle.std.proofs.Common.{◌≡◌, refl, subst, sym, ap}
 use Rattle.nsq_outside.specs.Files.{Files}
 use Rattle.broker_history.specs.Changes.{gone}
 use Rattle.broker_history.specs.declared.entry.Act.TheVariants.{Gone}
-use Rattle.desk.specs.declared.turned.Turned.TheVariants as turned
+use Rattle.broker_history.specs.declared.turned.Turned.TheVariants as turned
 use Rattle.floor_rooms.specs.Standing.{Carries}
 use Rattle.floor_serving.specs.Carrying.{basis}
 use Rattle.floor_serving.proofs.Closing.{act_made, act_not, by_number, gone_leaves, is_placed, without_number}

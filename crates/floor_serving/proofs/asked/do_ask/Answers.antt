@@ -1,6 +1,6 @@
 use Rattle.std.proofs.Common.{subst, sym}
 use Rattle.broker_history.specs.declared.ask.Ask.{Ask}
-use Rattle.desk.specs.Calls.{CanAsk}
+use Rattle.broker_history.specs.Calls.{CanAsk}
 use Rattle.floor_serving.specs.Carrying.{basis}
 use Rattle.floor_serving.specs.Asks.{CarriesAsk}
 use Rattle.floor_serving.proofs.asked.do_ask.Goals as goal

@@ -2,8 +2,8 @@ use Rattle.std.proofs.Common.{◌≡◌, subst, sym, ap}
 use Rattle.nsq_outside.specs.Files.{Files}
 use Rattle.std.specs.Prelude.{IsTrue}
 use Rattle.floor_rooms.specs.Standing.{Carries}
-use Rattle.floor_members.specs.Publishing.{PublishFails, Publishes}
-use Rattle.floor_members.specs.Published.{Published}
+use Rattle.floor_calls.specs.Publishing.{PublishFails, Publishes}
+use Rattle.floor_calls.specs.Published.{Published}
 use Rattle.floor_serving.proofs.Bodies.{in_range, not_refused, publish_done, publish_fault, publish_not, refused_with, was_kept_off, was_put}
 use Rattle.floor_serving.proofs.publishing.publish_as.Goals as goal
 

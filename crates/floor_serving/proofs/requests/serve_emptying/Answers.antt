@@ -2,7 +2,7 @@ use Rattle.std.proofs.Common.{None, Some, get_or, refl, ap}
 use Rattle.broker_history.specs.declared.ask.Ask.TheVariants as ask
 use Rattle.disk_queue.specs.declared.answers.Emptied.TheVariants.{Done, Fault}
 use Rattle.floor_rooms.proofs.Forming.{some_at}
-use Rattle.floor_members.specs.Emptying.{EmptiesBy}
+use Rattle.floor_calls.specs.Emptying.{EmptiesBy}
 use Rattle.floor_serving.proofs.Asking.{ask_as, ask_done, ask_fault, empty_breaks, no_room, no_stall, one_told, stall_within, whole_told}
 use Rattle.floor_serving.proofs.Staying.{around_by, same_equal}
 use Rattle.floor_serving.proofs.requests.serve_emptying.Goals as goal

@@ -6,8 +6,8 @@ use Rattle.broker_history.specs.Changes.{published}
 use Rattle.broker_history.specs.Reply.{are_left}
 use Rattle.std.specs.Prelude.{IsTrue}
 use Rattle.floor_rooms.specs.Standing.{Carries}
-use Rattle.floor_members.specs.Publishing.{PublishFails, Publishes}
-use Rattle.floor_members.specs.Published.{Published}
+use Rattle.floor_calls.specs.Publishing.{PublishFails, Publishes}
+use Rattle.floor_calls.specs.Published.{Published}
 use Rattle.floor_serving.proofs.Asking.{ask_done, ask_fault, ask_not, ids_within, no_ids, publish_breaks}
 use Rattle.floor_serving.proofs.Conditions.{asked_short}
 use Rattle.floor_serving.proofs.Staying.{around_by, same_equal}

@@ -1,7 +1,7 @@
 use Rattle.std.proofs.Common.{◌≡◌, ◌∙◌, ◌+◌, ◌++◌, ℕ, List, [], ◌∷◌, get_or, suc, take, sym, ap, subst, arith}
 use Rattle.std.proofs.Math.Seq.{take-suc}
 use Rattle.std.proofs.lemmas.List.{take_all}
-use Rattle.floor_clients.specs.Places.{AreInOrder}
+use Rattle.floor_rooms.specs.ClientPlaces.{AreInOrder}
 use Rattle.floor_topics.specs.Losing.{lost_among, lost_one}
 use Rattle.floor_topics.proofs.LostClients.{among_more, among_none, among_order}
 use Rattle.floor_topics.proofs.losing.lose_all.Goals as goal

@@ -1,7 +1,7 @@
 use Rattle.std.proofs.Common.{List, None, subst}
 use Rattle.std.specs.Prelude.{◌≡◌, ◌==◌, find}
 use Rattle.broker_history.specs.State.{Client}
-use Rattle.floor_clients.specs.Places.{StandsAt}
+use Rattle.floor_rooms.specs.ClientPlaces.{StandsAt}
 use Rattle.floor_topics.proofs.LostClients.{one_belonging, one_standing}
 use Rattle.floor_topics.proofs.losing.lose_one.Goals as goal
 

@@ -2,7 +2,7 @@ use Rattle.std.proofs.Common.{◌≡◌, Some, sym, subst}
 use Rattle.std.specs.List.{slice_get}
 use Rattle.std.proofs.lemmas.Option.{get_or_from_slice_get}
 use Rattle.broker_history.specs.State.{Client}
-use Rattle.floor_clients.specs.Seen.{route_named}
+use Rattle.floor_rooms.specs.Seen.{route_named}
 use Rattle.floor_rooms.proofs.Placing.{at_place}
 use Rattle.floor_topics.specs.Seating.{HasSeat}
 use Rattle.floor_topics.proofs.SeatLeaves.{its_seat, no_stall}

@@ -1,6 +1,6 @@
 use Rattle.std.proofs.Common.{◌≡◌, ◌∙◌, false, true, refl, subst, sym}
 use Rattle.broker_history.specs.Entries.{own}
-use Rattle.desk.specs.Calls.{IsHere}
+use Rattle.broker_history.specs.Calls.{IsHere}
 use Rattle.daemon_callers.proofs.Staying.{stays_behind, grows_none, memory_adds, memory_answers}
 use Rattle.daemon_callers.proofs.caller_desk.CallerDeskDesk.turn.Goals as goal
 

@@ -1,6 +1,6 @@
 use Rattle.std.proofs.Common.{List, sym, subst}
 use Rattle.broker_history.specs.State.{Client}
-use Rattle.floor_clients.specs.Places.{AreInOrder, BelongsAt, StandsAt}
+use Rattle.floor_rooms.specs.ClientPlaces.{AreInOrder, BelongsAt, StandsAt}
 use Rattle.floor_rooms.proofs.hall.Hall.client_place.Goals as goal
 
 pub returns-in-Ok : goal.returns-in-Ok

@@ -1,6 +1,6 @@
 use Rattle.std.proofs.Common.{subst, sym}
-use Rattle.desk.specs.Answers.{IsAnswerTo}
-use Rattle.desk.specs.declared.call.Call.{Call}
+use Rattle.broker_history.specs.Answers.{IsAnswerTo}
+use Rattle.broker_history.specs.declared.call.Call.{Call}
 use Rattle.served_rows.proofs.scripts.scripted.answered.Goals as goal
 
 pub returns-in-Command-clause-answer : goal.returns-in-Command-clause-answer

@@ -1,0 +1,15 @@
+pub mod Bare
+pub mod Deserted
+pub mod Exchanged
+pub mod Joining
+pub mod Leaving
+pub mod Speaking
+pub use Rattle.floor_topics.proofs.Marks
+pub use Rattle.floor_acts.proofs.Putting
+pub mod KeptNames
+pub mod Members
+pub mod Naming
+pub mod Planning
+pub mod Saying
+pub mod Sending
+pub mod Telling

@@ -1,0 +1,14 @@
+pub mod Going
+pub mod Subscribing
+pub use Rattle.floor_topics.specs.Publishing
+pub use Rattle.floor_topics.specs.Deleting
+pub use Rattle.floor_topics.specs.Emptying
+pub use Rattle.floor_topics.specs.declared.published.Published
+pub use Rattle.floor_topics.specs.declared.deleted.Deleted
+pub use Rattle.floor_topics.specs.Seating
+pub use Rattle.floor_topics.specs.declared.lost.Lost
+pub use Rattle.floor_acts.specs.Acts
+pub mod Asked
+pub mod Stats
+pub use Rattle.floor_acts.specs.Plans
+pub use Rattle.floor_acts.specs.Replies

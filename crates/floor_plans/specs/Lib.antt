@@ -1,4 +1,0 @@
-pub mod Asked
-pub mod Stats
-pub use Rattle.floor_acts.specs.Plans
-pub use Rattle.floor_acts.specs.Replies

@@ -1,5 +1,0 @@
-pub mod Laying
-pub mod Allowing
-pub mod Beginning
-pub mod Faulting
-pub mod Ticking

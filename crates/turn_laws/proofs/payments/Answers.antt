@@ -1,5 +1,0 @@
-use Rattle.turn_laws.proofs.Allowing.{moves_allow, stuck_allows, stuck_stops, held_calm}
-use Rattle.turn_laws.proofs.payments.Goals as goal
-
-pub returns : goal.returns
-returns c = record { moves = moves_allow; stuck = stuck_allows; stops = stuck_stops; held = held_calm }

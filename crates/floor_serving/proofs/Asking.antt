@@ -29,7 +29,7 @@ use Rattle.floor_calls.specs.Deleting.{DeletesChannel, DeletesTopic}
 use Rattle.floor_calls.specs.Deleted.TheVariants as deleting
 use Rattle.floor_calls.specs.Asked.{found_where}
 use Rattle.floor_calls.proofs.Saying.{said_is}
-use Rattle.floor_drawing.specs.Acting.{LeavesClients, SameClients}
+use Rattle.floor_turns.specs.Acting.{LeavesClients, SameClients}
 use Rattle.floor_serving.specs.declared.served.Served.{Served}
 use Rattle.floor_serving.specs.declared.served.Served.TheVariants.{Done, Fault}
 use Rattle.floor_serving.specs.Carrying.{Around, Basis, CarriesOut, basis}

@@ -19,7 +19,7 @@ use Rattle.floor_calls.specs.Replies.{IsShortFrame}
 use Rattle.floor_calls.specs.Acts.{ChangesAt, DoesAt}
 use Rattle.floor_calls.specs.Published.{Published}
 use Rattle.floor_calls.specs.Published.TheVariants as published_so
-use Rattle.floor_drawing.specs.Acting.{SameClients, StaysSet}
+use Rattle.floor_turns.specs.Acting.{SameClients, StaysSet}
 use Rattle.floor_serving.specs.declared.commanded.Commanded.TheVariants as commanded
 use Rattle.floor_serving.specs.Carrying.{Around, basis}
 use Rattle.floor_serving.specs.Commands.{CarriesCommand, IsPublish}

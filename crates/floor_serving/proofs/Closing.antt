@@ -22,8 +22,8 @@ use Rattle.floor_rooms.specs.Standing.{Carries}
 use Rattle.floor_rooms.proofs.Dating.{keeps_same}
 use Rattle.floor_rooms.proofs.Forming.{some_at}
 use Rattle.floor_calls.specs.Plans.{IsShortAct}
-use Rattle.floor_drawing.specs.Acting.{LeavesClients, SameClients, StaysSet, answer_of, there_after}
-use Rattle.floor_drawing.proofs.Carrying.{entry_of}
+use Rattle.floor_turns.specs.Acting.{LeavesClients, SameClients, StaysSet, answer_of, there_after}
+use Rattle.floor_turns.proofs.Carrying.{entry_of}
 use Rattle.floor_serving.specs.declared.carried.Carried.{Carried}
 use Rattle.floor_serving.specs.Carrying.{Around, Basis, CarriesOut, IsLeft, basis}
 use Rattle.floor_serving.proofs.Staying.{around_same, stays_kept}

@@ -22,7 +22,7 @@ use Rattle.floor_rooms.specs.Sound.{IsSound}
 use Rattle.floor_rooms.specs.Standing.{Carries}
 use Rattle.floor_calls.specs.Replies.{IsShort, KnowsOf, flies_in}
 use Rattle.floor_calls.specs.Acts.{DoesAt}
-use Rattle.floor_drawing.specs.Acting.{ActCarries, IsPlanned, LeavesClients, SameClients, StaysSet, answer_to}
+use Rattle.floor_turns.specs.Acting.{ActCarries, IsPlanned, LeavesClients, SameClients, StaysSet, answer_to}
 use Rattle.broker_history.specs.Answers.{IsShortAnswer}
 use Rattle.floor_serving.specs.declared.carried.Carried.{Carried}
 use Rattle.floor_serving.specs.declared.commanded.Commanded.TheVariants as commanded

@@ -7,7 +7,7 @@ pub mod Planning
 pub mod Returning
 pub mod Settling
 pub mod Staying
-pub use Rattle.floor_drawing.proofs.Following
-pub use Rattle.floor_drawing.proofs.Tying
-pub use Rattle.floor_drawing.proofs.Leading
+pub use Rattle.floor_turns.proofs.Following
+pub use Rattle.floor_turns.proofs.Tying
+pub use Rattle.floor_turns.proofs.Leading
 pub use Rattle.floor_calls.proofs.KeptNames

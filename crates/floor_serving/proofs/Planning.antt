@@ -17,7 +17,7 @@ use Rattle.floor_rooms.specs.declared.hall.Hall.{Hall}
 use Rattle.floor_rooms.specs.Rooms.{client_in}
 use Rattle.floor_calls.specs.Replies.{reply_in}
 use Rattle.floor_calls.specs.Plans.{IsCallsAct, IsNextAct, is_strange}
-use Rattle.floor_drawing.specs.Acting.{IsPlanned}
+use Rattle.floor_turns.specs.Acting.{IsPlanned}
 use Rattle.floor_serving.specs.Carrying.{IsLeft, IsNoCommand}
 
 -- acts by number

@@ -16,7 +16,7 @@ use Rattle.floor_rooms.specs.Changes.{KeepsRooms, OnlyQueueFiles}
 use Rattle.floor_rooms.specs.Sound.{IsSound}
 use Rattle.floor_calls.specs.Replies.{IsShort, IsShortFrame}
 use Rattle.floor_calls.specs.Acts.{ChangesAt, RequeuesAt, gave_back}
-use Rattle.floor_drawing.specs.Acting.{SameClients}
+use Rattle.floor_turns.specs.Acting.{SameClients}
 use Rattle.floor_serving.specs.declared.commanded.Commanded.TheVariants as commanded
 use Rattle.floor_serving.specs.Carrying.{Around, basis}
 use Rattle.floor_serving.specs.Commands.{CarriesCommand, IsAccepted}

@@ -12,14 +12,14 @@ use Rattle.broker_history.specs.declared.turned.Turned.TheVariants as turned
 use Rattle.floor_rooms.specs.declared.hall.Hall.{Hall}
 use Rattle.floor_rooms.specs.Kept.{NamesTold, hall_kept}
 use Rattle.floor_rooms.specs.Standing.{Carries, HoldsFor}
-use Rattle.floor_drawing.specs.Moves.{sight}
-use Rattle.floor_drawing.specs.Timely.{TicksTimely}
-use Rattle.floor_drawing.specs.Turning.{MarksStay, Settles, StaysOn}
-use Rattle.floor_drawing.proofs.Marking.{marks_gone, marks_same}
-use Rattle.floor_drawing.specs.Saving.{MarksGo}
-use Rattle.floor_drawing.specs.TimelySaving.{IsTimely}
-use Rattle.floor_drawing.proofs.Raising.{same_marks}
-use Rattle.floor_drawing.proofs.Whole.{holds_marked, stays_then}
+use Rattle.floor_turns.specs.Moves.{sight}
+use Rattle.floor_turns.specs.Timely.{TicksTimely}
+use Rattle.floor_turns.specs.Turning.{MarksStay, Settles, StaysOn}
+use Rattle.floor_turns.proofs.Marking.{marks_gone, marks_same}
+use Rattle.floor_turns.specs.Saving.{MarksGo}
+use Rattle.floor_turns.specs.TimelySaving.{IsTimely}
+use Rattle.floor_turns.proofs.Raising.{same_marks}
+use Rattle.floor_turns.proofs.Whole.{holds_marked, stays_then}
 use Rattle.floor_serving.specs.Ticks.{is_saving, is_ticking}
 
 -- that a disk fault kept the Stop's turn from paying all is kept

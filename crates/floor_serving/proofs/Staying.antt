@@ -16,8 +16,8 @@ use Rattle.floor_rooms.proofs.Forming.{some_at}
 use Rattle.floor_rooms.proofs.Naming.{names_kept, names_then}
 use Rattle.floor_calls.specs.Acts.{ChangesAt}
 use Rattle.floor_calls.proofs.Putting.{found_at_place, put_at_place}
-use Rattle.floor_drawing.specs.Acting.{SameClients, StaysSet}
-use Rattle.floor_drawing.proofs.Carrying.{stays_same}
+use Rattle.floor_turns.specs.Acting.{SameClients, StaysSet}
+use Rattle.floor_turns.proofs.Carrying.{stays_same}
 use Rattle.floor_serving.specs.Carrying.{Around, basis}
 
 -- what is set stays where it does by one equation

@@ -8,7 +8,7 @@ use Rattle.broker_history.specs.State.{State}
 use Rattle.broker_history.specs.Said.{Says}
 use Rattle.broker_history.specs.Step.{CanFaultAsk, broken_off, carried_out}
 use Rattle.floor_rooms.specs.Standing.{HoldsFor}
-use Rattle.floor_drawing.specs.Acting.{SameClients}
+use Rattle.floor_turns.specs.Acting.{SameClients}
 use Rattle.floor_serving.specs.declared.served.Served.{Served}
 use Rattle.floor_serving.specs.declared.served.Served.TheVariants.{Done, Fault}
 use Rattle.floor_serving.specs.Carrying.{Around, Basis, Leads}

@@ -11,7 +11,7 @@ use Rattle.floor_rooms.specs.declared.hall.Hall.{Hall}
 use Rattle.floor_rooms.specs.Changes.{OnlyQueueFiles}
 use Rattle.floor_rooms.specs.Sound.{IsSound}
 use Rattle.floor_rooms.specs.Standing.{Carries}
-use Rattle.floor_drawing.specs.Acting.{ActCarries, IsNoted, LeavesClients, SameClients, StaysSet, answer_of}
+use Rattle.floor_turns.specs.Acting.{ActCarries, IsNoted, LeavesClients, SameClients, StaysSet, answer_of}
 use Rattle.floor_serving.specs.declared.carried.Carried.{Carried}
 
 -- a hall in a folder's files, and the folder's count of faults

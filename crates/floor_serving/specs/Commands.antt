@@ -15,7 +15,7 @@ use Rattle.negotiation.specs.declared.identity.Identity.{Identity}
 use Rattle.floor_rooms.specs.declared.hall.Hall.{Hall}
 use Rattle.floor_calls.specs.Replies.{IsShortFrame, SaysOf, reply_in}
 use Rattle.floor_calls.specs.Acts.{DoesAt}
-use Rattle.floor_drawing.specs.Acting.{SameClients}
+use Rattle.floor_turns.specs.Acting.{SameClients}
 use Rattle.floor_serving.specs.declared.commanded.Commanded.{Commanded}
 use Rattle.floor_serving.specs.declared.commanded.Commanded.TheVariants.{Done, Fault}
 use Rattle.floor_serving.specs.Carrying.{Around, Basis, Leads}

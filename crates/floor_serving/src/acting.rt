@@ -1,9 +1,9 @@
 ghost use Rattle.std.specs.Prelude.{◌≡◌, ◌≤◌, IsTrue, IfOk, OnErr, OnOk, Option, Some, false, true, length};
 ghost use Rattle.floor_rooms.specs.Changes.{OnlyQueueFiles};
 ghost use Rattle.floor_rooms.specs.Sound.{IsSound};
-ghost use Rattle.floor_drawing.specs.Moves.{sight};
+ghost use Rattle.floor_turns.specs.Moves.{sight};
 ghost use Rattle.broker_history.specs.declared.call.Call.{Call};
-ghost use Rattle.floor_drawing.specs.Acting.{Acts, IsPlanned, IsPlannedFor, conn_of};
+ghost use Rattle.floor_turns.specs.Acting.{Acts, IsPlanned, IsPlannedFor, conn_of};
 ghost use Rattle.negotiation.specs.declared.identity.Identity.{Identity};
 ghost use Rattle.floor_serving.specs.Carrying.{CarriesOut, IsNoCommand, basis};
 

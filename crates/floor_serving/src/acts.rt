@@ -4,7 +4,7 @@ ghost use Rattle.broker_history.specs.declared.entry.Act.TheVariants.{Beat, Bega
 ghost use Rattle.nsq_outside.specs.declared.journal.End.TheVariants as end;
 ghost use Rattle.floor_rooms.specs.Rooms.{client_in};
 ghost use Rattle.floor_rooms.specs.Sound.{IsSound};
-ghost use Rattle.floor_drawing.specs.Acting.{answer_of};
+ghost use Rattle.floor_turns.specs.Acting.{answer_of};
 ghost use Rattle.floor_serving.specs.Carrying.{CarriesOut, IsLeft, basis};
 
 use crate::carried::Carried;

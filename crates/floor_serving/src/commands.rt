@@ -3,7 +3,7 @@ ghost use Rattle.nsq_outside.specs.Files.{Files};
 ghost use Rattle.v2_frame.specs.declared.command.Command.TheVariants as command;
 ghost use Rattle.broker_history.specs.declared.entry.Act.TheVariants.{Did};
 ghost use Rattle.floor_rooms.specs.Sound.{IsSound};
-ghost use Rattle.floor_drawing.specs.Acting.{IsPlanned};
+ghost use Rattle.floor_turns.specs.Acting.{IsPlanned};
 ghost use Rattle.floor_serving.specs.Carrying.{CarriesOut, basis};
 ghost use Rattle.floor_serving.specs.Commands.{CarriesCommand, IsAccepted, IsLine, IsNoIdentify, KnowsSaid};
 

@@ -26,5 +26,5 @@ mod serving;
 mod spans;
 
 pub use floor_calls::{kept, names};
-pub use floor_drawing::flush_all;
+pub use floor_turns::flush_all;
 pub use serving::turn_at;

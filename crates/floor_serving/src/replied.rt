@@ -1,7 +1,7 @@
 ghost use Rattle.std.specs.Prelude.{◌≡◌, Some};
 ghost use Rattle.nsq_outside.specs.declared.journal.End.TheVariants as end;
 ghost use Rattle.broker_history.specs.Step.{is_done, is_error};
-ghost use Rattle.floor_drawing.specs.Acting.{answer_to};
+ghost use Rattle.floor_turns.specs.Acting.{answer_to};
 
 use crate::carried::Carried;
 use broker_history::{Said, Turned};

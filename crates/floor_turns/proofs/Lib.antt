@@ -1,11 +1,14 @@
+pub mod Answering
 pub mod Carrying
 pub mod Clearing
 pub mod Following
 pub mod Leading
 pub mod Marking
 pub mod Owing
+pub mod Rounds
+pub mod Sent
+pub mod Serving
 pub mod Tying
 pub mod Whole
 pub use Rattle.floor_files.proofs.Raising
 pub use Rattle.floor_moves.proofs.Keeping
-pub use Rattle.floor_acts.proofs.Found

@@ -1,4 +1,5 @@
 pub mod Acting
+pub mod Drawing
 pub mod Leads
 pub mod Paying
 pub mod Scenes
@@ -8,9 +9,4 @@ pub mod Turns
 pub use Rattle.floor_files.specs.Flushing
 pub use Rattle.floor_files.specs.Saving
 pub use Rattle.floor_files.specs.Timely as TimelySaving
-pub use Rattle.floor_moves.specs.Due
-pub use Rattle.floor_moves.specs.Holding
 pub use Rattle.floor_moves.specs.Moves
-pub use Rattle.floor_moves.specs.declared.due.Place
-pub use Rattle.floor_acts.specs.Plans
-pub use Rattle.floor_acts.specs.Replies

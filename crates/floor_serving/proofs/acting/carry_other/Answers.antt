@@ -1,6 +1,6 @@
 use Rattle.std.proofs.Common.{subst, sym}
 use Rattle.broker_history.specs.declared.entry.Act.{Act}
-use Rattle.floor_drawing.specs.Acting.{IsPlanned}
+use Rattle.floor_turns.specs.Acting.{IsPlanned}
 use Rattle.floor_serving.specs.Carrying.{CarriesOut, IsNoCommand, basis}
 use Rattle.floor_serving.proofs.Closing.{act_left}
 use Rattle.floor_serving.proofs.Planning.{asked_can, beat_there, begin_none, gone_there, left, planned_most}

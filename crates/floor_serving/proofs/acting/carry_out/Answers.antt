@@ -1,6 +1,6 @@
 use Rattle.std.proofs.Common.{subst, sym}
 use Rattle.broker_history.specs.declared.entry.Act.{Act}
-use Rattle.floor_drawing.specs.Acting.{IsPlanned}
+use Rattle.floor_turns.specs.Acting.{IsPlanned}
 use Rattle.floor_serving.specs.Carrying.{CarriesOut, basis}
 use Rattle.floor_serving.proofs.Planning.{no_command, planned_most}
 use Rattle.floor_serving.proofs.acting.carry_out.Goals as goal

@@ -1,7 +1,7 @@
 use Rattle.std.proofs.Common.{◌≡◌, refl, sym, ap, subst, ◌∙◌, arith}
 use Rattle.std.proofs.lemmas.List.{append-nil}
-use Rattle.floor_drawing.specs.Acting.{ActCarries, IsPlanned, IsPlannedFor, LeavesClients, conn_of}
-use Rattle.floor_drawing.proofs.Carrying.{acts_made, acts_none, entry_of, noted_act, noted_none, planned_conn, stays_same}
+use Rattle.floor_turns.specs.Acting.{ActCarries, IsPlanned, IsPlannedFor, LeavesClients, conn_of}
+use Rattle.floor_turns.proofs.Carrying.{acts_made, acts_none, entry_of, noted_act, noted_none, planned_conn, stays_same}
 use Rattle.floor_serving.proofs.Closing.{kept_so}
 use Rattle.floor_serving.proofs.acting.make_act.Goals as goal
 

@@ -1,6 +1,6 @@
-use Rattle.floor_drawing.specs.Moves.{sight}
-use Rattle.floor_drawing.proofs.Keeping.{keeps_same}
-use Rattle.floor_drawing.proofs.Whole.{pays_running, pays_stopped}
+use Rattle.floor_turns.specs.Moves.{sight}
+use Rattle.floor_turns.proofs.Keeping.{keeps_same}
+use Rattle.floor_turns.proofs.Whole.{pays_running, pays_stopped}
 use Rattle.floor_serving.proofs.serving.pay_first.Goals as goal
 
 pub returns-clause-pays : goal.returns-clause-pays

@@ -1,6 +1,6 @@
 use Rattle.std.proofs.Common.{refl, sym, arith}
 use Rattle.std.proofs.lemmas.List.{append-nil}
-use Rattle.floor_drawing.proofs.Carrying.{acts_none, stays_same}
+use Rattle.floor_turns.proofs.Carrying.{acts_none, stays_same}
 use Rattle.floor_serving.proofs.serving.serve.Goals as goal
 
 pub returns-in-Err-clause-acts : goal.returns-in-Err-clause-acts

@@ -1,5 +1,5 @@
 use Rattle.std.proofs.Common.{refl, sym, ◌∙◌}
-use Rattle.floor_drawing.proofs.Whole.{sound_marked}
+use Rattle.floor_turns.proofs.Whole.{sound_marked}
 use Rattle.floor_serving.proofs.Settling.{settles_marked, settles_saved, stuck_saved, timely_other, timely_saved}
 use Rattle.floor_serving.proofs.serving.settle.Goals as goal
 

@@ -1,6 +1,6 @@
 use Rattle.std.proofs.Common.{refl, sym, ◌∙◌}
-use Rattle.floor_drawing.specs.Moves.{sight}
-use Rattle.floor_drawing.proofs.Whole.{turn_strange, turn_stopped, turn_wants, turn_served, serves_here, serves_then, stop_once, not_false}
+use Rattle.floor_turns.specs.Moves.{sight}
+use Rattle.floor_turns.proofs.Whole.{turn_strange, turn_stopped, turn_wants, turn_served, serves_here, serves_then, stop_once, not_false}
 use Rattle.floor_serving.proofs.serving.turn_at.Goals as goal
 
 pub is_strange-requires : goal.is_strange-requires

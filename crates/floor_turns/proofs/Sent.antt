@@ -32,9 +32,9 @@ use Rattle.floor_rooms.specs.Sound.{IsSound}
 use Rattle.floor_rooms.specs.Standing.{Carries}
 use Rattle.floor_rooms.proofs.Dating.{since_kept}
 use Rattle.floor_rooms.proofs.Naming.{names_kept}
-use Rattle.floor_turns.specs.Replies.{IsShortFrame}
-use Rattle.floor_turns.specs.Place.{Place}
-use Rattle.floor_turns.specs.Moves.{Keeps, sight}
+use Rattle.floor_acts.specs.Replies.{IsShortFrame}
+use Rattle.floor_moves.specs.declared.due.Place.{Place}
+use Rattle.floor_moves.specs.Moves.{Keeps, sight}
 use Rattle.floor_acts.specs.Acts.{ChangesAt}
 use Rattle.floor_acts.specs.Sending.{DrawsStall, HasDrawn, IsDrawnForSome, IsToSend}
 use Rattle.floor_acts.proofs.Drawing.{draw_faults}
@@ -43,9 +43,9 @@ use Rattle.floor_acts.proofs.Putting.{put_at_place}
 use Rattle.floor_acts.proofs.Returning.{holds_behind}
 use Rattle.floor_turns.specs.Acting.{Acts, StaysSet}
 use Rattle.floor_turns.proofs.Carrying.{noted_act}
-use Rattle.floor_drawing.specs.Drawing.{IsServedAt, entry_of}
-use Rattle.floor_drawing.proofs.Answering.{acts_one, leaves_same, wants}
-use Rattle.floor_drawing.proofs.Serving.{member_drawn, sends_now, there_marked}
+use Rattle.floor_turns.specs.Drawing.{IsServedAt, entry_of}
+use Rattle.floor_turns.proofs.Answering.{acts_one, leaves_same, wants}
+use Rattle.floor_turns.proofs.Serving.{member_drawn, sends_now, there_marked}
 
 pub some_is : {X : Type 0} (o : Option X) (x : X) → o ≡ Some x → IsSome o
 some_is o x e = subst IsSome (sym e) refl

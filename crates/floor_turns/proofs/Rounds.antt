@@ -25,11 +25,11 @@ use Rattle.floor_rooms.specs.Sound.{IsSound}
 use Rattle.floor_rooms.specs.Standing.{HoldsFor}
 use Rattle.floor_rooms.proofs.Dating.{since_kept_then}
 use Rattle.floor_rooms.proofs.Naming.{names_kept, names_then}
-use Rattle.floor_turns.specs.Place.{Place}
-use Rattle.floor_turns.specs.Due.{HasStallAt}
-use Rattle.floor_turns.specs.Holding.{HasHeld, IsDrawnFrom, IsHeldAt}
-use Rattle.floor_turns.specs.Moves.{Keeps, NothingNoted, Notes, RoseBy, Sight, sight}
-use Rattle.floor_turns.proofs.Keeping.{keeps_marked, keeps_on, keeps_same}
+use Rattle.floor_moves.specs.declared.due.Place.{Place}
+use Rattle.floor_moves.specs.Due.{HasStallAt}
+use Rattle.floor_moves.specs.Holding.{HasHeld, IsDrawnFrom, IsHeldAt}
+use Rattle.floor_moves.specs.Moves.{Keeps, NothingNoted, Notes, RoseBy, Sight, sight}
+use Rattle.floor_moves.proofs.Keeping.{keeps_marked, keeps_on, keeps_same}
 use Rattle.floor_acts.specs.Sending.{HasDrawn}
 use Rattle.floor_acts.proofs.Flying.{stands_now}
 use Rattle.floor_laws.specs.Laid.{AreHeldBack, IsHeld}
@@ -37,7 +37,7 @@ use Rattle.floor_laws.proofs.Allowing.{held_calm}
 use Rattle.floor_laws.proofs.Laying.{all_both}
 use Rattle.floor_turns.specs.Acting.{Acts, ActsBy, ClientsBy, FaultRose, FaultsRose, StaysSet, there_after}
 use Rattle.floor_turns.proofs.Owing.{held_loose, loose_paid, notes_on}
-use Rattle.floor_drawing.proofs.Answering.{wants}
+use Rattle.floor_turns.proofs.Answering.{wants}
 
 -- a copy came up while its id was in flight: nothing else happened since the channel was marked
 module _ (tells_notes tells_files : Bool) (number : ℕ) (place : Place) (id : List ℕ) (f f' : Files) (k k' : ℕ) (h h' : Hall) (d : HasDrawn tells_files place.room place.stall number (next.Held id) f f' k k' h h') where

@@ -34,16 +34,16 @@ use Rattle.floor_rooms.specs.Rooms.{channel_name, client_in, room_in, stall_at, 
 use Rattle.floor_rooms.specs.Sound.{IsSound}
 use Rattle.floor_rooms.specs.Standing.{HoldsFor, IsStallOf}
 use Rattle.floor_rooms.proofs.Placing.{found_at}
-use Rattle.floor_turns.proofs.Found.{found_channel}
-use Rattle.floor_turns.specs.Plans.{DrawsAt}
-use Rattle.floor_turns.specs.Place.{Place}
-use Rattle.floor_turns.specs.Moves.{Keeps}
+use Rattle.floor_acts.proofs.Found.{found_channel}
+use Rattle.floor_acts.specs.Plans.{DrawsAt}
+use Rattle.floor_moves.specs.declared.due.Place.{Place}
+use Rattle.floor_moves.specs.Moves.{Keeps}
 use Rattle.floor_acts.specs.declared.spots.Spot.{Spot}
 use Rattle.floor_acts.specs.Sending.{DrawsStall, HasDrawn}
 use Rattle.floor_acts.specs.Spots.{StandsIn}
 use Rattle.floor_acts.proofs.Spotting.{member_here, room_here}
 use Rattle.floor_acts.proofs.Flying.{channel_there, topic_there}
-use Rattle.floor_drawing.specs.Drawing.{IsServedAt}
+use Rattle.floor_turns.specs.Drawing.{IsServedAt}
 
 -- a place of a channel is a spot
 abbrev pub spot_at : Place → Spot

@@ -1,5 +1,5 @@
-use Rattle.floor_drawing.proofs.Answering.{sticks_found}
-use Rattle.floor_drawing.proofs.noting.stick.Goals as goal
+use Rattle.floor_turns.proofs.Answering.{sticks_found}
+use Rattle.floor_turns.proofs.noting.stick.Goals as goal
 
 pub returns-clause-noted : goal.returns-clause-noted
 returns-clause-noted g c =

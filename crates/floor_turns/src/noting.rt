@@ -2,12 +2,12 @@ ghost use Rattle.std.specs.Prelude.{◌≡◌, ◌<◌, HoldsAt, false, length};
 ghost use Rattle.nsq_outside.specs.declared.journal.End.TheVariants as ends;
 ghost use Rattle.broker_history.specs.declared.entry.Act.TheVariants as acts;
 ghost use Rattle.floor_turns.specs.Acting.{IsNoted};
-ghost use Rattle.floor_drawing.specs.Drawing.{IsIdleBy, SticksAt, entry_of};
+ghost use Rattle.floor_turns.specs.Drawing.{IsIdleBy, SticksAt, entry_of};
 
 use crate::sending::lend;
 use broker_history::{Act, Entry, Turned};
+use floor_moves::Place;
 use floor_rooms::Hall;
-use floor_turns::Place;
 use nsq_outside::{End, Journal};
 
 /// Notes that there is nothing to send to the client of this number. Want of memory notes nothing.

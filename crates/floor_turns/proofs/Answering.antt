@@ -32,16 +32,16 @@ use Rattle.floor_rooms.proofs.Dating.{since_kept}
 use Rattle.floor_rooms.proofs.Naming.{names_kept}
 use Rattle.floor_rooms.proofs.Orders.{holds_at}
 use Rattle.floor_rooms.proofs.Placing.{at_place}
-use Rattle.floor_turns.specs.Place.{Place}
-use Rattle.floor_turns.specs.Moves.{Keeps, RoseBy, sight}
-use Rattle.floor_turns.proofs.Keeping.{keeps_marked}
+use Rattle.floor_moves.specs.declared.due.Place.{Place}
+use Rattle.floor_moves.specs.Moves.{Keeps, RoseBy, sight}
+use Rattle.floor_moves.proofs.Keeping.{keeps_marked}
 use Rattle.floor_acts.specs.Sending.{HasDrawn}
 use Rattle.floor_acts.proofs.Drawing.{draw_faults, draw_keeps}
 use Rattle.floor_acts.proofs.Flying.{some_same, stands_now}
 use Rattle.floor_turns.specs.Acting.{Acts, ActsTo, FaultsRose, LeavesClients, SameClients, StaysSet, there_after}
 use Rattle.floor_turns.proofs.Carrying.{acts_none}
-use Rattle.floor_drawing.specs.Drawing.{IsIdleBy, IsServedAt, SticksAt, entry_of}
-use Rattle.floor_drawing.proofs.Serving.{may_stick, no_credit_rests, no_damage, none_rests, paused_rests}
+use Rattle.floor_turns.specs.Drawing.{IsIdleBy, IsServedAt, SticksAt, entry_of}
+use Rattle.floor_turns.proofs.Serving.{may_stick, no_credit_rests, no_damage, none_rests, paused_rests}
 
 -- a hall that keeps what moves do
 pub stays_kept : (h h' : Hall) → Keeps h h' → StaysSet h h'

@@ -1,8 +1,8 @@
 use Rattle.std.proofs.Common.{◌∙◌}
-use Rattle.floor_turns.specs.Moves.{sight}
-use Rattle.floor_drawing.proofs.Rounds.{held_acts, held_ends, held_none, held_one}
-use Rattle.floor_drawing.proofs.Serving.{served_at, served_kept}
-use Rattle.floor_drawing.proofs.drawing.draw.Goals as goal
+use Rattle.floor_moves.specs.Moves.{sight}
+use Rattle.floor_turns.proofs.Rounds.{held_acts, held_ends, held_none, held_one}
+use Rattle.floor_turns.proofs.Serving.{served_at, served_kept}
+use Rattle.floor_turns.proofs.drawing.draw.Goals as goal
 
 pub loop-init : goal.loop-init
 loop-init g c = (held_none g.J.Journal.tells_notes g.F.Folder.tells_files (sight c.args.hall.now (g.J.Journal.notes c.args.journal.now) (g.F.Folder.files c.args.folder.now) (g.F.Folder.folder_faults c.args.folder.now)) c.requires.sound, c.requires.calm)

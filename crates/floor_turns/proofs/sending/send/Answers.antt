@@ -8,11 +8,11 @@ use Rattle.floor_rooms.specs.declared.room.Room.{Room}
 use Rattle.floor_rooms.specs.Changes.{KeepsRooms, OnlyQueueFiles}
 use Rattle.floor_rooms.specs.Sound.{IsSound}
 use Rattle.floor_rooms.specs.Standing.{Carries}
-use Rattle.floor_turns.specs.Replies.{IsShortFrame}
+use Rattle.floor_acts.specs.Replies.{IsShortFrame}
 use Rattle.floor_acts.specs.Sending.{IsToSend}
-use Rattle.floor_drawing.specs.Drawing.{entry_of}
-use Rattle.floor_drawing.proofs.Sent.{acts_back, at_its_place, if_ok, lent_drawn, lent_to_send, of_client, on_ok, sending_acts, undo_drawn}
-use Rattle.floor_drawing.proofs.sending.send.Goals as goal
+use Rattle.floor_turns.specs.Drawing.{entry_of}
+use Rattle.floor_turns.proofs.Sent.{acts_back, at_its_place, if_ok, lent_drawn, lent_to_send, of_client, on_ok, sending_acts, undo_drawn}
+use Rattle.floor_turns.proofs.sending.send.Goals as goal
 
 pub undo_sent-requires-clause-drawn : goal.undo_sent-requires-clause-drawn
 undo_sent-requires-clause-drawn g c = undo_drawn c.args.hall.now.moment c.args.number c.args.message c.announce_sent-message.result.0 c.args.hall.now.rooms.items c.args.place.room c.args.place.stall c.announce_sent-message.ensures.same c.requires.drawn

@@ -2,17 +2,17 @@ ghost use Rattle.std.specs.Prelude.{◌≡◌, ◌≤◌, IsTrue, false, length}
 ghost use Rattle.broker_history.specs.declared.call.Call.TheVariants as calls;
 ghost use Rattle.floor_rooms.specs.Changes.{OnlyQueueFiles};
 ghost use Rattle.floor_rooms.specs.Sound.{IsSound};
-ghost use Rattle.floor_turns.specs.Plans.{DrawsAt};
-ghost use Rattle.floor_turns.specs.Moves.{sight};
+ghost use Rattle.floor_acts.specs.Plans.{DrawsAt};
+ghost use Rattle.floor_moves.specs.Moves.{sight};
 ghost use Rattle.floor_turns.specs.Acting.{Acts};
-ghost use Rattle.floor_drawing.specs.Drawing.{IsServedAt, Rounds};
+ghost use Rattle.floor_turns.specs.Drawing.{IsServedAt, Rounds};
 
 use crate::noting::{rest, stick};
 use crate::sending::send;
 use broker_history::{Entry, Turned};
 use channel_core::Next;
+use floor_moves::{Place, hold_back};
 use floor_rooms::Hall;
-use floor_turns::{Place, hold_back};
 use nsq_base::{MsgId, Steps};
 use nsq_outside::{Folder, Journal};
 use std::sync::ledger::Ledger;

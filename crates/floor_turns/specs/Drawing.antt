@@ -16,13 +16,13 @@ use Rattle.floor_rooms.specs.declared.stall.Stall.{Stall}
 use Rattle.floor_rooms.specs.declared.room.Room.{Room}
 use Rattle.floor_rooms.specs.declared.hall.Hall.{Hall}
 use Rattle.floor_rooms.specs.Rooms.{channel_name, client_in, topic_name}
-use Rattle.floor_turns.specs.Place.{Place}
-use Rattle.floor_turns.specs.Moves.{Keeps, Notes, Sight}
+use Rattle.floor_moves.specs.declared.due.Place.{Place}
+use Rattle.floor_moves.specs.Moves.{Keeps, Notes, Sight}
 use Rattle.floor_acts.specs.Spots.{GetsOf}
 use Rattle.floor_laws.specs.Laid.{IsHeld}
 use Rattle.floor_turns.specs.Acting.{Acts}
-use Rattle.floor_drawing.specs.declared.drawing.Round.{Round}
-use Rattle.floor_drawing.specs.declared.drawing.Round.TheVariants as round
+use Rattle.floor_turns.specs.declared.drawing.Round.{Round}
+use Rattle.floor_turns.specs.declared.drawing.Round.TheVariants as round
 
 -- the entry of a client's act
 abbrev pub entry_of : (number at : ℕ) → Act → Entry

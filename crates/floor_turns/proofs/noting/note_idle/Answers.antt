@@ -1,9 +1,9 @@
 use Rattle.std.proofs.Common.{◌≡◌, Some}
 use Rattle.std.specs.Prelude.{IsTrue}
 use Rattle.floor_turns.proofs.Carrying.{noted_act}
-use Rattle.floor_drawing.specs.Drawing.{entry_of}
-use Rattle.floor_drawing.proofs.Sent.{on_ok}
-use Rattle.floor_drawing.proofs.noting.note_idle.Goals as goal
+use Rattle.floor_turns.specs.Drawing.{entry_of}
+use Rattle.floor_turns.proofs.Sent.{on_ok}
+use Rattle.floor_turns.proofs.noting.note_idle.Goals as goal
 
 pub returns-clause-noted : goal.returns-clause-noted
 returns-clause-noted g c =

@@ -1,7 +1,7 @@
 use Rattle.std.proofs.Common.{◌≡◌, false}
-use Rattle.floor_turns.specs.Moves.{sight}
-use Rattle.floor_drawing.proofs.Rounds.{HeldSoFar}
-use Rattle.floor_drawing.proofs.drawing.draw.Given as goal
+use Rattle.floor_moves.specs.Moves.{sight}
+use Rattle.floor_turns.proofs.Rounds.{HeldSoFar}
+use Rattle.floor_turns.proofs.drawing.draw.Given as goal
 
 abbrev pub invariant-loop : goal.invariant-loop
 invariant-loop g l =

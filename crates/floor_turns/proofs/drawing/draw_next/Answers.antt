@@ -3,13 +3,13 @@ use Rattle.std.specs.Prelude.{IsSome}
 use Rattle.channel_copies.specs.Clients.{client_of}
 use Rattle.channel_core.specs.declared.answers.Next.TheVariants as next
 use Rattle.floor_rooms.specs.declared.stall.Stall.{Stall}
-use Rattle.floor_turns.specs.Moves.{sight}
+use Rattle.floor_moves.specs.Moves.{sight}
 use Rattle.floor_acts.proofs.Flying.{spot_holds, spot_range, spot_stall_range}
-use Rattle.floor_drawing.proofs.Answering.{acts_damage, acts_fault, acts_no_credit, acts_none_queued, acts_paused, acts_wants}
-use Rattle.floor_drawing.proofs.Rounds.{drawn_from, held_keeps, held_moment, held_round, held_there, held_wants, marked_running}
-use Rattle.floor_drawing.proofs.Sent.{client_behind, drawn_behind, drawn_short, moment_behind, order_behind, room_behind, some_is, stall_behind}
-use Rattle.floor_drawing.proofs.Serving.{member_at, spot_at}
-use Rattle.floor_drawing.proofs.drawing.draw_next.Goals as goal
+use Rattle.floor_turns.proofs.Answering.{acts_damage, acts_fault, acts_no_credit, acts_none_queued, acts_paused, acts_wants}
+use Rattle.floor_turns.proofs.Rounds.{drawn_from, held_keeps, held_moment, held_round, held_there, held_wants, marked_running}
+use Rattle.floor_turns.proofs.Sent.{client_behind, drawn_behind, drawn_short, moment_behind, order_behind, room_behind, some_is, stall_behind}
+use Rattle.floor_turns.proofs.Serving.{member_at, spot_at}
+use Rattle.floor_turns.proofs.drawing.draw_next.Goals as goal
 
 pub draw-requires-clause-room : goal.draw-requires-clause-room
 draw-requires-clause-room g c = spot_range c.args.hall.now.rooms.items (spot_at c.args.place) c.requires.serves.from.route c.requires.serves.from.stands

@@ -4,7 +4,7 @@ use Rattle.nsq_base.specs.declared.options.Options.{Options}
 use Rattle.nsq_outside.specs.Causes.{Rose}
 use Rattle.nsq_outside.specs.Files.{Files, SameFiles}
 use Rattle.queue_image.specs.FileNames.{IsFileOf, IsQueueName}
-use Rattle.v2_frame.specs.Laws.{AreBytes}
+use Rattle.v2_frame.specs.Line.{AreBytes}
 use Rattle.path_image.specs.Data.{IsNames, Kept, data_name, last_epoch, names_text, temp_name}
 use Rattle.path_image.specs.Found.{BadData, EpochSpent, Finding, Found, IsFound, Names}
 use Rattle.names_file.specs.Texts.{kept_of}

@@ -15,5 +15,3 @@ pub mod FeedingLemmas
 pub mod ReadLemmas
 pub mod AppendLemmas
 pub mod MessageLemmas
-pub mod SayingLemmas
-pub mod EveryLemmas

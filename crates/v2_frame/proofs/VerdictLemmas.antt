@@ -1,6 +1,5 @@
 -- Bytes at a command's start have one verdict, more bytes leave it as it is, and a whole command is a spelling.
 use Rattle.std.proofs.Common.{◌≡◌, ℕ, ◌+◌, ◌<◌, ◌≤◌, List, ◌∷◌, ◌++◌, length, refl, sym, ap, ◌∙◌, subst, arith, append_assoc, length-append}
-use Rattle.std.proofs.lemmas.List.{append_cancel_right}
 use Rattle.v2_frame.specs.declared.command.Command.{Command}
 use Rattle.v2_frame.specs.declared.fault.FaultKind.{FaultKind}
 use Rattle.v2_frame.specs.declared.fault.FaultKind.TheVariants.{LineTooLong, BadWord, BadTopic, BadChannel}
@@ -131,11 +130,3 @@ begins_more {rest = rest} more b = record { front = b.front; whole = ap (λ (x :
 pub begins_unique : (limits : Limits) {bytes x y : List ℕ} {c d : Command} → Begins limits bytes c x → Begins limits bytes d y → (c ≡ d) × (x ≡ y)
 begins_unique limits {x = x} {y = y} {c = c} {d = d} b e =
     let same : Whole c x ≡ Whole d y = judged_unique limits (begins_judged b) (begins_judged e) in (cc, cc)
-
--- no spelling begins that of another command
-pub spells_unique : (limits : Limits) (a b x y : List ℕ) (c d : Command) → Spells limits a c → Spells limits b d → a ++ x ≡ b ++ y → (a ≡ b) × (c ≡ d) × (x ≡ y)
-spells_unique limits a b x y c d s t e =
-    let first : Begins limits (a ++ x) c x = record { front = a; whole = refl; spells = s } in
-    let second : Begins limits (a ++ x) d y = record { front = b; whole = e; spells = t } in
-    let same : (c ≡ d) × (x ≡ y) = begins_unique limits first second in
-    (append_cancel_right a b x (e ∙ ap (λ (z : List ℕ). b ++ z) (sym same.1)), same.0, same.1)

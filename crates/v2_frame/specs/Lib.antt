@@ -4,9 +4,7 @@ pub mod Command
 pub mod Judging
 pub mod Script
 pub mod Written
-pub mod Laws
 pub mod Parts
 pub mod Lined
 pub mod Reading
-pub mod ReaderLaws
 pub mod Messages

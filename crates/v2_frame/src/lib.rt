@@ -1,7 +1,8 @@
 //! The V2 stream of NSQ (nsq.io, TCP Protocol Spec): its commands, frames and messages, as a daemon reads and writes them.
 //!
 //! Contracts speak of whole byte lists: `Spells` says which bytes spell a command, `IsScript` which commands stand in a row
-//! in a stream and whether what follows is a fault or not yet finished. No cut of the stream into pieces changes its script.
+//! in a stream and whether what follows is a fault or not yet finished. No cut of the stream into pieces changes its script,
+//! which is a law of `stream_laws`, as all that follows from these definitions.
 //! `judge_front` says what stands at a command's start of whole bytes, and `Reader` gives a stream's script piece by piece.
 //! `frame_bytes` and `message_bytes` say what a frame and a message are.
 #![tactic(auto)]
@@ -15,13 +16,10 @@ mod frame;
 mod got;
 mod heading;
 mod judge;
-pub mod laws;
 mod line;
 mod message;
-pub mod message_laws;
 mod number;
 mod reader;
-pub mod reader_laws;
 mod start;
 mod write;
 

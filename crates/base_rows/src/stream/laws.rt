@@ -1,5 +1,5 @@
+use stream_laws::{laws, message_laws, reader_laws};
 use v2_client::frame_laws;
-use v2_frame::{laws, message_laws, reader_laws};
 
 // Each law can be cited.
 #[test]

@@ -1,6 +1,7 @@
 use Rattle.std.proofs.Common.{refl}
-use Rattle.v2_frame.proofs.ReadLemmas.{fed_limits, fed_read, given_limits, given_read, read_script}
-use Rattle.v2_frame.proofs.reader_laws.any_pieces_are_one_stream.Goals as goal
+use Rattle.v2_frame.proofs.ReadLemmas.{fed_limits, given_limits}
+use Rattle.stream_laws.proofs.ReadLemmas.{fed_read, given_read, read_script}
+use Rattle.stream_laws.proofs.reader_laws.any_pieces_are_one_stream.Goals as goal
 
 pub returns : goal.returns
 returns c = record {

@@ -1,5 +1,5 @@
 use Rattle.v2_frame.proofs.VerdictLemmas.{judged_unique}
-use Rattle.v2_frame.proofs.laws.one_verdict.Goals as goal
+use Rattle.stream_laws.proofs.laws.one_verdict.Goals as goal
 
 pub returns : goal.returns
 returns c = λ limits bytes v w d e. judged_unique limits d e

@@ -1,11 +1,11 @@
 -- The laws of the V2 stream, each the contract of a function that does nothing.
-use Rattle.std.specs.Prelude.{◌≡◌, ℕ, ◌<◌, List, ◌++◌}
-use Rattle.std.specs.List.{AllByRecursion}
+use Rattle.std.specs.Prelude.{◌≡◌, ℕ, List, ◌++◌}
 use Rattle.v2_frame.specs.declared.command.Command.{Command}
 use Rattle.v2_frame.specs.declared.fault.Fault.{Fault}
 use Rattle.v2_frame.specs.declared.fault.Limits.{Limits}
 use Rattle.v2_frame.specs.declared.fault.Rest.{Rest}
 use Rattle.v2_frame.specs.declared.fault.Rest.TheVariants.{Faulty}
+use Rattle.v2_frame.specs.Line.{AreBytes}
 use Rattle.v2_frame.specs.Command.{Spells, canonical, IsWritable}
 use Rattle.v2_frame.specs.Judging.{Verdict, Whole, Judged, Begins}
 use Rattle.v2_frame.specs.Script.{IsScript}
@@ -39,10 +39,6 @@ ScriptsGoOn = (limits : Limits) (bytes more : List ℕ) (commands longer : List 
 -- a stream has at most one script
 abbrev pub OneScript : Type 0
 OneScript = (limits : Limits) (bytes : List ℕ) (commands others : List Command) (rest other : Rest) → IsScript limits bytes commands rest → IsScript limits bytes others other → (commands ≡ others) × (rest ≡ other)
-
--- each is a byte
-abbrev pub AreBytes : List ℕ → Type 0
-AreBytes bytes = AllByRecursion (λ b. b < 256) bytes
 
 -- bytes at a command's start have a verdict
 abbrev pub HasVerdict : Limits → List ℕ → Type 0

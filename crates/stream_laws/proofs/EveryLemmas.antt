@@ -14,7 +14,7 @@ use Rattle.v2_frame.specs.declared.fault.FaultKind.TheVariants.{BadMagic, LineTo
 use Rattle.v2_frame.specs.declared.fault.Limits.{Limits}
 use Rattle.v2_frame.specs.declared.fault.Rest.{Rest}
 use Rattle.v2_frame.specs.declared.fault.Rest.TheVariants as rest
-use Rattle.v2_frame.specs.Line.{HasNo, HasLine, text_of, words_of}
+use Rattle.v2_frame.specs.Line.{AreBytes, HasNo, HasLine, text_of, words_of}
 use Rattle.v2_frame.specs.Heading.{Heading, Identify, Sub, Pub, Mpub, Dpub, Rdy, Fin, Req, Touch, Cls, Nop, Says, SaysNothing, IsWellNamed, HasBadTopic, HasBadChannel}
 use Rattle.v2_frame.specs.Command.{longest_line, size4, sized, content_of, IsSize, IsBody}
 use Rattle.v2_frame.specs.Command.{bytes_behind as behind_of}
@@ -22,13 +22,13 @@ use Rattle.v2_frame.specs.Judging.{Verdict, Whole, Faulty, Unfinished, shifted, 
 use Rattle.v2_frame.specs.Judging.{bad_size as wrong_size}
 use Rattle.v2_frame.specs.Parts.{IsWholeField}
 use Rattle.v2_frame.specs.Script.{magic, Row, none, more, told_place, HasScript, open_magic, good_magic}
-use Rattle.v2_frame.specs.Laws.{AreBytes, HasVerdict, SomeScript}
+use Rattle.stream_laws.specs.Laws.{HasVerdict, SomeScript}
 use Rattle.v2_frame.proofs.SizeLemmas.{size_long}
 use Rattle.v2_frame.proofs.FieldLemmas.{text_good, text_whole, text_bad}
 use Rattle.v2_frame.proofs.ReaderLemmas.{open_few, endless}
 use Rattle.v2_frame.proofs.VerdictLemmas.{judged_begins}
 use Rattle.v2_frame.proofs.ScriptLemmas.{no_magic}
-use Rattle.v2_frame.proofs.SayingLemmas.{same, saying, naming}
+use Rattle.stream_laws.proofs.SayingLemmas.{same, saying, naming}
 
 -- what stands behind a front of bytes are bytes, and so is the front
 bytes_behind : (front behind : List ℕ) → AreBytes (front ++ behind) → AreBytes behind

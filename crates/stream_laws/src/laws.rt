@@ -1,4 +1,4 @@
-ghost use Rattle.v2_frame.specs.Laws.{CanonicalIsSpelling, NoSpellingBeginsAnother, OneVerdict, SpelledIsWhole, WholeIsSpelled, ScriptsGoOn, OneScript, EveryVerdict, EveryScript};
+ghost use Rattle.stream_laws.specs.Laws.{CanonicalIsSpelling, NoSpellingBeginsAnother, OneVerdict, SpelledIsWhole, WholeIsSpelled, ScriptsGoOn, OneScript, EveryVerdict, EveryScript};
 
 /// No spelling of a command begins another command's spelling, and equal bytes spell one command. It does nothing: its
 /// contract is the law.

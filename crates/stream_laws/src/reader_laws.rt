@@ -1,4 +1,4 @@
-ghost use Rattle.v2_frame.specs.ReaderLaws.{CommandsTakeBytes, FaultStays, FedHasRead, FreshHasRead, GivenHasRead, GivenIsLeft, LimitsStay, ReadIsScript};
+ghost use Rattle.stream_laws.specs.ReaderLaws.{CommandsTakeBytes, FaultStays, FedHasRead, FreshHasRead, GivenHasRead, GivenIsLeft, LimitsStay, ReadIsScript};
 
 /// After any feeds, the commands that a reader gave so far followed by those that are left are the script of all bytes
 /// fed, whatever the pieces were. It does nothing: its contract is the law, step by step.

@@ -1,5 +1,0 @@
-use Rattle.v2_frame.proofs.EveryLemmas.{verdict_there, script_there}
-use Rattle.v2_frame.proofs.laws.every_stream_has_a_script.Goals as goal
-
-pub returns : goal.returns
-returns c = record { verdict = verdict_there; script = script_there }

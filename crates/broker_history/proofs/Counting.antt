@@ -7,10 +7,9 @@ use Rattle.std.proofs.lemmas.List.Sums.{sum_by-append}
 use Rattle.std.proofs.lemmas.Grind.{common_steps}
 use Rattle.v2_frame.specs.declared.message.Message.{Message}
 use Rattle.broker_history.specs.State.{Place, Queued, InFlight, Deferred, Copy, Waiting, is_live, is_queued, is_in_flight, is_with}
-use Rattle.broker_history.specs.Channels.{one, Moves, MovesLive, JoinsLive, HasLive}
-use Rattle.broker_history.specs.Topics.{Fits, HasWaiting}
+use Rattle.broker_history.specs.Channels.{one, Moves, MovesLive, JoinsLive, HasLive, CountsLive}
+use Rattle.broker_history.specs.Topics.{Fits, HasWaiting, TakenFrom}
 use Rattle.path_image.specs.Found.{Pairwise}
-use Rattle.broker_history.specs.Laws.{CountsLive, TakenFrom}
 use Rattle.broker_history.proofs.Lists.{exact_bytes, same_bytes}
 
 pub count-cons : {X : Type 0} (p : X → Bool) (x : X) (xs : List X) → count_by p (x ∷ xs) ≡ one (p x) + count_by p xs

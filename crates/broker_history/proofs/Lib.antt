@@ -2,12 +2,7 @@ pub mod Histories
 pub mod Stops
 pub mod Own
 pub mod Lists
-pub mod Copying
-pub mod Keeping
-pub mod Stepping
-pub mod Credits
 pub mod Timing
-pub mod Starting
 pub mod Counting
 pub mod Scripting
 pub mod Copies

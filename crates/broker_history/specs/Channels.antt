@@ -114,6 +114,12 @@ pub record JoinsLive (x : Copy) (old new : List Copy) : Type 0 where
 pub record HasLive (kept copies : List Copy) : Type 0 where
   pub often : (p : Copy → Bool) → count_by p kept ≡ count_by (λ x. is_live x.place && p x) copies
 
+-- it has as many copies queued, in flight with a client, and in flight of an id
+pub record CountsLive (kept copies : List Copy) : Type 0 where
+  pub queues : queued kept ≡ queued copies
+  pub flies : (number : ℕ) → flying number kept ≡ flying number copies
+  pub of : (id : List ℕ) → flying_of id kept ≡ flying_of id copies
+
 -- the copy after its channel was emptied: one that wasn't done with is now
 abbrev pub emptied_copy : Copy → Copy
 emptied_copy x = if is_live x.place then record x { place = Emptied } else x

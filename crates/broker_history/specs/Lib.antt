@@ -14,8 +14,6 @@ pub mod Moments
 pub mod Talk
 pub mod Found
 pub mod Left
-pub mod Copies
-pub mod Laws
 pub mod Scripts
 pub mod Calls
 pub mod Answers

@@ -1,25 +1,10 @@
--- That conversations follow the scripts of their bytes.
-use Rattle.std.specs.Prelude.{◌≡◌, ℕ, Bool, List, [], ◌++◌}
+-- Which commands stand at the front of the bytes of a conversation.
+use Rattle.std.specs.Prelude.{◌≡◌, ℕ, List, [], ◌++◌}
 use Rattle.v2_frame.specs.declared.command.Command.{Command}
 use Rattle.v2_frame.specs.declared.fault.Limits.{Limits}
-use Rattle.v2_frame.specs.declared.fault.Rest.TheVariants.{Unfinished}
-use Rattle.v2_frame.specs.Script.{magic, Row, IsScript}
-use Rattle.broker_history.specs.declared.ended.Ended.{Ended}
-use Rattle.broker_history.specs.declared.ended.Ended.TheVariants.{EndOfInput}
-use Rattle.broker_history.specs.Entries.{History}
-use Rattle.broker_history.specs.Talk.{IsTalk, bytes_of, commands_of}
+use Rattle.v2_frame.specs.Script.{magic, Row}
 
 -- no commands, or commands that stand in a row behind the magic at the front of the bytes
 pub data StandAtFront (limits : Limits) (bytes : List ℕ) (commands : List Command) : Type 0 where
   no_commands : commands ≡ [] → StandAtFront limits bytes commands
   in_row : (after left : List ℕ) → bytes ≡ magic ++ after → Row limits after commands left → StandAtFront limits bytes commands
-
--- the commands of a conversation are the first ones of its bytes, in order, however they came in rounds
-abbrev pub TalksTakeCommandsInOrder : Type 0
-TalksTakeCommandsInOrder = (limits : Limits) (stopped : Bool) (wanted : ℕ) (pieces : List (List ℕ)) (own : History) (out : List ℕ) (ended : Ended)
-    → IsTalk limits stopped wanted pieces own out ended → StandAtFront limits (bytes_of pieces) (commands_of own)
-
--- a conversation that came to the end of the input took all commands of its bytes, and no fault stands in them
-abbrev pub FinishedTalksTakeAll : Type 0
-FinishedTalksTakeAll = (limits : Limits) (stopped : Bool) (wanted : ℕ) (pieces : List (List ℕ)) (own : History) (out : List ℕ)
-    → IsTalk limits stopped wanted pieces own out EndOfInput → IsScript limits (bytes_of pieces) (commands_of own) Unfinished

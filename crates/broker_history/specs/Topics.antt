@@ -92,3 +92,12 @@ pub record HasWaiting (kept : List Message) (waiting : List Waiting) : Type 0 wh
   pub in_order : List Waiting
   pub often : AsOften waiting in_order
   pub fit : Pairwise Fits in_order kept
+
+-- what a topic of the program keeps is taken as a state's is: where one of its messages goes, a waiting one that it fits may be taken
+pub record TakenFrom (kept : List Message) (m : Message) (waiting : List Waiting) : Type 0 where
+  pub before : List Waiting
+  pub waits : Waiting
+  pub after : List Waiting
+  pub was : waiting ≡ before ++ waits ∷ after
+  pub fits : Fits waits m
+  pub left : HasWaiting kept (before ++ after)

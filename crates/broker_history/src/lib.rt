@@ -2,7 +2,7 @@
 //! a connection's bytes, its entries and what it got have to do with each other.
 //!
 //! The definitions stand in `specs`, in the order of a message's way; channels, topics, the broker, the data path and the sessions
-//! are proved against them. `laws` has what follows from the definitions alone.
+//! are proved against them. The crate `history_laws` has what follows from the definitions alone.
 //!
 //! Beside them stands what a connection, an HTTP call or the daemon itself asks of the floor, what it is answered, and where it takes its
 //! turns. One call of `turn` is one event of the history. `specs/Answers.antt` says which entry a call notes and what it is answered then;
@@ -15,7 +15,6 @@ mod desk;
 mod ended;
 mod entry;
 mod items;
-pub mod laws;
 mod stats;
 mod turned;
 

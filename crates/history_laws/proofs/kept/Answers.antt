@@ -1,8 +1,8 @@
 use Rattle.std.proofs.Common.{ap, ◌∙◌}
 use Rattle.broker_history.specs.State.{is_live}
-use Rattle.broker_history.specs.Laws.{Becomes}
+use Rattle.history_laws.specs.Laws.{Becomes}
 use Rattle.broker_history.proofs.Counting.{live_moves, live_joins, live_counts, kept_taken}
-use Rattle.broker_history.proofs.laws.kept.Goals as goal
+use Rattle.history_laws.proofs.kept.Goals as goal
 
 pub returns : goal.returns
 returns c = record {

@@ -21,10 +21,10 @@ use Rattle.broker_history.specs.Changes.{published, published_topic, made, made_
 use Rattle.broker_history.specs.Identify.{Identity, identity_of}
 use Rattle.broker_history.specs.Reply.{requeue_delay, span_of}
 use Rattle.broker_history.specs.Step.{room_of, own_room, Copies, AtOwn, CarriesOut, DoesCommand, DoesMove, DoesMoveTo, DoesAct, Step, with_identity, carried_out, broken_off, asked_state, is_done, is_kept_off, spoke}
-use Rattle.broker_history.specs.Copies.{ChannelGoesOn}
+use Rattle.history_laws.specs.Copies.{ChannelGoesOn}
 use Rattle.broker_history.proofs.Lists.{exact_bytes, find_passes}
-use Rattle.broker_history.proofs.Copying.{channel_same, channel_emptied, sends_on, finishes_on, touches_on, gives_on, times_on, comes_on, holds_on, gets_on}
-use Rattle.broker_history.proofs.Keeping.{TopicGoesOn, StateGoesOn, topic_same, topic_put, state_put, state_same, at_topic, in_channel, at_channel, fewer_on, fewer_deleted, fewer_channels, fewer_itself, deleted_on, onto, from_same}
+use Rattle.history_laws.proofs.Copying.{channel_same, channel_emptied, sends_on, finishes_on, touches_on, gives_on, times_on, comes_on, holds_on, gets_on}
+use Rattle.history_laws.proofs.Keeping.{TopicGoesOn, StateGoesOn, topic_same, topic_put, state_put, state_same, at_topic, in_channel, at_channel, fewer_on, fewer_deleted, fewer_channels, fewer_itself, deleted_on, onto, from_same}
 
 none_some : {X A : Type 0} (x : X) → None ≡ Some x → A
 none_some x e = cc

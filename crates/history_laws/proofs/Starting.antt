@@ -11,7 +11,7 @@ use Rattle.broker_history.specs.State.{Waiting, Queued, Copy, Channel, Topic, co
 use Rattle.broker_history.specs.Channels.{copy_at}
 use Rattle.broker_history.specs.Found.{started_channel, started, start}
 use Rattle.broker_history.specs.Left.{IsLeftChannel, IsLeftTopic, IsAllLeft}
-use Rattle.broker_history.specs.Laws.{IsDurable}
+use Rattle.history_laws.specs.Laws.{IsDurable}
 
 waits : (ms : List Message) → map (λ (w : Waiting). w.message) (map (λ m. record { message = m; loose = false }) ms) ≡ ms
 waits [] = refl

@@ -1,7 +1,10 @@
-//! What follows from the definitions alone: each function's contract is a law, and its body is empty.
+//! What follows from the definitions of histories alone (`broker_history`), as laws: each function's contract is one, and its body is empty.
+//!
+//! No program stands on this crate, so none waits for its proof. Lemmas that other crates cite too stand in `broker_history`.
+#![tactic(auto)]
 
-ghost use Rattle.broker_history.specs.Laws.{HistoriesJoin, FrontsAreLegal, MomentsNeverFall, StopsAreOnce, FaultsAreApartButOne, OwnEntriesJoin, CommonEntriesAreNobodys, OnlyGonesTell, GonesTell, OthersAreNotGone, TalksStay, TalksWithoutGone, TalksWithGone, CopiesHaveOnePlace, SentWithinReady, TurnsHaveReadings, StartsFromFound, LiveMovesAreMoves, LiveJoinsAreJoins, LiveCountsAreCounts, KeptIsTaken};
-ghost use Rattle.broker_history.specs.Scripts.{TalksTakeCommandsInOrder, FinishedTalksTakeAll};
+ghost use Rattle.history_laws.specs.Laws.{HistoriesJoin, FrontsAreLegal, MomentsNeverFall, StopsAreOnce, FaultsAreApartButOne, OwnEntriesJoin, CommonEntriesAreNobodys, OnlyGonesTell, GonesTell, OthersAreNotGone, TalksStay, TalksWithoutGone, TalksWithGone, CopiesHaveOnePlace, SentWithinReady, TurnsHaveReadings, StartsFromFound, LiveMovesAreMoves, LiveJoinsAreJoins, LiveCountsAreCounts, KeptIsTaken};
+ghost use Rattle.history_laws.specs.Scripts.{TalksTakeCommandsInOrder, FinishedTalksTakeAll};
 
 /// Legal histories join, each front of one is legal, its moments never fall, it has one Stop at most, and of its disk faults at
 /// most one stands just before that.

@@ -5,7 +5,7 @@ use Rattle.std.proofs.lemmas.List.Folds.{list_all-append}
 use Rattle.v2_frame.specs.declared.message.Message.{Message}
 use Rattle.broker_history.specs.State.{Place, InFlight, Deferred, Finished, Emptied, Copy, Channel, is_live, queued}
 use Rattle.broker_history.specs.Channels.{put_back, put_off, copy_at, IsSent, IsFinished, IsTouched, IsGivenBack, IsTimedOut, IsCameDue, IsHeldBack, Moves, Joins, Room, back_in, joins_at, is_dropped, emptied_copy, emptied_all, Sends, Finishes, Touches, GivesBack, TimesOut, ComesDue, HoldsBack, Gets}
-use Rattle.broker_history.specs.Copies.{GoesOn, CopiesGoOn, none_dropped, ChannelGoesOn}
+use Rattle.history_laws.specs.Copies.{GoesOn, CopiesGoOn, none_dropped, ChannelGoesOn}
 
 -- a copy goes on as it is
 pub goes_itself : (x : Copy) → GoesOn x x

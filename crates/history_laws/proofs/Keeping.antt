@@ -5,9 +5,9 @@ use Rattle.std.specs.Str.{bytes_eq}
 use Rattle.nsq_base.specs.Name.{is_ephemeral}
 use Rattle.broker_history.specs.State.{State, Topic, Channel, is_empty, topic_of, channel_of, with_topic, with_channel, is_ephemeral_channel}
 use Rattle.broker_history.specs.Changes.{lost, with_fewer, without_topic, without_channel, deleted_in, deleted_channel, deleted_channels, deleted, channels_in, AtTopic, InChannel, AtChannel}
-use Rattle.broker_history.specs.Copies.{ChannelGoesOn}
+use Rattle.history_laws.specs.Copies.{ChannelGoesOn}
 use Rattle.broker_history.proofs.Lists.{exact_bytes, find_passes, find_put, find_gone}
-use Rattle.broker_history.proofs.Copying.{channel_same}
+use Rattle.history_laws.proofs.Copying.{channel_same}
 
 -- a topic goes on: each channel that it has before and after does
 pub record TopicGoesOn (t t' : Topic) : Type 0 where

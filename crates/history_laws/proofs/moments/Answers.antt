@@ -1,5 +1,5 @@
 use Rattle.broker_history.proofs.Timing.{turns_read}
-use Rattle.broker_history.proofs.laws.moments.Goals as goal
+use Rattle.history_laws.proofs.moments.Goals as goal
 
 pub returns : goal.returns
 returns c = turns_read

@@ -1,5 +1,5 @@
 use Rattle.broker_history.proofs.Own.{own-append, common_none, stops_stay, gone_tells, others_gone, talk_stays, talk_without_gone, talk_with_gone}
-use Rattle.broker_history.proofs.laws.connections.Goals as goal
+use Rattle.history_laws.proofs.connections.Goals as goal
 
 pub returns : goal.returns
 returns c = record {

@@ -1,6 +1,6 @@
 use Rattle.broker_history.proofs.Histories.{Legal-append, Legal-front, moment-Legal}
 use Rattle.broker_history.proofs.Stops.{stops_once, faults_but_one}
-use Rattle.broker_history.proofs.laws.histories.Goals as goal
+use Rattle.history_laws.proofs.histories.Goals as goal
 
 pub returns : goal.returns
 returns c = record {

@@ -6,10 +6,10 @@ use Rattle.broker_history.specs.declared.entry.Entry.{Entry}
 use Rattle.v2_frame.specs.declared.fault.Limits.{Limits}
 use Rattle.broker_history.specs.declared.ended.Ended.{Ended}
 use Rattle.broker_history.specs.declared.entry.Act.TheVariants.{Gone, Sent}
-use Rattle.broker_history.specs.Copies.{ChannelGoesOn}
-use Rattle.broker_history.specs.Channels.{Moves, MovesLive, JoinsLive, HasLive}
-use Rattle.broker_history.specs.Topics.{Fits, HasWaiting}
-use Rattle.broker_history.specs.State.{Copy, Waiting, Channel, State, channel_at, is_ephemeral_channel, is_live, queued, flying, flying_of}
+use Rattle.history_laws.specs.Copies.{ChannelGoesOn}
+use Rattle.broker_history.specs.Channels.{Moves, MovesLive, JoinsLive, HasLive, CountsLive}
+use Rattle.broker_history.specs.Topics.{HasWaiting, TakenFrom}
+use Rattle.broker_history.specs.State.{Copy, Waiting, Channel, State, channel_at, is_ephemeral_channel, is_live}
 use Rattle.broker_history.specs.Step.{Step}
 use Rattle.broker_history.specs.Entries.{History, IsCommon, own, has_stop, stops_of, faults_of, faults_apart}
 use Rattle.broker_history.specs.Legal.{Legal}
@@ -114,23 +114,10 @@ LiveMovesAreMoves = (from to : Copy) (kept kept' copies : List Copy) → is_live
 abbrev pub LiveJoinsAreJoins : Type 0
 LiveJoinsAreJoins = (x : Copy) (kept kept' copies : List Copy) → HasLive kept copies → JoinsLive x kept kept' → HasLive kept' (copies ++ x ∷ [])
 
--- it has as many copies queued, in flight with a client, and in flight of an id
-pub record CountsLive (kept copies : List Copy) : Type 0 where
-  pub queues : queued kept ≡ queued copies
-  pub flies : (number : ℕ) → flying number kept ≡ flying number copies
-  pub of : (id : List ℕ) → flying_of id kept ≡ flying_of id copies
-
+-- and it has as many copies queued, in flight with a client, and in flight of an id
 abbrev pub LiveCountsAreCounts : Type 0
 LiveCountsAreCounts = (kept copies : List Copy) → HasLive kept copies → CountsLive kept copies
 
 -- what a topic of the program keeps is taken as a state's is: where one of its messages goes, a waiting one that it fits may be taken
-pub record TakenFrom (kept : List Message) (m : Message) (waiting : List Waiting) : Type 0 where
-  pub before : List Waiting
-  pub waits : Waiting
-  pub after : List Waiting
-  pub was : waiting ≡ before ++ waits ∷ after
-  pub fits : Fits waits m
-  pub left : HasWaiting kept (before ++ after)
-
 abbrev pub KeptIsTaken : Type 0
 KeptIsTaken = (m : Message) (front back : List Message) (waiting : List Waiting) → HasWaiting (front ++ m ∷ back) waiting → TakenFrom (front ++ back) m waiting

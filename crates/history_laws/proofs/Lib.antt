@@ -1,0 +1,5 @@
+pub mod Copying
+pub mod Keeping
+pub mod Stepping
+pub mod Credits
+pub mod Starting

@@ -58,7 +58,7 @@ pub enum Gone {
 }
 
 /// How many messages wait, and where. A message that was drawn and isn't settled is counted where it came from.
-#[derive(Clone, Copy, PartialEq, Eq)]
+#[derive(Clone, Copy, PartialEq)]
 pub struct Depths {
     /// In the ring.
     pub ring: u64,

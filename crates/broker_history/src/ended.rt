@@ -1,5 +1,5 @@
 /// How a conversation with a client ended.
-#[derive(Clone, Copy, PartialEq, Eq)]
+#[derive(Clone, Copy)]
 pub enum Ended {
     /// The client sent no more.
     EndOfInput,

@@ -169,7 +169,7 @@ fn never_begins(
     ended: Ended,
 ) -> Result<bool, Memory> {
     Ok(
-        ended == Ended::Memory
+        matches!(ended, Ended::Memory)
             && pieces.is_empty()
             && own.is_empty()
             && is_given_up(alloc, own, out)?,

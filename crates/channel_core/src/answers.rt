@@ -35,7 +35,7 @@ pub enum Next {
 }
 
 /// What `Channel::look` finds of an id.
-#[derive(Clone, Copy, PartialEq, Eq)]
+#[derive(Clone, Copy, PartialEq)]
 pub enum Look {
     /// The copy is in flight with the client.
     Yours,
@@ -46,7 +46,7 @@ pub enum Look {
 }
 
 /// The answer of `Channel::requeue`.
-#[derive(Clone, Copy, PartialEq, Eq)]
+#[derive(Clone, Copy)]
 pub enum Requeue {
     /// The copy was given back.
     Done,
@@ -77,7 +77,7 @@ pub enum DropChannel {
 }
 
 /// How many copies a channel has, and what happened to them in this run; the latter counts stay at 2^64 - 1.
-#[derive(Clone, Copy, PartialEq, Eq)]
+#[derive(Clone, Copy)]
 pub struct Counts {
     /// How many of the queued copies are on disk.
     pub backend_depth: u128,

@@ -16,9 +16,9 @@ use std::process::Abort;
 use std::sync::ledger::{Blank, Ledger};
 
 // What is told of a channel and its files.
-#[derive(Clone, Copy, PartialEq, Eq)]
+#[derive(Clone, Copy, PartialEq)]
 struct View {
-    counts: Counts,
+    counts: [u128; 7],
     first: Look,
     second: Look,
     // Whether something is due then.
@@ -31,7 +31,7 @@ struct View {
 fn view_of<L: Ledger>(stage: &Stage<L>) -> View {
     let channel = &stage.channel;
     View {
-        counts: channel.counts(),
+        counts: numbers_of(channel.counts()),
         first: channel.look(1, id_of(0)),
         second: channel.look(1, id_of(1)),
         soon: channel.due(MINUTE - 1).is_some(),
@@ -39,6 +39,19 @@ fn view_of<L: Ledger>(stage: &Stage<L>) -> View {
         data: sum_of(&stage.folder, "t:c.diskqueue.000000.dat"),
         meta: sum_of(&stage.folder, "t:c.diskqueue.meta.dat"),
     }
+}
+
+// All that is counted of a channel.
+fn numbers_of(counts: Counts) -> [u128; 7] {
+    [
+        counts.backend_depth,
+        u128::from(counts.deferred_count),
+        counts.depth,
+        u128::from(counts.in_flight_count),
+        u128::from(counts.message_count),
+        u128::from(counts.requeue_count),
+        u128::from(counts.timeout_count),
+    ]
 }
 
 // A number that tells a file's bytes from most others; 0 where it has none.

@@ -4,7 +4,7 @@ ghost use Rattle.daemon_endings.specs.Endings.{ending_of, refusal_of};
 use crate::ends::{LoopEnd, ShutEnd, Why};
 
 /// How a run that serves ended.
-#[derive(Clone, Copy, Debug, PartialEq, Eq)]
+#[derive(Clone, Copy)]
 pub enum ServeEnd {
     /// A clean stop.
     Clean,

@@ -1,7 +1,7 @@
 /// Names an item of a heap from its insertion until it is taken out.
 ///
 /// Up to the heap's 2^64-th insertion no key is given twice.
-#[derive(Clone, Copy, PartialEq, Eq)]
+#[derive(Clone, Copy, PartialEq)]
 pub struct Key {
     /// Where the item is kept.
     pub(crate) slot: usize,

@@ -2,7 +2,7 @@
 
 use crate::texts::{put, put_channels, put_id, put_message, put_number, put_sent, put_word, same};
 use broker_history::{Act, Ask, Call, Entry};
-use nsq_base::{Body, Chan, Names, Topic};
+use nsq_base::{Bodies, Body, Chan, Names, Topic};
 use nsq_outside::End;
 use std::process::Abort;
 use v2_frame::{Command, Message};
@@ -163,7 +163,7 @@ fn is_command(a: &Command, b: &Command) -> bool {
         (Command::Identify(a), Command::Identify(b)) => is_body(a, b),
         (Command::Sub(a, c), Command::Sub(b, d)) => a == b && c == d,
         (Command::Pub(a, c), Command::Pub(b, d)) => a == b && is_body(c, d),
-        (Command::Mpub(a, c), Command::Mpub(b, d)) => a == b && c == d,
+        (Command::Mpub(a, c), Command::Mpub(b, d)) => a == b && are_bodies(c, d),
         (Command::Dpub(a, c, e), Command::Dpub(b, d, f)) => a == b && c == d && is_body(e, f),
         _ => is_short_command(a, b),
     }
@@ -183,9 +183,17 @@ fn is_body(a: &Body, b: &Body) -> bool {
     same(a.bytes(), b.bytes())
 }
 
+fn are_bodies(a: &Bodies, b: &Bodies) -> bool {
+    let mut all = a.count() == b.count();
+    for (a, b) in a.as_slice().iter().zip(b.as_slice()) {
+        all &= is_body(a, b);
+    }
+    all
+}
+
 fn is_ask(a: &Ask, b: &Ask) -> bool {
     match (a, b) {
-        (Ask::Publish(a, c, e), Ask::Publish(b, d, f)) => a == b && c == d && e == f,
+        (Ask::Publish(a, c, e), Ask::Publish(b, d, f)) => a == b && c == d && are_bodies(e, f),
         (Ask::Stats(a, c), Ask::Stats(b, d)) => a == b && c == d,
         (Ask::Create(a, c), Ask::Create(b, d))
         | (Ask::Delete(a, c), Ask::Delete(b, d))

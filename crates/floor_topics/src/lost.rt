@@ -1,5 +1,5 @@
 /// How a deletion ended.
-#[derive(Clone, Copy, PartialEq, Eq)]
+#[derive(Clone, Copy)]
 pub enum Lost {
     /// It is gone, with its messages.
     Done,

@@ -4,7 +4,7 @@ ghost use Rattle.http_wire.specs.Argument.{HasNoArgument, IsFirstArgument};
 use nsq_base::{Body, Pairs};
 
 /// A request.
-#[derive(PartialEq, Eq, Drop)]
+#[derive(Drop)]
 pub struct Request {
     /// The method, as `GET`: the case of letters matters.
     pub method: Body,

@@ -36,7 +36,7 @@ impl Model for ListedNames {
 }
 
 /// Why nothing was read.
-#[derive(Clone, Copy, Debug, PartialEq, Eq, Error)]
+#[derive(Clone, Copy, Debug, Error)]
 pub enum Unread {
     /// The text keeps nothing.
     #[error("bad file of names")]

@@ -1,6 +1,4 @@
-ghost use Rattle.std.specs.Prelude.{◌≡◌, ◌<◌, [], ◌∷◌, ◌++◌, length, slice_get, Some, IfOk, OnOk, OnErr, nat_eq};
-ghost use Rattle.std.specs.Cmp.{partial_equiv_from_equiv};
-ghost use Rattle.std.specs.Cmp.Lexicographic.{pointwise, lists_equiv, nat_list_eq_equiv};
+ghost use Rattle.std.specs.Prelude.{◌≡◌, ◌<◌, [], ◌∷◌, ◌++◌, length, slice_get, Some, IfOk, OnOk, OnErr};
 
 use crate::lists::put_last;
 use crate::{Body, Memory};
@@ -8,7 +6,7 @@ use std::alloc::Global;
 use std::marker::Model;
 
 /// A list of bodies, as that of a batch.
-#[derive(Debug, Drop)]
+#[derive(Drop)]
 pub struct Bodies {
     items: Vec<Body>,
 }
@@ -85,18 +83,4 @@ impl Bodies {
     {
         self.items
     }
-}
-
-impl PartialEq for Bodies {
-    ghost eq = { pointwise (pointwise nat_eq) };
-
-    ghost laws = { partial_equiv_from_equiv (lists_equiv nat_list_eq_equiv) };
-
-    fn eq(&self, other: &Bodies) -> bool {
-        self.items == other.items
-    }
-}
-
-impl Eq for Bodies {
-    ghost laws = { lists_equiv nat_list_eq_equiv };
 }

@@ -1,13 +1,11 @@
-ghost use Rattle.std.specs.Prelude.{◌≡◌, IfOk, nat_eq};
-ghost use Rattle.std.specs.Cmp.{partial_equiv_from_equiv};
-ghost use Rattle.std.specs.Cmp.Lexicographic.{pointwise, nat_list_eq_equiv};
+ghost use Rattle.std.specs.Prelude.{◌≡◌, IfOk};
 
 use crate::Memory;
 use std::alloc::Global;
 use std::marker::Model;
 
 /// A message's body, or another text of bytes that is kept as it came.
-#[derive(Debug, Drop)]
+#[derive(Drop)]
 pub struct Body {
     bytes: Vec<u8>,
 }
@@ -49,18 +47,4 @@ impl Body {
     {
         self.bytes
     }
-}
-
-impl PartialEq for Body {
-    ghost eq = { pointwise nat_eq };
-
-    ghost laws = { partial_equiv_from_equiv nat_list_eq_equiv };
-
-    fn eq(&self, other: &Body) -> bool {
-        self.bytes() == other.bytes()
-    }
-}
-
-impl Eq for Body {
-    ghost laws = { nat_list_eq_equiv };
 }

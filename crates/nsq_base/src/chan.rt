@@ -6,7 +6,7 @@ use std::marker::Model;
 
 /// A channel's name: 1 or more bytes of `.a-zA-Z0-9_-`, then perhaps `#ephemeral`, together at most 64 bytes (nsq.io, TCP
 /// Protocol Spec). Names are compared as byte strings.
-#[derive(Clone, Copy, Debug, PartialEq, Eq, PartialOrd, Ord, Hash)]
+#[derive(Clone, Copy, PartialEq, Eq, PartialOrd, Ord, Hash)]
 pub struct Chan {
     name: Name,
 }

@@ -1,6 +1,4 @@
-ghost use Rattle.std.specs.Prelude.{◌≡◌, [], ◌∷◌, IfOk, OnOk, OnErr, nat_eq};
-ghost use Rattle.std.specs.Cmp.{partial_equiv_from_equiv};
-ghost use Rattle.std.specs.Cmp.Lexicographic.{pointwise, lists_equiv, nat_list_eq_equiv};
+ghost use Rattle.std.specs.Prelude.{◌≡◌, [], ◌∷◌, IfOk, OnOk, OnErr};
 ghost use Rattle.nsq_core.specs.Name.{IsName};
 ghost use Rattle.nsq_base.specs.Names.{insert_name, AreChannels};
 ghost use Rattle.nsq_base.specs.Places.{IsPlaceOf};
@@ -83,18 +81,4 @@ impl Channels {
         self.items
             .binary_search_by_key(&channel.name(), |kept| kept.name())
     }
-}
-
-impl PartialEq for Channels {
-    ghost eq = { pointwise (pointwise nat_eq) };
-
-    ghost laws = { partial_equiv_from_equiv (lists_equiv nat_list_eq_equiv) };
-
-    fn eq(&self, other: &Channels) -> bool {
-        self.items == other.items
-    }
-}
-
-impl Eq for Channels {
-    ghost laws = { lists_equiv nat_list_eq_equiv };
 }

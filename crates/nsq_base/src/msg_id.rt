@@ -4,7 +4,7 @@ ghost use Rattle.nsq_base.specs.MsgId.{hex_digit, hex_digits, id_of};
 use std::marker::Model;
 
 /// A message's id: 16 bytes. A daemon gives each of its messages another one.
-#[derive(Clone, Copy, Debug, PartialEq, Eq, PartialOrd, Ord, Hash)]
+#[derive(Clone, Copy, PartialEq, Eq, PartialOrd, Ord, Hash)]
 pub struct MsgId {
     bytes: [u8; 16],
 }

@@ -9,7 +9,6 @@ ghost use Rattle.nsq_core.specs.Name.{is_name_byte, stem, IsEphemeral, IsName};
 ghost use Rattle.nsq_base.specs.NameBuffers.{buffer_of};
 
 use std::cmp::Ordering;
-use std::fmt;
 use std::hash::{Hash, Hasher};
 use std::marker::Model;
 
@@ -158,12 +157,5 @@ impl Hash for Name {
 
     fn hash<H: Hasher>(&self, state: &mut H) {
         self.bytes().hash(state);
-    }
-}
-
-/// Prints the name as text.
-impl fmt::Debug for Name {
-    fn fmt<W: fmt::Write>(&self, f: &mut fmt::Formatter<W>) -> fmt::Result {
-        fmt::Debug::fmt(&self.as_str(), f)
     }
 }

@@ -1,9 +1,6 @@
-ghost use Rattle.std.specs.Prelude.{◌≡◌, ◌<◌, [], length, slice_get, Some, IfOk, OnOk, OnErr, nat_eq};
-ghost use Rattle.std.specs.Cmp.{partial_equiv_from_equiv, and_equiv, on_equiv};
-ghost use Rattle.std.specs.Cmp.Lexicographic.{pointwise, lists_equiv, nat_list_eq_equiv};
-ghost use Rattle.std.specs.Ordering.{on, eq_of_both};
+ghost use Rattle.std.specs.Prelude.{◌≡◌, ◌<◌, [], length, slice_get, Some, IfOk, OnOk, OnErr};
 ghost use Rattle.nsq_core.specs.Name.{IsName};
-ghost use Rattle.nsq_base.specs.Names.{topic_of, channels_in, topics_of, channel_lists_of, with_channels, with_topic, with_channel, AreChannels, IsInOrder};
+ghost use Rattle.nsq_base.specs.Names.{topic_of, topics_of, channel_lists_of, with_channels, with_topic, with_channel, AreChannels, IsInOrder};
 ghost use Rattle.nsq_base.specs.Places.{BelongsAt, IsPlaceOf};
 
 use crate::channels::Channels;
@@ -122,18 +119,4 @@ impl Names {
         self.topics.insert(i, (topic, channels))?;
         Ok(())
     }
-}
-
-impl PartialEq for Names {
-    ghost eq = { pointwise (eq_of_both (on topic_of (pointwise nat_eq)) (on channels_in (pointwise (pointwise nat_eq)))) };
-
-    ghost laws = { partial_equiv_from_equiv (lists_equiv (and_equiv (on_equiv topic_of nat_list_eq_equiv) (on_equiv channels_in (lists_equiv nat_list_eq_equiv)))) };
-
-    fn eq(&self, other: &Names) -> bool {
-        self.topics == other.topics
-    }
-}
-
-impl Eq for Names {
-    ghost laws = { lists_equiv (and_equiv (on_equiv topic_of nat_list_eq_equiv) (on_equiv channels_in (lists_equiv nat_list_eq_equiv))) };
 }

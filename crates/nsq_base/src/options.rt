@@ -9,7 +9,7 @@ use std::alloc::Global;
 
 /// The options of the daemon: one field for each option of `nsqd`, with `_` for `-`. Durations are in nanoseconds, sizes
 /// in bytes. Texts are UTF-8.
-#[derive(PartialEq, Eq, Drop)]
+#[derive(Drop)]
 pub struct Options {
     /// Where clients are listened for, as `0.0.0.0:4150`: a text with `:` and a port of 1 to 65535, without a zero in front,
     /// behind its last `:`.

@@ -1,8 +1,4 @@
-ghost use Rattle.std.specs.Prelude.{◌≡◌, ◌<◌, [], ◌∷◌, ◌++◌, length, slice_get, Some, IfOk, OnOk, OnErr, nat_eq};
-ghost use Rattle.std.specs.Cmp.Lexicographic.{pointwise};
-ghost use Rattle.std.specs.Cmp.Rules.{comparing};
-ghost use Rattle.std.specs.Ordering.{on, eq_of_both};
-ghost use Rattle.std.proofs.Common.{rules};
+ghost use Rattle.std.specs.Prelude.{◌≡◌, ◌<◌, [], ◌∷◌, ◌++◌, length, slice_get, Some, IfOk, OnOk, OnErr};
 
 use crate::lists::put_last;
 use crate::{Body, Memory};
@@ -10,7 +6,7 @@ use std::alloc::Global;
 use std::marker::Model;
 
 /// A name with a value, as a field of a request's head or of a query.
-#[derive(PartialEq, Eq, Drop)]
+#[derive(Drop)]
 pub struct Pair {
     /// The name's bytes.
     pub name: Body,
@@ -108,18 +104,4 @@ impl Pairs {
     {
         self.items
     }
-}
-
-impl PartialEq for Pairs {
-    ghost eq = { pointwise (eq_of_both (on (λ p. p.name) (pointwise nat_eq)) (on (λ p. p.value) (pointwise nat_eq))) };
-
-    ghost laws = { Prim.search (comparing, rules) };
-
-    fn eq(&self, other: &Pairs) -> bool {
-        self.items == other.items
-    }
-}
-
-impl Eq for Pairs {
-    ghost laws = { Prim.search (comparing, rules) };
 }

@@ -3,7 +3,7 @@ ghost use Rattle.std.specs.List.{Any};
 ghost use Rattle.nsq_fakes.specs.Failings.{Hits, count_of, CountsCall};
 
 /// A method of `Folder`, or `Any` of them.
-#[derive(Clone, Copy, PartialEq, Eq)]
+#[derive(Clone, Copy, PartialEq)]
 pub enum FolderCall {
     List,
     Len,

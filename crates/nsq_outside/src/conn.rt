@@ -4,7 +4,7 @@ ghost use Rattle.nsq_outside.specs.Streams.{IsAmountRead, Reads, KeepsBuffer, En
 use std::sync::Wait;
 
 /// The answer of a read.
-#[derive(Clone, Copy, PartialEq, Eq)]
+#[derive(Clone, Copy, PartialEq)]
 pub enum Read {
     /// A piece of so many bytes, at least one, stands at the start of the buffer.
     Got(usize),
@@ -55,7 +55,7 @@ pub trait Source {
 }
 
 /// The answer of a write.
-#[derive(Clone, Copy, PartialEq, Eq)]
+#[derive(Clone, Copy, PartialEq)]
 pub enum Write {
     /// So many bytes from the front were taken, at least one.
     Took(usize),

@@ -1,5 +1,5 @@
 /// The answer of a call that is carried out or fails.
-#[derive(Clone, Copy, PartialEq, Eq)]
+#[derive(Clone, Copy, PartialEq)]
 pub enum Did {
     /// It was carried out.
     Done,

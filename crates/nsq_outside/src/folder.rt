@@ -17,7 +17,7 @@ pub enum Listing {
 }
 
 /// The answer of `Folder::len`.
-#[derive(Clone, Copy, PartialEq, Eq)]
+#[derive(Clone, Copy, PartialEq)]
 pub enum Length {
     /// The file has so many bytes.
     Is(u64),

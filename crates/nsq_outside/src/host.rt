@@ -44,7 +44,7 @@ pub trait Dialer {
 }
 
 /// What a caller speaks: the TCP protocol or HTTP.
-#[derive(Clone, Copy, PartialEq, Eq)]
+#[derive(Clone, Copy, PartialEq)]
 pub enum Kind {
     /// NSQ's TCP protocol.
     Tcp,

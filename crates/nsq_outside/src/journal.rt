@@ -13,7 +13,7 @@ pub trait Twin: Sized {
 }
 
 /// How what was announced to a journal ended.
-#[derive(Clone, Copy, PartialEq, Eq)]
+#[derive(Clone, Copy, PartialEq)]
 pub enum End {
     /// It was carried out.
     Done,

@@ -9,7 +9,7 @@ use crate::texts::same;
 use broker_history::{Act, Ask, Entry, Said};
 use http_calls::{HttpAnswer, HttpCall, Refusal, answer_to, call_of, publishes, stop_answer};
 use http_wire::write_answer;
-use nsq_base::{Chan, Options, Topic};
+use nsq_base::{Bodies, Chan, Options, Topic};
 use nsq_fakes::MemConn;
 use nsq_outside::End;
 use std::alloc::Global;
@@ -201,7 +201,7 @@ fn answered(
 
 fn is_same(a: &Ask, b: &Ask) -> bool {
     match (a, b) {
-        (Ask::Publish(a, c, e), Ask::Publish(b, d, f)) => a == b && c == d && e == f,
+        (Ask::Publish(a, c, e), Ask::Publish(b, d, f)) => a == b && c == d && are_bodies(e, f),
         (Ask::Stats(a, c), Ask::Stats(b, d)) => a == b && c == d,
         (Ask::Create(a, c), Ask::Create(b, d)) => is_place(a, c, b, d),
         (Ask::Delete(a, c), Ask::Delete(b, d)) => is_place(a, c, b, d),
@@ -210,6 +210,14 @@ fn is_same(a: &Ask, b: &Ask) -> bool {
         (Ask::Unpause(a, c), Ask::Unpause(b, d)) => is_place(a, c, b, d),
         _ => false,
     }
+}
+
+fn are_bodies(a: &Bodies, b: &Bodies) -> bool {
+    let mut all = a.count() == b.count();
+    for (a, b) in a.as_slice().iter().zip(b.as_slice()) {
+        all &= same(a.bytes(), b.bytes());
+    }
+    all
 }
 
 // Whether a topic and a channel of it, or none, are those.

@@ -2,7 +2,7 @@ ghost use Rattle.std.specs.Prelude.{◌≡◌, ◌↔◌, IsTrue};
 
 /// Where a queue reads and where it writes. A position is the number of a data file and a place in it, counted in bytes
 /// from the file's start.
-#[derive(Clone, Copy, Debug, PartialEq, Eq)]
+#[derive(Clone, Copy, PartialEq)]
 pub struct Positions {
     /// The number of the file that is read.
     pub read_file: u64,

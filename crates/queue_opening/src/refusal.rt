@@ -5,7 +5,7 @@ use nsq_core::Memory;
 use thiserror::Error;
 
 /// Why a queue wasn't opened.
-#[derive(Clone, Copy, Debug, PartialEq, Eq, Error)]
+#[derive(Clone, Copy, Debug, Error)]
 pub enum Open {
     /// The folder failed, and its count of faults rose in this call. Another opening finds the same list.
     #[error("disk fault")]

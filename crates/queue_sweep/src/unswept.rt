@@ -1,7 +1,7 @@
 use thiserror::Error;
 
 /// Why not all files of unlisted queues were set aside. Those that were set aside stay so, and another call goes on with the rest.
-#[derive(Clone, Copy, Debug, PartialEq, Eq, Error)]
+#[derive(Clone, Copy, Debug, Error)]
 pub enum Unswept {
     /// The folder failed, and its count of faults rose in this call.
     #[error("disk fault")]

@@ -9,7 +9,7 @@ use std::alloc::Global;
 const LONGEST_HEAD: usize = 16384;
 
 /// What all bytes so far are.
-#[derive(PartialEq, Eq, Drop)]
+#[derive(Drop)]
 pub enum Plain {
     /// A request, and perhaps bytes behind it.
     Whole(Request),

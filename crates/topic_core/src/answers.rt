@@ -1,7 +1,7 @@
 use crate::TopicQueue;
 
 /// The answer of `TopicQueue::take_head`.
-#[derive(Clone, Copy, PartialEq, Eq)]
+#[derive(Clone, Copy, PartialEq)]
 pub enum Head {
     /// The first message that waits is drawn. `settle_head` takes it, `undo_head` puts it back.
     Ready,

@@ -5,7 +5,7 @@ use std::alloc::Global;
 
 /// A command of a client (nsq.io, TCP Protocol Spec): a line of words parted by single spaces, and behind it for some of
 /// them a size of 4 bytes, most significant first, and so many bytes.
-#[derive(Debug, Drop)]
+#[derive(Drop)]
 pub enum Command {
     /// `IDENTIFY`, then a size and a JSON text that says what the client is.
     Identify(Body),

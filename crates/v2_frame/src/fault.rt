@@ -1,5 +1,5 @@
 /// What is wrong in a V2 stream.
-#[derive(Clone, Copy, PartialEq, Eq)]
+#[derive(Clone, Copy, PartialEq)]
 pub enum FaultKind {
     /// The stream doesn't begin with the four bytes `  V2`.
     BadMagic,
@@ -39,7 +39,7 @@ impl FaultKind {
 }
 
 /// A fault of a stream. Nothing behind it is read.
-#[derive(Clone, Copy, PartialEq, Eq)]
+#[derive(Clone, Copy, PartialEq)]
 pub struct Fault {
     /// What is wrong.
     pub kind: FaultKind,
@@ -57,7 +57,7 @@ pub struct Limits {
 }
 
 /// What stands behind the commands of a stream.
-#[derive(Clone, Copy, PartialEq, Eq)]
+#[derive(Clone, Copy, PartialEq)]
 pub enum Rest {
     /// Nothing, or the beginning of a command in which no fault can be told yet.
     Unfinished,

@@ -4,7 +4,7 @@ use nsq_base::{Body, Memory};
 use std::alloc::Global;
 
 /// What a frame carries. On the wire it is a number of 4 bytes, most significant first.
-#[derive(Clone, Copy, PartialEq, Eq)]
+#[derive(Clone, Copy, PartialEq)]
 pub enum FrameKind {
     /// The reply to a command, or a heartbeat: type 0.
     Response,

@@ -1,6 +1,36 @@
-use http_wire::{GotRequest, RequestReader};
+use crate::same;
+use http_wire::{GotRequest, Request, RequestReader};
+use nsq_base::Pairs;
 use std::alloc::Global;
 use streams_plain::{Plain, request_of};
+
+/// Whether the two say the same.
+fn is_same(one: &Plain, other: &Plain) -> bool {
+    match (one, other) {
+        (Plain::Whole(one), Plain::Whole(other)) => is_same_request(one, other),
+        (Plain::Unfinished, Plain::Unfinished)
+        | (Plain::BadHead, Plain::BadHead)
+        | (Plain::NoLength, Plain::NoLength)
+        | (Plain::TooBig, Plain::TooBig) => true,
+        _ => false,
+    }
+}
+
+fn is_same_request(one: &Request, other: &Request) -> bool {
+    same(one.method.bytes(), other.method.bytes())
+        && same(one.path.bytes(), other.path.bytes())
+        && are_same_pairs(&one.query, &other.query)
+        && same(one.body.bytes(), other.body.bytes())
+}
+
+fn are_same_pairs(one: &Pairs, other: &Pairs) -> bool {
+    let mut all = one.count() == other.count();
+    for (one, other) in one.as_slice().iter().zip(other.as_slice()) {
+        all &= same(one.name.bytes(), other.name.bytes())
+            && same(one.value.bytes(), other.value.bytes());
+    }
+    all
+}
 
 /// How many bytes a row may have to be cut at each place.
 const SHORT: usize = 700;
@@ -36,7 +66,7 @@ fn is_asked(reader: &mut RequestReader) -> bool {
 /// Whether the reader gives this now.
 fn gives(reader: &mut RequestReader, wanted: &Plain) -> bool {
     match next(reader) {
-        Some(plain) => plain == *wanted,
+        Some(plain) => is_same(&plain, wanted),
         None => false,
     }
 }

@@ -1,7 +1,7 @@
 use crate::same;
 use std::alloc::Global;
 use std::process::Abort;
-use streams_plain::script_of;
+use streams_plain::{commands_text, script_of};
 use v2_frame::{Command, Got, Limits, Reader, Rest};
 
 /// A reader, and the commands that it gave.
@@ -52,7 +52,7 @@ impl Reading {
 
 /// How the commands print.
 pub fn printed(rt: &impl Abort, alloc: Global, commands: &Vec<Command>) -> String {
-    format!(in alloc; "{commands:?}").expect(rt, "memory")
+    commands_text(alloc, commands).expect(rt, "memory")
 }
 
 /// Whether the commands print as this.

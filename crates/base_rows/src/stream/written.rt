@@ -5,6 +5,7 @@ use crate::same;
 use crate::text::{check_row, cut, rows_of};
 use std::alloc::Global;
 use std::process::Abort;
+use streams_plain::command_text;
 use v2_client::write_command;
 use v2_frame::{Command, Found, Limits, judge_front};
 
@@ -40,7 +41,7 @@ fn command_of(rt: &impl Abort, alloc: Global, bytes: &[u8]) -> Option<Command>
 
 // Whether the command prints as this.
 fn prints(alloc: Global, command: &Command, want: &[u8]) -> bool {
-    match format!(in alloc; "{command:?}") {
+    match command_text(alloc, command) {
         Ok(text) => same(text.as_bytes(), want),
         Err(_) => false,
     }

@@ -1,5 +1,5 @@
 /// How an HTTP connection ended.
-#[derive(Clone, Copy, PartialEq, Eq)]
+#[derive(Clone, Copy)]
 pub enum EndedHttp {
     /// The answer was written whole.
     Answered,

@@ -65,7 +65,7 @@ fn tell_options(rt: &impl Abort, alloc: Global, text: &mut Vec<u8>, options: &Op
         put(rt, text, b" http-stop");
     }
     // No word says these yet.
-    if options.lookupd_tcp_address != defaults.lookupd_tcp_address {
+    if options.lookupd_tcp_address.count() != defaults.lookupd_tcp_address.count() {
         put(rt, text, b" rest");
     }
     drop(defaults);

@@ -132,7 +132,8 @@ fn sweeps(rt: &impl Abort, alloc: Global, folder: &mut MemFolder, error: Option<
     match read_names(alloc, LISTED) {
         Ok(names) => match set_aside_unlisted(alloc, folder, &names.topics) {
             Ok(()) => error.is_none(),
-            Err(why) => error == Some(why),
+            Err(Unswept::Fault) => matches!(error, Some(Unswept::Fault)),
+            Err(Unswept::Memory) => matches!(error, Some(Unswept::Memory)),
         },
         Err(_) => unknown(rt, "what is listed"),
     }

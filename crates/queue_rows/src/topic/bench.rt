@@ -27,7 +27,7 @@ pub struct Bench {
 }
 
 /// What a topic's queue shows.
-#[derive(Clone, Copy, PartialEq, Eq)]
+#[derive(Clone, Copy, PartialEq)]
 pub struct Shown {
     depths: Depths,
     count: u64,

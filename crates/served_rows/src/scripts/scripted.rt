@@ -9,6 +9,7 @@ use super::trace::Trace;
 use broker_history::{Call, Turned, Turner};
 use nsq_base::{Body, Memory};
 use std::alloc::Global;
+use streams_plain::command_text;
 use v2_frame::{Frame, FrameKind};
 
 /// A floor that answers each call by the next letter of its script, and keeps a letter for each call.
@@ -93,7 +94,7 @@ fn keep_first(alloc: Global, kept: &mut Option<String>, call: &Call) -> Result<(
 /// How the call's command prints, if it is one.
 fn text_of(alloc: Global, call: &Call) -> Result<Option<String>, Memory> {
     match call {
-        Call::Command(command) => Ok(Some(format!(in alloc; "{command:?}")?)),
+        Call::Command(command) => Ok(Some(command_text(alloc, command)?)),
         _ => Ok(None),
     }
 }

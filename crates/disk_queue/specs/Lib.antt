@@ -2,7 +2,6 @@ pub mod Seen
 pub mod Holding
 pub mod Answers
 pub mod Parts
-pub mod Laws
 pub mod Reading
 pub mod Emptying
 pub mod Opened

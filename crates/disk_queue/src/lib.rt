@@ -7,7 +7,6 @@
 #![tactic(auto)]
 
 mod answers;
-pub mod laws;
 mod queue;
 mod standing;
 

@@ -6,5 +6,4 @@ pub mod MetaLemmas
 pub mod Walking
 pub mod Digits
 pub mod MetaParts
-pub mod Mending
 pub mod Keeping

@@ -4,5 +4,4 @@ pub mod Places
 pub mod Metas
 pub mod Between
 pub mod Finds
-pub mod Laws
 pub mod Answered

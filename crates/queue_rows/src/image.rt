@@ -15,7 +15,7 @@ use crate::plain::are;
 use crate::text::{bytes_of, cut, number, part, size, unknown};
 use crate::{check, is, same};
 use path_plain::{Found, Listing, found_queue};
-use queue_image::{Positions, file_names, laws, read_meta};
+use queue_image::{Positions, file_names, read_meta};
 use queue_records::{Row, records_of};
 use std::alloc::Global;
 use std::process::Abort;
@@ -214,12 +214,12 @@ fn name_of(rt: &impl Abort, alloc: Global, word: &str, what: &str) -> String {
 
 // Each law is called once.
 fn call_laws() {
-    laws::names();
-    laws::records();
-    laws::lists();
-    laws::reading();
-    laws::metadata();
-    laws::openings();
+    queue_laws::names();
+    queue_laws::records();
+    queue_laws::lists();
+    queue_laws::reading();
+    queue_laws::metadata();
+    queue_laws::openings();
 }
 
 #[test]

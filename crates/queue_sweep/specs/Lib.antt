@@ -2,4 +2,3 @@ pub mod Forms
 pub mod Names
 pub mod Swept
 pub mod Steps
-pub mod Laws

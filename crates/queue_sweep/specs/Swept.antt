@@ -1,7 +1,7 @@
 -- What becomes of the files of queues that no topic and no channel of a list has.
-use Rattle.std.specs.Prelude.{ℕ, ◌≡◌, ◌≢◌, ◌⊎◌, List, None, IsSome, Contains}
+use Rattle.std.specs.Prelude.{ℕ, ◌≡◌, ◌≢◌, ◌⊎◌, ◌^◌, ◌<◌, List, None, IsSome, Contains}
 use Rattle.nsq_outside.specs.Files.{Files}
-use Rattle.queue_image.specs.FileNames.{IsQueueFile, set_aside}
+use Rattle.queue_image.specs.FileNames.{data_file, meta_file, IsQueueFile, set_aside}
 use Rattle.path_image.specs.Data.{KeptChannel, KeptTopic}
 use Rattle.path_image.specs.Found.{queues_of}
 
@@ -35,6 +35,11 @@ pub record IsSweptTo (topics : List KeptTopic) (old new : Files) : Type 0 where
 -- no file is there that has the form of a queue's, but those of listed queues
 abbrev pub HasOnlyListed : List KeptTopic → Files → Type 0
 HasOnlyListed topics files = (file : List ℕ) → IsUnlisted topics file → files file ≡ None
+
+-- an unlisted queue has no metadata and no data file
+pub record HasNoFiles (files : Files) (name : List ℕ) : Type 0 where
+  pub meta : files (meta_file name) ≡ None
+  pub data_files : (n : ℕ) → n < 2 ^ 64 → files (data_file name n) ≡ None
 
 -- the names that a list is in order of
 abbrev pub topic_name : KeptTopic → List ℕ

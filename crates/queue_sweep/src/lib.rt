@@ -1,12 +1,11 @@
 //! The files of queues that no topic and no channel has any longer. At the start of a daemon they are set aside: else a topic or channel
 //! that is made anew would begin with what one of its name had left.
 //!
-//! `set_aside_unlisted` does that. `specs/Swept.antt` says which files those are and what becomes of them, and `laws` what it means
-//! for the queues.
+//! `set_aside_unlisted` does that. `specs/Swept.antt` says which files those are and what becomes of them, and the crate
+//! `queue_laws` what it means for the queues.
 #![tactic(auto)]
 
 mod form;
-pub mod laws;
 mod listed;
 mod queue_name;
 mod sweeping;

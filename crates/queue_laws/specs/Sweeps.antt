@@ -1,11 +1,11 @@
 -- What a sweep means for the queues of a daemon.
-use Rattle.std.specs.Prelude.{ℕ, ◌≡◌, ◌^◌, ◌<◌, List, [], length, Some, None}
+use Rattle.std.specs.Prelude.{ℕ, ◌≡◌, ◌<◌, List, [], length, Some}
 use Rattle.nsq_outside.specs.Files.{Files}
 use Rattle.v2_frame.specs.declared.message.Message.{Message}
-use Rattle.queue_image.specs.FileNames.{data_file, meta_file, IsQueueName, IsFileOf}
+use Rattle.queue_image.specs.FileNames.{IsQueueName, IsFileOf}
 use Rattle.path_image.specs.Data.{KeptTopic, Kept, IsNames, data_name}
 use Rattle.path_image.specs.Found.{HasMessages, Finding, IsFound}
-use Rattle.queue_sweep.specs.Swept.{IsListedQueue, IsSweptTo, HasOnlyListed}
+use Rattle.queue_sweep.specs.Swept.{IsListedQueue, IsSweptTo, HasOnlyListed, HasNoFiles}
 
 -- every file of a listed queue stays: its data files, its metadata, the metadata being written, and those set aside
 abbrev pub ListedFilesStay : Type 0
@@ -28,10 +28,6 @@ abbrev pub FindingStays : Type 0
 FindingStays = (topics : List KeptTopic) (old new : Files) (finding : Finding) → AreKept topics old → IsSweptTo topics old new → IsFound old finding → IsFound new finding
 
 -- an unlisted queue has no metadata and no data file
-pub record HasNoFiles (files : Files) (name : List ℕ) : Type 0 where
-  pub meta : files (meta_file name) ≡ None
-  pub data_files : (n : ℕ) → n < 2 ^ 64 → files (data_file name n) ≡ None
-
 abbrev pub UnlistedHaveNoFiles : Type 0
 UnlistedHaveNoFiles = (topics : List KeptTopic) (files : Files) (name : List ℕ) → HasOnlyListed topics files → IsQueueName name → ¬ IsListedQueue topics name → HasNoFiles files name
 

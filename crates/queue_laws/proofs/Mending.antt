@@ -9,7 +9,7 @@ use Rattle.queue_image.specs.Between.{Reads}
 use Rattle.queue_image.specs.Between.Reads.{arrives, turns}
 use Rattle.queue_image.specs.Finds.{IsGoodFile, IsBadFile, Walks}
 use Rattle.queue_image.specs.Finds.Walks.{starts, good, passes}
-use Rattle.queue_image.specs.Laws.{FoundUpTo}
+use Rattle.queue_laws.specs.Laws.{FoundUpTo}
 use Rattle.queue_image.specs.declared.positions.Positions.{Positions}
 use Rattle.queue_image.proofs.Reading.{joined}
 use Rattle.queue_image.proofs.Walking.{walk_starts, reads_row, if_same, start_later, end_earlier}

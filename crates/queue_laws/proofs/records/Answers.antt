@@ -1,6 +1,6 @@
 use Rattle.std.proofs.Common.{sym, ◌∙◌}
 use Rattle.queue_image.proofs.RowLemmas.{same_rows, rows_are_whole, same_damage, row_more}
-use Rattle.queue_image.proofs.laws.records.Goals as goal
+use Rattle.queue_laws.proofs.records.Goals as goal
 
 pub returns : goal.returns
 returns c = record {

@@ -2,8 +2,8 @@ use Rattle.std.proofs.Common.{[], refl}
 use Rattle.queue_image.specs.Finds.{Records}
 use Rattle.queue_image.proofs.Walking.{one_finding, list_is_found, found_is_list}
 use Rattle.queue_image.proofs.Keeping.{finding_keeps, saved_is_found}
-use Rattle.queue_image.proofs.Mending.{found_up_to}
-use Rattle.queue_image.proofs.laws.openings.Goals as goal
+use Rattle.queue_laws.proofs.Mending.{found_up_to}
+use Rattle.queue_laws.proofs.openings.Goals as goal
 
 pub returns : goal.returns
 returns c = record {

@@ -1,5 +1,5 @@
 use crate::output::same;
-use nsq_base::Bodies;
+use nsq_base::{Bodies, Body};
 use v2_frame::Command;
 
 // What a command says, but for the bodies of a batch: its place among the commands, and as many names, texts and numbers as it has.
@@ -59,8 +59,17 @@ fn bodies_of(command: &Command) -> Option<&Bodies> {
 // Whether both are equal lists of bodies, or none.
 fn same_bodies(a: Option<&Bodies>, b: Option<&Bodies>) -> bool {
     match (a, b) {
-        (Some(a), Some(b)) => a == b,
+        (Some(a), Some(b)) => are_same(a.as_slice(), b.as_slice()),
         (None, None) => true,
         _ => false,
     }
+}
+
+// Whether both are equal lists.
+fn are_same(a: &[Body], b: &[Body]) -> bool {
+    let mut all = a.len() == b.len();
+    for (one, other) in a.iter().zip(b) {
+        all &= same(one.bytes(), other.bytes());
+    }
+    all
 }

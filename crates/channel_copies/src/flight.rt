@@ -18,7 +18,7 @@ pub struct Flight {
 
 impl Flight {
     /// The message's id.
-    pub fn id(&self) -> MsgId
+    pub(crate) fn id(&self) -> MsgId
         ensures { result ≡ self.now.message.id }
     {
         self.message.id

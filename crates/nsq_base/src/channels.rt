@@ -26,7 +26,7 @@ impl Model for Channels {
 
 impl Channels {
     /// No channels. Takes no memory.
-    pub fn new(alloc: Global) -> Channels
+    pub(crate) fn new(alloc: Global) -> Channels
         ensures value { result ≡ [] }
         ensures in_order { AreChannels result }
     {
@@ -36,7 +36,7 @@ impl Channels {
     }
 
     /// One channel.
-    pub fn of(alloc: Global, channel: Chan) -> Result<Channels, Memory>
+    pub(crate) fn of(alloc: Global, channel: Chan) -> Result<Channels, Memory>
         ensures value { IfOk result (λ channels. channels ≡ channel ∷ []) }
         ensures in_order { IfOk result AreChannels }
     {
@@ -46,7 +46,7 @@ impl Channels {
     }
 
     /// The channels, in byte order.
-    pub fn as_slice(&self) -> &[Chan]
+    pub(crate) fn as_slice(&self) -> &[Chan]
         ensures value { result.now ≡ self.now }
         ensures in_order { AreChannels self.now }
     {
@@ -54,7 +54,7 @@ impl Channels {
     }
 
     /// Puts a channel in, if it isn't there yet. After Memory the channels are as before.
-    pub fn insert(&mut self, channel: Chan) -> Result<(), Memory>
+    pub(crate) fn insert(&mut self, channel: Chan) -> Result<(), Memory>
         ensures ok { OnOk result (self.new ≡ insert_name self.old channel) }
         ensures err { OnErr result (self.new ≡ self.old) }
         ensures in_order { AreChannels self.new }
@@ -66,7 +66,7 @@ impl Channels {
     }
 
     /// A copy.
-    pub fn copy(&self, alloc: Global) -> Result<Channels, Memory>
+    pub(crate) fn copy(&self, alloc: Global) -> Result<Channels, Memory>
         ensures { IfOk result (λ channels. channels ≡ self.now) }
     {
         let items = Vec::from_slice(alloc, &self.items)?;

@@ -39,7 +39,7 @@ impl Name {
     pub const LONGEST: usize = 64;
 
     /// The name that the bytes are, or None exactly where they are none.
-    pub fn read(bytes: &[u8]) -> Option<Name>
+    pub(crate) fn read(bytes: &[u8]) -> Option<Name>
         ensures { SomeIff result (IsName bytes.now) bytes.now }
     {
         if !is_name(bytes) {
@@ -52,7 +52,7 @@ impl Name {
     }
 
     /// The name's bytes.
-    pub fn bytes(&self) -> &[u8]
+    pub(crate) fn bytes(&self) -> &[u8]
         ensures value { result.now ≡ self.now }
         ensures is_name { IsName result.now }
     {
@@ -60,14 +60,14 @@ impl Name {
     }
 
     /// The name as text: its bytes are all ASCII.
-    pub fn as_str(&self) -> &str
+    pub(crate) fn as_str(&self) -> &str
         ensures { result.now ≡ self.now }
     {
         std::str::from_utf8(self.bytes()).unwrap()
     }
 
     /// Whether the name ends with `#ephemeral`.
-    pub fn ephemeral(&self) -> bool
+    pub(crate) fn ephemeral(&self) -> bool
         ensures { IsTrue result ↔ IsEphemeral self.now }
     {
         self.bytes().ends_with(EPHEMERAL_SUFFIX)

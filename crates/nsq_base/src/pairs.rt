@@ -15,8 +15,8 @@ pub struct Pair {
 }
 
 impl Pair {
-    /// A copy.
-    pub fn copy(&self, alloc: Global) -> Result<Pair, Memory>
+    // A copy.
+    fn copy(&self, alloc: Global) -> Result<Pair, Memory>
         ensures { IfOk result (λ pair. pair ≡ self.now) }
     {
         let name = Body::copy(alloc, self.name.bytes())?;

@@ -15,7 +15,7 @@ impl Calls {
     ghost use Rattle.nsq_fakes.specs.MemCalls.{FailsAt, IsFailing, Counts, ForgetsFaults};
 
     /// No call came yet. Those with these numbers will fail.
-    pub fn new(fails: Vec<u64>) -> Calls
+    pub(crate) fn new(fails: Vec<u64>) -> Calls
         ensures fails { FailsAt fails.items result }
         ensures no_fault { result.faults.count ≡ 0 }
     {
@@ -28,7 +28,7 @@ impl Calls {
 
     /// From now on the calls with these numbers fail, and no other by its number: the next call has the number 0. What
     /// failed so far stays counted.
-    pub fn fail_at(&mut self, fails: Vec<u64>)
+    pub(crate) fn fail_at(&mut self, fails: Vec<u64>)
         ensures fails { FailsAt fails.items self.new }
         ensures faults { self.new.faults ≡ self.old.faults }
     {
@@ -37,7 +37,7 @@ impl Calls {
     }
 
     /// Counts a call. Answers whether it fails, and then its fault is counted.
-    pub fn next_fails(&mut self) -> bool
+    pub(crate) fn next_fails(&mut self) -> bool
         ensures failing { IsTrue result ↔ IsFailing self.old }
         ensures counted { Counts self.old self.new }
         ensures faults { self.old.faults.count ≤ self.new.faults.count }
@@ -54,7 +54,7 @@ impl Calls {
     }
 
     /// As if none had failed yet. The numbers of the calls go on.
-    pub fn forget_faults(&mut self)
+    pub(crate) fn forget_faults(&mut self)
         ensures { ForgetsFaults self.old self.new }
     {
         self.faults = Faults::none();

@@ -21,7 +21,7 @@ pub struct MemDialer {
 impl MemDialer {
     ghost use Rattle.nsq_fakes.specs.MemDialers.{dialled_of};
 
-    pub fn new(alloc: Global, coming: Vec<MemConn>) -> MemDialer
+    pub(crate) fn new(alloc: Global, coming: Vec<MemConn>) -> MemDialer
         ensures dials { dialled_of result ≡ record { asked = []; linked = []; coming = map left_of coming.items } }
         ensures no_fault { result.faults.count ≡ 0 }
         ensures none_linked { vec_len result.linked ≡ 0 }
@@ -37,14 +37,14 @@ impl MemDialer {
     }
 
     /// The addresses that it was asked for. One for which it found no memory is missing.
-    pub fn asked(&self) -> &[String]
+    pub(crate) fn asked(&self) -> &[String]
         ensures { result.now ≡ self.now.asked.items }
     {
         &self.asked
     }
 
     /// Gives the next connection. Past the last one it fails, as for want of memory to keep the address.
-    pub fn dial(&mut self, address: &str) -> Dialled<MemConn>
+    pub(crate) fn dial(&mut self, address: &str) -> Dialled<MemConn>
         ensures told { Dials left_of (dialled_of self.old) (dialled_of self.new) address.now result }
         ensures fresh { IsUnusedLink result }
         ensures faults { self.old.faults.count ≤ self.new.faults.count }

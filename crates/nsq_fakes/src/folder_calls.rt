@@ -56,7 +56,7 @@ pub struct Counts {
 
 impl Counts {
     /// No call yet.
-    pub fn new() -> Counts
+    pub(crate) fn new() -> Counts
         ensures { (call : FolderCall) → count_of result call ≡ 0 }
     {
         Counts {
@@ -111,7 +111,7 @@ impl Counts {
     }
 
     /// Counts a call of a method, and answers whether it is among those that fail.
-    pub fn count(&mut self, fails: &[Failing], call: FolderCall) -> bool
+    pub(crate) fn count(&mut self, fails: &[Failing], call: FolderCall) -> bool
         requires { call ≢ FolderCall.Any }
         ensures fails { IsTrue result ↔ Any (Hits self.old call) fails.now }
         ensures counted { CountsCall self.old self.new call }

@@ -24,7 +24,7 @@ pub struct Script {
 impl Script {
     ghost use Rattle.nsq_fakes.specs.Scripts.{to_come, rest_of, IsMark, IsAtEnd, IsWhole, PassesFirst, PassesBytes};
 
-    pub fn new(pieces: Vec<Piece>) -> Script
+    pub(crate) fn new(pieces: Vec<Piece>) -> Script
         ensures bytes { to_come result ≡ bytes_to_come pieces.items }
         ensures whole { IsWhole pieces.items result }
     {
@@ -35,7 +35,7 @@ impl Script {
     }
 
     /// The rest of the first piece, none of 0 bytes at the end; or `None` at a mark.
-    pub fn front(&self) -> Option<&[u8]>
+    pub(crate) fn front(&self) -> Option<&[u8]>
         ensures mark { IfNone result (IsMark self.now) }
         ensures rest { IfSome result (λ rest. rest.now ≡ rest_of self.now) }
         ensures no_mark { IfSome result (λ _. slice_get self.now.pieces.items 0 ≢ Some Piece.Nothing) }
@@ -49,7 +49,7 @@ impl Script {
     }
 
     /// Passes the mark that stands first.
-    pub fn pass_mark(&mut self)
+    pub(crate) fn pass_mark(&mut self)
         requires { IsMark self.old }
         ensures passed { PassesFirst self.old self.new }
         ensures bytes { to_come self.new ≡ to_come self.old }
@@ -58,7 +58,7 @@ impl Script {
     }
 
     /// Passes bytes of the first piece.
-    pub fn pass(&mut self, count: usize)
+    pub(crate) fn pass(&mut self, count: usize)
         requires some { 0 < count }
         requires there { self.old.offset + count ≤ length (front_bytes self.old.pieces.items) }
         ensures bytes { to_come self.old ≡ take count (rest_of self.old) ++ to_come self.new }

@@ -16,28 +16,28 @@ pub struct KnownNames {
 
 impl KnownNames {
     /// The names aren't known.
-    pub fn new(alloc: Global) -> KnownNames
+    pub(crate) fn new(alloc: Global) -> KnownNames
         ensures { result.names ≡ None }
     {
         KnownNames { alloc, names: None }
     }
 
     /// Whether the names are known.
-    pub fn are_known(&self) -> bool
+    pub(crate) fn are_known(&self) -> bool
         ensures { result ≡ is_some self.now.names }
     {
         self.names.is_some()
     }
 
     /// Forgets the names.
-    pub fn forget(&mut self)
+    pub(crate) fn forget(&mut self)
         ensures { self.new.names ≡ None }
     {
         self.names = None;
     }
 
     /// Begins anew with the names that were read. After an error nothing changes.
-    pub fn begin_anew(&mut self, read: io::Result<BTreeSet<String>>) -> io::Result<()>
+    pub(crate) fn begin_anew(&mut self, read: io::Result<BTreeSet<String>>) -> io::Result<()>
         ensures read { IfOk read (λ names. self.new.names ≡ Some names) }
         ensures ok { OnOk result (IsSome self.new.names) }
         ensures err { OnErr result (self.new ≡ self.old) }
@@ -70,7 +70,7 @@ impl KnownNames {
 
     /// Notes the outcome of a call that makes a file where there is none. After an error it may be there or not, so the names
     /// are forgotten; where the folder is missing there is none.
-    pub fn note_made<T>(&mut self, name: &str, outcome: &io::Result<T>)
+    pub(crate) fn note_made<T>(&mut self, name: &str, outcome: &io::Result<T>)
         ensures here { OnOk outcome.now (IsSome self.new.names → Knows self.new.names name.now) }
         ensures absent { IfErr outcome.now (λ error. error_kind error ≡ ErrorKind.NotFound → Knows self.new.names name.now → ⊥) }
         ensures unknown { IfErr outcome.now (λ error. error_kind error ≢ ErrorKind.NotFound → self.new.names ≡ None) }
@@ -84,7 +84,7 @@ impl KnownNames {
     }
 
     /// Notes the outcome of a call that removes a file. After an error the names are forgotten; an absent file is gone.
-    pub fn note_removed(&mut self, name: &str, outcome: &io::Result<()>)
+    pub(crate) fn note_removed(&mut self, name: &str, outcome: &io::Result<()>)
         ensures gone { Knows self.new.names name.now → ⊥ }
         ensures unknown { IfErr outcome.now (λ error. error_kind error ≢ ErrorKind.NotFound → self.new.names ≡ None) }
         ensures others { OnlyChanges self.old.names self.new.names name.now }
@@ -98,7 +98,7 @@ impl KnownNames {
 
     /// Notes the outcome of a call that gives the file `from` the name `to`. After an error the names are forgotten; where
     /// there was no file `from`, that name is gone.
-    pub fn note_renamed(&mut self, from: &str, to: &str, outcome: &io::Result<()>)
+    pub(crate) fn note_renamed(&mut self, from: &str, to: &str, outcome: &io::Result<()>)
         ensures gone { from.now ≢ to.now → Knows self.new.names from.now → ⊥ }
         ensures here { OnOk outcome.now (IsSome self.new.names → Knows self.new.names to.now) }
         ensures stays { OnErr outcome.now (OnlyChanges self.old.names self.new.names from.now) }
@@ -112,7 +112,11 @@ impl KnownNames {
     }
 
     /// The names that are known and begin so, in order; none where the names aren't known.
-    pub fn beginning_with(&self, alloc: Global, beginning: &str) -> Result<Vec<String>, AllocError>
+    pub(crate) fn beginning_with(
+        &self,
+        alloc: Global,
+        beginning: &str,
+    ) -> Result<Vec<String>, AllocError>
         ensures part { IfOk result (λ found. ArePart self.now.names beginning.now (map string_bytes found.items)) }
         ensures once { IfOk result (λ found. AllPairs (λ a b. a ≢ b) (map string_bytes found.items)) }
     {

@@ -46,7 +46,7 @@ pub struct OpenFiles<R: Files> {
 
 impl<R: Files + Drop> OpenFiles<R> {
     /// The files of the folder at a path. It asks nothing of the system.
-    pub fn new(rt: R, alloc: Global, path: &str) -> Result<OpenFiles<R>, Memory>
+    pub(crate) fn new(rt: R, alloc: Global, path: &str) -> Result<OpenFiles<R>, Memory>
         ensures path { IfOk result (λ files. string_bytes files.folder ≡ path.now ++ 47 ∷ []) }
         ensures closed { IfOk result (λ files. files.opened.entries ≡ []) }
         ensures unknown { IfOk result (λ files. files.known.names ≡ None) }
@@ -89,7 +89,7 @@ impl<R: Files> OpenFiles<R> {
     }
 
     /// Goes to the folder at another path, closes the files of this one and forgets its names. Without memory nothing changes.
-    pub fn move_to(&mut self, path: &str) -> Result<(), Memory>
+    pub(crate) fn move_to(&mut self, path: &str) -> Result<(), Memory>
         ensures path { OnOk result (string_bytes self.new.folder ≡ path.now ++ 47 ∷ []) }
         ensures closed { OnOk result (self.new.opened.entries ≡ []) }
         ensures unknown { OnOk result (self.new.known.names ≡ None) }
@@ -106,7 +106,7 @@ impl<R: Files> OpenFiles<R> {
 impl<R: Files + AllocGlobal + Clone + Drop> OpenFiles<R> {
     /// The names of the regular files that begin so, in order. It reads the folder where the beginning is empty, or the
     /// names aren't known.
-    pub fn names(&mut self, alloc: Global, beginning: &str) -> io::Result<Vec<String>>
+    pub(crate) fn names(&mut self, alloc: Global, beginning: &str) -> io::Result<Vec<String>>
         ensures part { IfOk result (λ names. ArePart self.new.known.names beginning.now (map string_bytes names.items)) }
         ensures once { IfOk result (λ names. AllPairs (λ a b. a ≢ b) (map string_bytes names.items)) }
         ensures known { OnOk result (IsSome self.new.known.names) }
@@ -131,7 +131,7 @@ impl<R: Files + AllocGlobal + Clone + Drop> OpenFiles<R> {
 
 impl<R: Files> OpenFiles<R> {
     /// The number of bytes of a file. It is an error where there are more than 2^62.
-    pub fn len(&mut self, name: &str) -> io::Result<u64>
+    pub(crate) fn len(&mut self, name: &str) -> io::Result<u64>
         ensures limit { IfOk result (λ n. n ≤ 2 ^ 62) }
         ensures closed { OnErr result (IsClosed self.new.opened.entries name.now) }
         ensures folder { self.new.folder ≡ self.old.folder }
@@ -148,7 +148,7 @@ where
     R::File: FileExt,
 {
     /// Reads the bytes from a place on, as many as fit and stand there. It is an error where they end past 2^62.
-    pub fn read_at(&mut self, name: &str, at: u64, into: &mut [u8]) -> io::Result<usize>
+    pub(crate) fn read_at(&mut self, name: &str, at: u64, into: &mut [u8]) -> io::Result<usize>
         ensures amount { IfOk result (λ n. n ≤ length into.old) }
         ensures limit { IfOk result (λ n. (n ≡ 0) ⊎ (at + n ≤ 2 ^ 62)) }
         ensures closed { OnErr result (IsClosed self.new.opened.entries name.now) }
@@ -161,7 +161,7 @@ where
     }
 
     /// Writes bytes at a place, all of them. The file reaches up to the place, also where there are none.
-    pub fn write_at(&mut self, name: &str, at: u64, from: &[u8]) -> io::Result<()>
+    pub(crate) fn write_at(&mut self, name: &str, at: u64, from: &[u8]) -> io::Result<()>
         ensures limit { OnOk result (at + length from.now ≤ 2 ^ 62) }
         ensures closed { OnErr result (IsClosed self.new.opened.entries name.now) }
         ensures folder { self.new.folder ≡ self.old.folder }
@@ -203,7 +203,7 @@ impl<R: Files> OpenFiles<R> {
     }
 
     /// Gives a file a number of bytes. It creates an absent file, which is removed again where it can't have so many.
-    pub fn cut(&mut self, name: &str, to: u64) -> io::Result<()>
+    pub(crate) fn cut(&mut self, name: &str, to: u64) -> io::Result<()>
         ensures limit { OnOk result (to ≤ 2 ^ 62) }
         ensures closed { OnErr result (IsClosed self.new.opened.entries name.now) }
         ensures folder { self.new.folder ≡ self.old.folder }
@@ -243,7 +243,7 @@ impl<R: Files> OpenFiles<R> {
     }
 
     /// Makes the bytes of a file durable.
-    pub fn sync(&mut self, name: &str) -> io::Result<()>
+    pub(crate) fn sync(&mut self, name: &str) -> io::Result<()>
         ensures closed { OnErr result (IsClosed self.new.opened.entries name.now) }
         ensures folder { self.new.folder ≡ self.old.folder }
         ensures known { self.new.known ≡ self.old.known }
@@ -253,12 +253,12 @@ impl<R: Files> OpenFiles<R> {
     }
 
     /// Makes the names durable.
-    pub fn sync_names(&self) -> io::Result<()> {
+    pub(crate) fn sync_names(&self) -> io::Result<()> {
         fs::open(&self.rt, self.folder.as_str())?.sync_all()
     }
 
     /// Gives the file `from` the name `to`. Neither is open then.
-    pub fn rename(&mut self, from: &str, to: &str) -> io::Result<()>
+    pub(crate) fn rename(&mut self, from: &str, to: &str) -> io::Result<()>
         ensures closed { IsClosed self.new.opened.entries from.now }
         ensures replaced { IsClosed self.new.opened.entries to.now }
         ensures folder { self.new.folder ≡ self.old.folder }
@@ -277,7 +277,7 @@ impl<R: Files> OpenFiles<R> {
     }
 
     /// Removes a file. It isn't open then.
-    pub fn remove(&mut self, name: &str) -> io::Result<()>
+    pub(crate) fn remove(&mut self, name: &str) -> io::Result<()>
         ensures closed { IsClosed self.new.opened.entries name.now }
         ensures folder { self.new.folder ≡ self.old.folder }
         ensures gone { OnOk result (Knows self.new.known.names name.now → ⊥) }

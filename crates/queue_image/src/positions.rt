@@ -18,7 +18,7 @@ impl Positions {
     ghost use Rattle.queue_image.specs.Places.{IsOrdered, IsAtEnd, part_start, part_end};
 
     /// Whether the read position isn't past the write position.
-    pub fn in_order(&self) -> bool
+    pub(crate) fn in_order(&self) -> bool
         ensures { IsTrue result ↔ IsOrdered self.now }
     {
         self.read_file < self.write_file

@@ -44,7 +44,7 @@ impl Names {
     }
 
     /// Adds `.bad` to the name of a data file, in place of a file that has that name. Takes no memory.
-    pub fn set_aside<F: Folder>(&mut self, folder: &mut F, number: u64) -> Did
+    pub(crate) fn set_aside<F: Folder>(&mut self, folder: &mut F, number: u64) -> Did
         ensures name { self.new ≡ self.old }
         ensures files { IsTrue F.tells_files → Renames (F.files folder.old) (F.files folder.new) (data_file self.old number) (set_aside (data_file self.old number)) result }
         ensures faults { F.folder_faults folder.old ≤ F.folder_faults folder.new }

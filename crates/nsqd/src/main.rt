@@ -2,26 +2,35 @@
 //! `--http-stop` allows. A clean stop leaves the messages in its folder.
 #![tactic(auto)]
 
-use daemon_main::{Ending, close, nsqd_run, status};
+use daemon_main::{Ending, line, nsqd_run, status};
 use nsqd_host::SysHost;
 use std::alloc::Global;
 use std::env;
+use std::io::Eprint;
 use std::process::ExitCode;
+use std::str;
 
 fn main(rt: HostRuntime) -> ExitCode {
     let alloc = rt.alloc();
+    let words = match words_of(&rt, alloc) {
+        Ok(words) => words,
+        Err(ending) => return ended(&rt, ending),
+    };
     let own: Result<_, _> = rt.clone();
     let Ok(own) = own else {
-        return ExitCode::from(status(Ending::Memory));
+        return ended(&rt, Ending::Memory);
     };
     let Ok(mut host) = SysHost::new(own, alloc) else {
-        return ExitCode::from(status(Ending::Memory));
+        return ended(&rt, Ending::Memory);
     };
-    let status = match words_of(&rt, alloc) {
-        Ok(words) => nsqd_run(&rt, alloc, &words, &mut host),
-        Err(ending) => close(&rt, &mut host, ending),
-    };
-    ExitCode::from(status)
+    ExitCode::from(nsqd_run(&rt, alloc, &words, &mut host))
+}
+
+/// The status of an ending before the run. Its line is told; what the system says of that changes nothing.
+fn ended(rt: &HostRuntime, ending: Ending) -> ExitCode {
+    let text = str::from_utf8(line(ending).unwrap_or(b"")).unwrap_or("");
+    let _ = rt.eprintln(text);
+    ExitCode::from(status(ending))
 }
 
 /// The words that the program was started with, or how it ends without them.

@@ -4,7 +4,6 @@ use Rattle.std.specs.List.{Contains}
 use Rattle.nsq_outside.specs.Files.{Files}
 use Rattle.v2_frame.specs.declared.message.Message.{Message}
 use Rattle.queue_image.specs.FileNames.{channel_queue, IsQueueName}
-use Rattle.queue_image.specs.FileNames.IsFileOf.{own}
 use Rattle.queue_image.specs.Finds as queue
 use Rattle.queue_image.specs.Finds.IsFound.{fresh as no_queue}
 use Rattle.path_image.specs.Data.{KeptTopic, KeptChannel, Kept, data_name}

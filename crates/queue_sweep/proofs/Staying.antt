@@ -8,7 +8,7 @@ use Rattle.queue_image.specs.Finds as queue
 use Rattle.queue_image.proofs.Naming.{one_queue, aside_apart, long_name}
 use Rattle.queue_image.proofs.Keeping.{finding_keeps}
 use Rattle.path_image.specs.Data.{KeptTopic}
-use Rattle.path_image.specs.Found.{IsFoundQueue, Finding, least_record, longest_record}
+use Rattle.path_image.specs.Found.{IsFoundQueue, least_record, longest_record}
 use Rattle.queue_sweep.specs.Swept.{IsListedQueue, IsUnlisted, IsSweptTo, HasOnlyListed, HasNoFiles}
 use Rattle.queue_sweep.proofs.Colons.{own_file}
 

@@ -5,10 +5,9 @@
 use daemon_main::{Ending, line, nsqd_run, status};
 use nsqd_host::SysHost;
 use std::alloc::Global;
-use std::env;
 use std::io::Eprint;
 use std::process::ExitCode;
-use std::str;
+use std::{env, str};
 
 fn main(rt: HostRuntime) -> ExitCode {
     let alloc = rt.alloc();

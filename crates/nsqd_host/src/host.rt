@@ -43,14 +43,14 @@ where
         ensures state { IfOk result (λ host. IsAtHome (state_of host)) }
         ensures dial_faults { IfOk result (λ host. dial_faults_of host ≡ 0) }
     {
-        let dialer = TcpDialer::new(rt.clone()?, alloc);
-        let kit = Some(kit_here(&rt, alloc)?);
+        let own = rt.clone()?;
+        let kit = kit_here(&rt, alloc)?;
         Ok(SysHost {
             rt,
             alloc,
-            dialer,
+            dialer: TcpDialer::new(own, alloc),
             listeners: None,
-            kit,
+            kit: Some(kit),
             accept_faults: Faults::none(),
             print_faults: Faults::none(),
             tell_faults: Faults::none(),
@@ -106,12 +106,29 @@ fn kit_here<N: Files + Clock + AllocGlobal + Clone + Drop>(
 where
     N::File: FileExt,
 {
-    let clock = SysClock::new(rt.clone()?);
+    let clock = clock_here(rt)?;
+    let folder = folder_here(rt, alloc)?;
     Ok(Kit {
-        folder: DirFolder::new(rt.clone()?, alloc, ".")?,
+        folder,
         clock,
         journal: Forgetful::new(alloc),
     })
+}
+
+/// The system's clock.
+fn clock_here<N: Clock + Clone + Drop>(rt: &N) -> Result<SysClock<N>, Memory> {
+    Ok(SysClock::new(rt.clone()?))
+}
+
+/// The folder that the process runs in.
+fn folder_here<N: Files + AllocGlobal + Clone + Drop>(
+    rt: &N,
+    alloc: Global,
+) -> Result<DirFolder<N>, Memory>
+where
+    N::File: FileExt,
+{
+    DirFolder::new(rt.clone()?, alloc, ".")
 }
 
 /// Moves the folder to its path. False where there is none, or without memory.

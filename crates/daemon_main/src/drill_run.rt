@@ -57,13 +57,10 @@ fn run<R: Wait>(rt: &R, alloc: Global, publishes: &[Publish]) -> Result<MemHost<
     if is_clean(ended) && has_no_fault(&host) {
         Ok(host)
     } else {
-        let_go(host);
+        drop(host);
         Err(Memory)
     }
 }
-
-// Lets go of a host for whose run memory was wanting.
-fn let_go(_host: MemHost<Entry>) {}
 
 // Whether a run ended cleanly.
 fn is_clean(ended: ServeEnd) -> bool
@@ -118,7 +115,7 @@ fn conclude(alloc: Global, host: MemHost<Entry>) -> Result<Drilled, Memory>
     match left_of(alloc, &host) {
         Ok(left) => Ok(counted(host, left)),
         Err(_) => {
-            let_go(host);
+            drop(host);
             Err(Memory)
         }
     }

@@ -136,12 +136,9 @@ fn drilled_text<R: Wait>(rt: &R, alloc: Global, seed: u64, count: u64) -> Result
 {
     let drilled = drill(rt, alloc, seed, count)?;
     let text = text_of(alloc, &drilled);
-    let_end(drilled);
+    drop(drilled);
     text
 }
-
-/// Lets go of a drill that was told.
-fn let_end(_drilled: Drilled) {}
 
 /// The four numbers of a drill, each on a line.
 fn text_of(alloc: Global, drilled: &Drilled) -> Result<String, Memory>

@@ -9,11 +9,11 @@ ghost use Rattle.floor_serving.specs.Commands.{CarriesCommand, IsAccepted, IsLin
 
 use crate::carried::Carried;
 use crate::commanded::Commanded;
-use crate::flights::{finish_own, requeue_own, touch_own};
-use crate::publishing::{publish_batch, publish_delayed, publish_one};
+use crate::flights::requeue_own;
+use crate::publishing::{publish_as, publish_delayed, publish_one};
 use crate::replied::{is_error, kept_off, replied};
 use crate::spans::count_of;
-use floor_calls::{close, identify, set_ready, speak, subscribe};
+use floor_calls::{close, finish, identify, set_ready, speak, subscribe, touch};
 use floor_rooms::Hall;
 use negotiation::Identity;
 use nsq_base::{Body, Chan, Memory, Steps, Topic};
@@ -107,7 +107,10 @@ fn do_other<F: Folder, L: Ledger>(
 {
     match command {
         Command::Pub(topic, body) => publish_one(hall, k, topic, body, folder, scratch),
-        Command::Mpub(topic, bodies) => publish_batch(hall, k, topic, bodies, folder, scratch),
+        Command::Mpub(topic, bodies) => {
+            let bodies = bodies.spend();
+            publish_as(hall, k, topic, 0, bodies, b"E_MPUB_FAILED", folder, scratch)
+        }
         Command::Dpub(topic, delay, body) => {
             publish_delayed(hall, k, topic, delay, body, folder, scratch)
         }
@@ -137,10 +140,19 @@ fn do_line<F: Folder, L: Ledger>(
     match command {
         Command::Sub(topic, channel) => join(hall, k, *topic, *channel),
         Command::Rdy(count) => ready(hall, k, *count),
-        Command::Fin(id) => finish_own(hall, k, *id, steps),
+        Command::Fin(id) => {
+            finish(hall, k, *id, steps);
+            Ok(Commanded::Done)
+        }
         Command::Req(id, delay) => requeue_own(hall, k, *id, *delay, folder, scratch, steps),
-        Command::Touch(id) => touch_own(hall, k, *id, steps),
-        Command::Cls => end(hall, k),
+        Command::Touch(id) => {
+            touch(hall, k, *id, steps);
+            Ok(Commanded::Done)
+        }
+        Command::Cls => {
+            close(hall, k);
+            Ok(Commanded::Done)
+        }
         Command::Nop => nothing(hall, k),
         _ => unreachable!(),
     }
@@ -185,16 +197,6 @@ fn ready(hall: &mut Hall, k: usize, count: i64) -> Result<Commanded, Memory>
     ensures { (tells : Bool) (files : Files) (faults : ℕ) → CarriesCommand tells k (command.Rdy count) (basis hall.old files faults) (basis hall.new files faults) result }
 {
     set_ready(hall, k, count_of(count));
-    Ok(Commanded::Done)
-}
-
-// CLS of the client at a place.
-fn end(hall: &mut Hall, k: usize) -> Result<Commanded, Memory>
-    requires sound { IsSound hall.old }
-    requires accepted { IsAccepted hall.old k command.Cls }
-    ensures { (tells : Bool) (files : Files) (faults : ℕ) → CarriesCommand tells k command.Cls (basis hall.old files faults) (basis hall.new files faults) result }
-{
-    close(hall, k);
     Ok(Commanded::Done)
 }
 

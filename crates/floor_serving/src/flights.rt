@@ -1,5 +1,4 @@
-ghost use Rattle.std.specs.Prelude.{◌≡◌, ◌≤◌, Bool, ℕ, IfOk, Some, codes, length};
-ghost use Rattle.nsq_outside.specs.Files.{Files};
+ghost use Rattle.std.specs.Prelude.{◌≡◌, ◌≤◌, IfOk, Some, codes, length};
 ghost use Rattle.v2_frame.specs.declared.command.Command.TheVariants as command;
 ghost use Rattle.broker_history.specs.Reply.{disk_fault};
 ghost use Rattle.floor_rooms.specs.Sound.{IsSound};
@@ -11,43 +10,13 @@ use crate::commanded::Commanded;
 use crate::spans::span_of;
 use channel_core::Requeue;
 use disk_refusals::disk_fault;
-use floor_calls::{finish, requeue, touch};
+use floor_calls::requeue;
 use floor_rooms::Hall;
 use nsq_base::{Memory, MsgId, Steps};
 use nsq_outside::Folder;
 use std::alloc::Global;
 use std::sync::ledger::Ledger;
 use v2_frame::Frame;
-
-// FIN of the client at a place.
-pub(crate) fn finish_own<L: Ledger>(
-    hall: &mut Hall,
-    k: usize,
-    id: MsgId,
-    steps: &mut Steps<L>,
-) -> Result<Commanded, Memory>
-    requires sound { IsSound hall.old }
-    requires accepted { IsAccepted hall.old k (command.Fin id) }
-    ensures { (tells : Bool) (files : Files) (faults : ℕ) → CarriesCommand tells k (command.Fin id) (basis hall.old files faults) (basis hall.new files faults) result }
-{
-    finish(hall, k, id, steps);
-    Ok(Commanded::Done)
-}
-
-// TOUCH of the client at a place.
-pub(crate) fn touch_own<L: Ledger>(
-    hall: &mut Hall,
-    k: usize,
-    id: MsgId,
-    steps: &mut Steps<L>,
-) -> Result<Commanded, Memory>
-    requires sound { IsSound hall.old }
-    requires accepted { IsAccepted hall.old k (command.Touch id) }
-    ensures { (tells : Bool) (files : Files) (faults : ℕ) → CarriesCommand tells k (command.Touch id) (basis hall.old files faults) (basis hall.new files faults) result }
-{
-    touch(hall, k, id, steps);
-    Ok(Commanded::Done)
-}
 
 // REQ of the client at a place, with a delay in milliseconds. A disk fault keeps it off, and then the client only spoke.
 pub(crate) fn requeue_own<F: Folder, L: Ledger>(

@@ -13,7 +13,7 @@ use crate::spans::span_of;
 use disk_refusals::publish_refusal;
 use floor_calls::{Published, publish, speak};
 use floor_rooms::Hall;
-use nsq_base::{Bodies, Body, Memory, Topic};
+use nsq_base::{Body, Memory, Topic};
 use nsq_outside::Folder;
 use std::alloc::Global;
 
@@ -35,24 +35,6 @@ pub(crate) fn publish_one<F: Folder>(
         return Err(Memory);
     };
     publish_as(hall, k, topic, 0, bodies, b"E_PUB_FAILED", folder, scratch)
-}
-
-// MPUB of the client at a place. A disk fault keeps it off, and then the client only spoke.
-pub(crate) fn publish_batch<F: Folder>(
-    hall: &mut Hall,
-    k: usize,
-    topic: Topic,
-    bodies: Bodies,
-    folder: &mut F,
-    scratch: &mut [u8],
-) -> Result<Commanded, Memory>
-    requires sound { IsSound hall.old }
-    requires accepted { IsAccepted hall.old k (command.Mpub topic bodies) }
-    requires scratch { 16777242 ≤ length scratch.old }
-    ensures { CarriesCommand F.tells_files k (command.Mpub topic bodies) (basis hall.old (F.files folder.old) (F.folder_faults folder.old)) (basis hall.new (F.files folder.new) (F.folder_faults folder.new)) result }
-{
-    let bodies = bodies.spend();
-    publish_as(hall, k, topic, 0, bodies, b"E_MPUB_FAILED", folder, scratch)
 }
 
 // DPUB of the client at a place, with a delay in milliseconds. A disk fault keeps it off, and then the client only spoke.
@@ -91,13 +73,13 @@ fn one(alloc: Global, body: Body) -> Result<Vec<Body>, Memory>
     ensures { IfOk result (λ bodies. bodies.items ≡ body ∷ []) }
 {
     let mut bodies = Vec::with_capacity(alloc, 1)?;
-    bodies.push(body)?;
+    bodies.push_reserved(body);
     Ok(bodies)
 }
 
 // The client at a place publishes these bodies, with a delay in nanoseconds. A disk fault keeps that off, and then the client only spoke; it is told
 // by this word.
-fn publish_as<F: Folder>(
+pub(crate) fn publish_as<F: Folder>(
     hall: &mut Hall,
     k: usize,
     topic: Topic,

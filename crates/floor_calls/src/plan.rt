@@ -1,4 +1,4 @@
-ghost use Rattle.std.specs.Prelude.{◌≡◌, IfOk, IsSome, false, is_some};
+ghost use Rattle.std.specs.Prelude.{◌≡◌, IfOk, IsSome, Ok, false, is_some};
 ghost use Rattle.broker_history.specs.declared.call.Call.TheVariants as call;
 ghost use Rattle.floor_acts.specs.declared.plan.Plan.TheVariants as leads;
 ghost use Rattle.floor_rooms.specs.Rooms.{client_in};
@@ -44,15 +44,15 @@ pub fn plan_call(hall: &Hall, alloc: Global, number: u64, call: Call) -> Result<
     ensures short { IfOk result IsShortPlan }
 {
     match call {
-        Call::Begin => Ok(plain(Act::Began)),
+        Call::Begin => certain(Act::Began),
         Call::Command(command) => plan_command(hall, alloc, number, command),
         Call::Bad(fault) => plan_refusal(hall, alloc, number, fault),
         Call::Next => Ok(plan_next(hall, number)),
-        Call::Gone => Ok(plain(Act::Gone)),
+        Call::Gone => certain(Act::Gone),
         Call::Ask(ask) => plan_asked(hall, alloc, number, ask),
         Call::Names => plan_names(hall, alloc, number),
-        Call::Tick => Ok(plain(Act::Ticked)),
-        Call::Stop => Ok(plain(Act::Stop)),
+        Call::Tick => certain(Act::Ticked),
+        Call::Stop => certain(Act::Stop),
     }
 }
 
@@ -61,6 +61,13 @@ fn plain(act: Act) -> Plan
     ensures { result ≡ leads.Act (record { act = act; said = None }) }
 {
     Plan::Act(Planned { act, said: None })
+}
+
+// The same where memory might have been wanting.
+fn certain(act: Act) -> Result<Plan, Memory>
+    ensures { result ≡ Ok (leads.Act (record { act = act; said = None })) }
+{
+    Ok(plain(act))
 }
 
 // The client of this number, which is there.
@@ -88,10 +95,7 @@ fn plan_command(hall: &Hall, alloc: Global, number: u64, command: Command) -> Re
     let client = client_of(hall, number);
     if client.is_lost() {
         let_command_go(command);
-        return Ok(Plan::Act(Planned {
-            act: Act::Dropped,
-            said: None,
-        }));
+        return certain(Act::Dropped);
     }
     match reply_to(hall, alloc, client, &command) {
         Ok(replied) => Ok(Plan::Act(Planned {
@@ -120,10 +124,7 @@ fn plan_refusal(hall: &Hall, alloc: Global, number: u64, fault: Fault) -> Result
 {
     let _client = client_of(hall, number);
     let frame = refusal(alloc, fault)?;
-    Ok(Plan::Act(Planned {
-        act: Act::Refused(fault, frame),
-        said: None,
-    }))
+    certain(Act::Refused(fault, frame))
 }
 
 // What is to be sent to a client that is ready for it.
@@ -156,10 +157,7 @@ fn plan_asked(hall: &Hall, alloc: Global, number: u64, ask: Ask) -> Result<Plan,
     ensures short { IfOk result IsShortPlan }
 {
     match said_to(hall, alloc, &ask) {
-        Ok(said) => Ok(Plan::Act(Planned {
-            act: Act::Asked(ask, said),
-            said: None,
-        })),
+        Ok(said) => certain(Act::Asked(ask, said)),
         Err(memory) => {
             let_ask_go(ask);
             Err(memory)
@@ -179,8 +177,5 @@ fn plan_names(hall: &Hall, alloc: Global, number: u64) -> Result<Plan, Memory>
     ensures short { IfOk result IsShortPlan }
 {
     let names = names(hall, alloc)?;
-    Ok(Plan::Act(Planned {
-        act: Act::Listed(names),
-        said: None,
-    }))
+    certain(Act::Listed(names))
 }

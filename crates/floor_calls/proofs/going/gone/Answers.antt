@@ -6,23 +6,33 @@ use Rattle.floor_topics.proofs.SeatPlaces.{on_err}
 use Rattle.floor_calls.proofs.Leaving.{reserved_holds}
 use Rattle.floor_calls.proofs.going.gone.Goals as goal
 
-pub returns-clause-told : goal.returns-clause-told
-returns-clause-told g c = λ told d s holds. c.leave.ensures.told told d s (reserved_holds c.args.hall.now _ (g.F.Folder.files c.args.folder.now) s refl holds)
+pub returns : goal.returns
+returns g c = record {
+  told = λ told d s holds. c.leave.ensures.told told d s (reserved_holds c.args.hall.now _ (g.F.Folder.files c.args.folder.now) s refl holds);
+  stays = λ files. tt;
+  none = tt;
+  clients = c.leave.ensures.clients;
+  unchanged = tt;
+  listed = tt;
+  rest = c.leave.ensures.rest;
+  sound = c.leave.ensures.sound;
+  names = record { before = c.leave.ensures.names.before; same = c.leave.ensures.names.same };
+  since = c.leave.ensures.since;
+  files = c.leave.ensures.files;
+  faults = c.leave.ensures.faults;
+}
 
-pub returns-clause-names : goal.returns-clause-names
-returns-clause-names g c = record { before = c.leave.ensures.names.before; same = c.leave.ensures.names.same }
+pub leave-requires-clause-client : goal.leave-requires-clause-client
+leave-requires-clause-client g c = c.requires.client
 
-pub returns-clause-rest : goal.returns-clause-rest
-returns-clause-rest g c = c.leave.ensures.rest
+pub returns-in_err-reserve-clause-none : goal.returns-in_err-reserve-clause-none
+returns-in_err-reserve-clause-none g c = on_err c.from_residual.result (c.args.folder.now ≡ c.args.folder.now) refl
 
-pub returns-clause-since : goal.returns-clause-since
-returns-clause-since g c = c.leave.ensures.since
+pub returns-in_err-reserve-clause-unchanged : goal.returns-in_err-reserve-clause-unchanged
+returns-in_err-reserve-clause-unchanged g c = on_err c.from_residual.result (record (c.args.hall.now) { pending = c.reserve.new.self } ≡ record (c.args.hall.now) { pending = c.reserve.new.self }) refl
 
-pub returns-clause-sound : goal.returns-clause-sound
-returns-clause-sound g c = c.leave.ensures.sound
-
-pub returns-clause-clients : goal.returns-clause-clients
-returns-clause-clients g c = c.leave.ensures.clients
+pub returns-in_err-reserve-clause-listed : goal.returns-in_err-reserve-clause-listed
+returns-in_err-reserve-clause-listed g c = on_err c.from_residual.result (c.reserve.new.self.items ≡ c.args.hall.now.pending.items) c.reserve.ensures.items
 
 pub leave-requires-clause-sound : goal.leave-requires-clause-sound
 leave-requires-clause-sound g c = same_sound c.args.hall.now (record (c.args.hall.now) { pending = c.reserve.new.self }) c.requires.sound refl refl refl c.reserve.ensures.items refl

@@ -34,7 +34,7 @@ plan_asked-requires c = record {
 
 pub returns-in-Begin : goal.returns-in-Begin
 returns-in-Begin c =
-    let all = begin_leads c.args.hall.now c.args.number c.args.call c.plain.result c.in-Begin.is c.plain.ensures in
+    let all = begin_leads c.args.hall.now c.args.number c.args.call c.certain.result c.in-Begin.is c.certain.ensures in
     record { shape = all.shape; stands = all.stands; knows = all.knows; short = all.short }
 
 pub returns-in-Command : goal.returns-in-Command
@@ -63,7 +63,7 @@ returns-in-Next c = record {
 
 pub returns-in-Gone : goal.returns-in-Gone
 returns-in-Gone c =
-    let all = gone_leads c.args.hall.now c.args.number c.args.call c.plain-in-Gone.result c.in-Gone.is c.plain-in-Gone.ensures c.requires.serves in
+    let all = gone_leads c.args.hall.now c.args.number c.args.call c.certain-in-Gone.result c.in-Gone.is c.certain-in-Gone.ensures c.requires.serves in
     record { shape = all.shape; stands = all.stands; knows = all.knows; short = all.short }
 
 pub returns-in-Ask : goal.returns-in-Ask
@@ -84,10 +84,10 @@ returns-in-Names c = record {
 
 pub returns-in-Tick : goal.returns-in-Tick
 returns-in-Tick c =
-    let all = tick_leads c.args.hall.now c.args.number c.args.call c.plain-in-Tick.result c.in-Tick.is c.plain-in-Tick.ensures c.requires.serves in
+    let all = tick_leads c.args.hall.now c.args.number c.args.call c.certain-in-Tick.result c.in-Tick.is c.certain-in-Tick.ensures c.requires.serves in
     record { shape = all.shape; stands = all.stands; knows = all.knows; short = all.short }
 
 pub returns-in-Stop : goal.returns-in-Stop
 returns-in-Stop c =
-    let all = stop_leads c.args.hall.now c.args.number c.args.call c.plain-in-Stop.result c.in-Stop.is c.plain-in-Stop.ensures c.requires.serves in
+    let all = stop_leads c.args.hall.now c.args.number c.args.call c.certain-in-Stop.result c.in-Stop.is c.certain-in-Stop.ensures c.requires.serves in
     record { shape = all.shape; stands = all.stands; knows = all.knows; short = all.short }

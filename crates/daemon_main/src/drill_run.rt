@@ -3,7 +3,6 @@ ghost use Rattle.std.specs.Prelude.{◌≡◌, ◌≤◌, ◌^◌, ◌↔◌, If
 ghost use Rattle.nsq_fakes.specs.MemHosts.{content_of, state_of};
 ghost use Rattle.daemon_endings.specs.declared.serving.ServeEnd.TheVariants.{Clean};
 ghost use Rattle.daemon_main.specs.Drills.{HasCounted, HasDrilled, HasNames, HasRunDrill, NeverFailed};
-ghost use Rattle.drill_parts.specs.Left.{CountsAll};
 ghost use Rattle.nsq_fakes.specs.MemFolders.{faults_of, files_in};
 
 use crate::{ServeEnd, serve};
@@ -112,49 +111,23 @@ fn conclude(alloc: Global, host: MemHost<Entry>) -> Result<Drilled, Memory>
     ensures host { IfOk result (λ drilled. drilled.host ≡ host) }
     ensures counts { IfOk result (λ drilled. IfSome (state_of host).kit (λ kit. HasCounted kit drilled)) }
 {
-    match left_of(alloc, &host) {
-        Ok(left) => Ok(counted(host, left)),
-        Err(_) => {
-            drop(host);
-            Err(Memory)
-        }
-    }
-}
-
-// How many messages an opening of a host's folder finds.
-fn left_of(alloc: Global, host: &MemHost<Entry>) -> Result<u64, Memory>
-    requires home { IsSome (state_of host.now).kit }
-    requires names { IfSome (state_of host.now).kit HasNames }
-    ensures { IfOk result (λ left. IfSome (state_of host.now).kit (λ kit. CountsAll (files_in kit.folder) left)) }
-{
     let Some(kit) = host.kit() else {
         unreachable!()
     };
-    let Some(left) = left_in(alloc, &kit.folder)? else {
-        unreachable!()
+    let Ok(left) = left_in(alloc, &kit.folder) else {
+        drop(host);
+        return Err(Memory);
     };
-    Ok(left)
-}
-
-// What a run left, where an opening of its folder finds so many messages.
-fn counted(host: MemHost<Entry>, left: u64) -> Drilled
-    requires home { IsSome (state_of host).kit }
-    requires left { IfSome (state_of host).kit (λ kit. CountsAll (files_in kit.folder) left) }
-    ensures host { result.host ≡ host }
-    ensures counts { IfSome (state_of host).kit (λ kit. HasCounted kit result) }
-{
-    let Some(kit) = host.kit() else {
-        unreachable!()
-    };
+    let Some(left) = left else { unreachable!() };
     let entries = kit.journal.entries();
     let published = published_in(entries);
     let sent = sent_in(entries);
     let finished = finished_in(entries);
-    Drilled {
+    Ok(Drilled {
         host,
         published,
         sent,
         finished,
         left,
-    }
+    })
 }

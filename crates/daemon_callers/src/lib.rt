@@ -11,6 +11,7 @@
 mod caller_desk;
 mod exchanging;
 mod http;
+mod letting;
 mod serving;
 mod stopping;
 mod v2;

@@ -2,6 +2,7 @@ ghost use Rattle.std.specs.Prelude.{◌≡◌, true, IsTrue};
 ghost use Rattle.broker_history.specs.Entries.{has_stop, own};
 ghost use Rattle.daemon_callers.specs.Stops.{says_stopping, AddsStop};
 
+use crate::letting::let_go;
 use broker_history::{Call, Turned, Turner};
 use std::alloc::Global;
 
@@ -24,7 +25,9 @@ fn stop_once<T: Turner>(alloc: Global, floor: &mut T) -> bool
     ensures noted { result ≡ true → IsTrue T.tells → has_stop (T.notes floor.new) ≡ true }
 {
     let turned = floor.take_turn(alloc, 0, Call::Stop);
-    is_stopping(&turned)
+    let stopping = is_stopping(&turned);
+    let_go(turned);
+    stopping
 }
 
 /// Whether a turn's answer is that the daemon stops.

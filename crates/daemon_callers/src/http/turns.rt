@@ -5,6 +5,7 @@ ghost use Rattle.broker_history.specs.Answers.{wants_memory};
 ghost use Rattle.daemon_callers.specs.Exchange.{ListsBehindStop};
 ghost use Rattle.daemon_callers.specs.Noted.{lists_names, says_stopping, ListsNames, TicksTo, AsksTo, StopsTo};
 
+use crate::letting::let_go;
 use broker_history::{Ask, Call, Desk, Turned};
 use http_asked::Asked;
 use nsq_base::Memory;
@@ -138,6 +139,3 @@ fn is_wanting(turned: &Turned) -> bool
 {
     matches!(turned, Turned::Memory)
 }
-
-/// Lets go what a turn answers, once it was looked at.
-fn let_go(_turned: Turned) {}

@@ -4,6 +4,7 @@ ghost use Rattle.broker_history.specs.declared.ended.Ended.TheVariants.{Memory};
 ghost use Rattle.broker_history.specs.Answers.{IsShortAnswer};
 ghost use Rattle.daemon_callers.specs.Outputs.{memory_bytes, ending_of, WritesFirst, WritesAll, WritesFrame, WritesAnswer, Delivers, HasOutCause, Warns};
 
+use crate::letting::let_go;
 use broker_history::{Ended, Turned};
 use nsq_outside::{Conn, Write, put};
 use std::alloc::Global;
@@ -85,9 +86,6 @@ fn send<R: Wait, K: Conn>(
         Some(Ended::WriteFault)
     }
 }
-
-/// Lets an answer go that nothing is written for.
-pub(crate) fn let_go(_turned: Turned) {}
 
 /// Writes what the answer to a command or to a fault says to the client. Unless the connection goes on, it says how it ends.
 pub(crate) fn answer<R: Wait, K: Conn>(

@@ -7,8 +7,9 @@ ghost use Rattle.broker_history.specs.Calls.{AreAllowed, IsHere};
 ghost use Rattle.daemon_callers.specs.Outputs.{Warns};
 ghost use Rattle.daemon_callers.specs.Sessions.{Told, InTalk, IsOver, HasCause, EndsAfter, IsWarned, rises};
 
+use crate::letting::let_go;
 use crate::v2::buffers::{Buffers, new_buffers};
-use crate::v2::output::{give_up, let_go};
+use crate::v2::output::give_up;
 use crate::v2::round::round;
 use broker_history::{Call, Desk, Ended, Turned};
 use nsq_outside::Conn;

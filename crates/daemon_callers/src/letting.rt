@@ -1,0 +1,4 @@
+use broker_history::Turned;
+
+/// Lets go of what a turn answered, once it was looked at.
+pub(crate) fn let_go(_turned: Turned) {}
